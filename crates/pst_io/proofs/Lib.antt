@@ -1,0 +1,3 @@
+pub mod Parts
+pub mod TextLemmas
+pub mod Handing

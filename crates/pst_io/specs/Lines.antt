@@ -1,0 +1,27 @@
+-- A reader of lines as a caller sees it.
+use Rattle.std.specs.Prelude.{◌≡◌, ℕ, Bool, false, List, []}
+use Rattle.std.specs.declared.option.Option.{Option}
+use Rattle.pst_io.specs.Input.{InputState, EndsWhereSeen}
+
+-- The input, whether a line is ready, which, whether a line feed ended it, and whether the reader has failed.
+pub record LinesState : Type 0 where
+  pub input : InputState
+  pub ready : Bool
+  pub line : List ℕ
+  pub fed : Bool
+  pub failed : Bool
+
+-- nothing was read yet
+abbrev pub not_begun : LinesState
+not_begun = record {
+  input = record { handed = 0; held = []; ended = false };
+  ready = false;
+  line = [];
+  fed = false;
+  failed = false;
+}
+
+-- a reader that may be asked for the next line of what this source has left
+pub record IsOpen (s : LinesState) (left : Option (List ℕ)) : Type 0 where
+  pub going : s.failed ≡ false
+  pub seen : EndsWhereSeen s.input left

@@ -1,0 +1,146 @@
+// An input of which at most `MOST` bytes are read, piece by piece, into a buffer that is kept.
+ghost use Rattle.std.specs.Prelude.{◌≡◌, ◌<◌, ◌≤◌, ◌+◌, ◌⊎◌, ℕ, max, [], ◌∷◌, length, true, false, IfErr, IfOk, IfSome, IfNone, IsOk, OnOk, OnErr, Ok, Err, IsTrue};
+ghost use Rattle.std.specs.Io.KnownBytes.{Consumes, IsAtEnd, Keeps};
+ghost use Rattle.pst_io.specs.Causes.{HasCause, Rose};
+ghost use Rattle.pst_io.specs.Text.{IsFirstFeed, whole_lines};
+ghost use Rattle.pst_io.specs.Input.{InputState, Hands, Reads, ReadsPast, EndsWhereSeen, NeedsNoRead, IsCutOff, bytes_read, skipped};
+
+use crate::fault::LinesFault;
+use crate::feed::find_feed;
+use crate::room::{MOST, PIECE, make_room, move_to_front};
+use crate::traits::{Failed, Source};
+use std::alloc::Global;
+use std::marker::Model;
+
+// The bytes that are held are those from `start` up to `end`.
+#[derive(Drop)]
+pub struct Input {
+    buffer: Vec<u8>,
+    start: usize,
+    end: usize,
+    handed: usize,
+    ended: bool,
+}
+
+impl Model for Input {
+    ghost use Rattle.std.specs.Prelude.{◌≤◌, ◌+◌, ◌-◌, drop, take, vec_len};
+    ghost use Rattle.pst_io.specs.Input.{InputState};
+
+    ghost Value = { InputState };
+
+    ghost view = { λ s. record {
+      handed = s.handed;
+      held = take (s.end - s.start) (drop s.start s.buffer.items);
+      ended = s.ended;
+    } };
+
+    ghost invariant = { λ s. (s.start ≤ s.end) × (s.end ≤ vec_len s.buffer) × (vec_len s.buffer ≤ 67108864) × (s.handed + (s.end - s.start) ≤ 67108864) };
+}
+
+impl Input {
+    pub fn new(alloc: Global) -> Input
+        ensures { result ≡ record { handed = 0; held = []; ended = false } }
+    {
+        Input {
+            buffer: Vec::new(alloc),
+            start: 0,
+            end: 0,
+            handed: 0,
+            ended: false,
+        }
+    }
+
+    pub fn held(&self) -> &[u8]
+        ensures held { result.now ≡ self.now.held }
+        ensures within { bytes_read self.now ≤ MOST }
+    {
+        &self.buffer[self.start..self.end]
+    }
+
+    pub fn skip(&mut self, count: usize)
+        requires { count ≤ length self.old.held }
+        ensures { self.new ≡ skipped count self.old }
+    {
+        self.start += count;
+        self.handed += count;
+    }
+
+    // Reads once more. Where this fails, what is held stays.
+    fn read_more<S: Source>(&mut self, source: &mut S) -> Result<(), LinesFault>
+        requires { self.old.ended ≡ false }
+        ensures reads { OnOk result (Hands self.old (S.left source.old) self.new (S.left source.new) []) }
+        ensures more { OnOk result ((length self.old.held < length self.new.held) ⊎ IsTrue self.new.ended) }
+        ensures piece { length self.new.held ≤ length self.old.held + PIECE }
+        ensures seen { OnOk result (EndsWhereSeen self.new (S.left source.new)) }
+        ensures within { bytes_read self.new ≤ MOST }
+
+        ensures later { S.faults source.old ≤ S.faults source.new }
+        ensures failed { result ≡ Err LinesFault.Failed → Rose (S.faults source.old) (S.faults source.new) }
+        ensures too_long { result ≡ Err LinesFault.TooLong → (bytes_read self.old ≡ MOST)
+            × ((more : ℕ) × Consumes (S.left source.old) (S.left source.new) (more ∷ [])) }
+        ensures kept { OnErr result (self.new ≡ self.old) }
+        ensures none_read { IfErr result (λ fault. (fault ≡ LinesFault.TooLong → ⊥) → Keeps (S.left source.old) (S.left source.new)) }
+    {
+        if self.handed + (self.end - self.start) == MOST {
+            if has_more(source)? {
+                return Err(LinesFault::TooLong);
+            }
+            self.ended = true;
+            return Ok(());
+        }
+        move_to_front(&mut self.buffer, self.start, self.end);
+        self.end -= self.start;
+        self.start = 0;
+        make_room(&mut self.buffer, self.end)?;
+        let room = (self.buffer.len() - self.end).min(MOST - self.handed - self.end);
+        let stop = self.end + room.min(PIECE);
+        let count = source.read(&mut self.buffer[self.end..stop])?;
+        self.end += count;
+        self.ended = count == 0;
+        Ok(())
+    }
+
+    // Reads until a line feed is held, and gives its index, or until the input ends.
+    pub fn seek_feed<S: Source>(&mut self, source: &mut S) -> Result<Option<usize>, LinesFault>
+        requires { EndsWhereSeen self.old (S.left source.old) }
+        ensures reads { (result ≡ Err LinesFault.TooLong → ⊥) → Reads self.old (S.left source.old) self.new (S.left source.new) }
+        ensures past { result ≡ Err LinesFault.TooLong → ReadsPast self.old (S.left source.old) self.new (S.left source.new) MOST }
+        ensures found { IfOk result (λ found. IfSome found (λ i. IsFirstFeed i self.new.held)) }
+        ensures ahead { IfOk result (λ found. IfSome found (λ i. length self.new.held ≤ max (length self.old.held) (i + PIECE))) }
+        ensures end { IfOk result (λ found. IfNone found ((whole_lines self.new.held ≡ []) × IsTrue self.new.ended)) }
+        ensures cut_off { OnErr result (IsCutOff self.new) }
+        ensures seen { OnOk result (EndsWhereSeen self.new (S.left source.new)) }
+        ensures no_read { NeedsNoRead self.old → IsOk result × (source.new ≡ source.old) }
+        ensures within { bytes_read self.new ≤ MOST }
+
+        ensures later { S.faults source.old ≤ S.faults source.new }
+        ensures failed { result ≡ Err LinesFault.Failed → Rose (S.faults source.old) (S.faults source.new) }
+    {
+        let mut searched = 0;
+        'reading: loop {
+            if let Some(i) = find_feed(self.held(), searched) {
+                return Ok(Some(i));
+            }
+            if self.ended {
+                return Ok(None);
+            }
+            searched = self.held().len();
+            match self.read_more(source) {
+                Ok(()) => {}
+                Err(fault) => return Err(fault),
+            }
+        }
+    }
+}
+
+// Whether another byte comes, by a read of one.
+fn has_more<S: Source>(source: &mut S) -> Result<bool, Failed>
+    ensures more { result ≡ Ok true → (more : ℕ) × Consumes (S.left source.old) (S.left source.new) (more ∷ []) }
+    ensures end { result ≡ Ok false → Keeps (S.left source.old) (S.left source.new) × IsAtEnd (S.left source.new) }
+    ensures kept { OnErr result (Keeps (S.left source.old) (S.left source.new)) }
+    ensures cause { HasCause (S.faults source.old) (S.faults source.new) result }
+{
+    let mut beyond = [0u8; 1];
+    let count = source.read(&mut beyond)?;
+    Ok(count > 0)
+}

@@ -1,0 +1,150 @@
+// A source, line by line.
+ghost use Rattle.std.specs.Prelude.{◌≡◌, ◌≢◌, ◌<◌, ◌≤◌, ◌↔◌, ◌-◌, max, [], ◌∷◌, length, true, false, IfErr, OnErr, IsOk, OnOk, Ok, Err, IsTrue, is_err};
+ghost use Rattle.pst_io.specs.Causes.{Rose};
+ghost use Rattle.pst_io.specs.Text.{line_text, whole_lines};
+ghost use Rattle.pst_io.specs.Input.{Hands, Gives, Reads, ReadsPast, IsOver, NeedsNoRead, IsCutOff, bytes_read, pending};
+ghost use Rattle.pst_io.specs.Lines.{LinesState, IsOpen, not_begun};
+ghost use Rattle.std.specs.Io.KnownBytes.{IsAtEnd};
+
+use crate::fault::LinesFault;
+use crate::input::Input;
+use crate::room::{MOST, PIECE};
+use crate::traits::Source;
+use std::alloc::Global;
+use std::marker::Model;
+
+/// Hands out the lines of a source one by one, as they are read.
+///
+/// A line ends at a line feed, and bytes after the last line feed are a line too. At most 67,108,864
+/// bytes are read, and one more to see whether the input is longer, at most 65,536 a read. It keeps
+/// the line that is ready, and of what is behind it at most one read.
+#[derive(Drop)]
+pub struct Lines {
+    input: Input,
+    line_end: usize,
+    taken: usize,
+    ready: bool,
+    fed: bool,
+    failed: bool,
+}
+
+impl Model for Lines {
+    ghost use Rattle.std.specs.Prelude.{◌≤◌, length, take};
+    ghost use Rattle.pst_io.specs.Lines.{LinesState};
+
+    ghost Value = { LinesState };
+
+    ghost use Rattle.pst_io.specs.Input.{skipped};
+
+    ghost view = { λ s. record {
+      input = skipped s.taken s.input;
+      ready = s.ready;
+      line = take s.line_end s.input.held;
+      fed = s.fed;
+      failed = s.failed;
+    } };
+
+    ghost invariant = { λ s. (s.line_end ≤ s.taken) × (s.taken ≤ length s.input.held) };
+}
+
+impl Lines {
+    /// A reader that has read nothing. It takes no memory before its first read.
+    pub fn new(alloc: Global) -> Lines
+        ensures { result ≡ not_begun }
+    {
+        Lines {
+            input: Input::new(alloc),
+            line_end: 0,
+            taken: 0,
+            ready: false,
+            fed: false,
+            failed: false,
+        }
+    }
+
+    /// Goes on to the next line of the source, and says whether there is one.
+    ///
+    /// Each call has to be given the same source. A read is made only where no whole line is left, and
+    /// none once the end of the input was seen. After an `Err` the reader has failed and is not asked again;
+    /// every whole line that was read has then been handed out.
+    pub fn next<S: Source>(&mut self, source: &mut S) -> Result<bool, LinesFault>
+        requires { IsOpen self.old (S.left source.old) }
+
+        // What is handed out, as bytes and as a line.
+        ensures text { result ≡ Ok true → Hands self.old.input (S.left source.old) self.new.input (S.left source.new) (line_text self.new.line self.new.fed) }
+        ensures line { result ≡ Ok true → Gives self.old.input (S.left source.old) self.new.input (S.left source.new) (self.new.line ∷ []) }
+        ensures no_feed { result ≡ Ok true → whole_lines self.new.line ≡ [] }
+        ensures last { result ≡ Ok true → self.new.fed ≡ false → (self.new.line ≢ []) × IsOver self.new.input }
+
+        // The end of the input.
+        ensures end { result ≡ Ok false → Reads self.old.input (S.left source.old) self.new.input (S.left source.new) × IsOver self.new.input }
+        ensures nothing { result ≡ Ok false → IsAtEnd (pending self.old.input (S.left source.old)) }
+
+        // What stands after a fault.
+        ensures cut_off { OnErr result (IsCutOff self.new.input) }
+        ensures reads { IfErr result (λ fault. (fault ≡ LinesFault.TooLong → ⊥) → Reads self.old.input (S.left source.old) self.new.input (S.left source.new)) }
+        ensures too_long { result ≡ Err LinesFault.TooLong → ReadsPast self.old.input (S.left source.old) self.new.input (S.left source.new) MOST }
+        ensures fault { result ≡ Err LinesFault.Failed → Rose (S.faults source.old) (S.faults source.new) }
+        ensures failed { self.new.failed ≡ is_err result }
+
+        // How far it reads.
+        ensures no_read { NeedsNoRead self.old.input → IsOk result × (source.new ≡ source.old) }
+        ensures ahead { result ≡ Ok true → length self.new.input.held ≤ max (length self.old.input.held) (PIECE - 1) }
+        ensures within { bytes_read self.new.input ≤ MOST }
+
+        ensures ready { IsTrue self.new.ready ↔ (result ≡ Ok true) }
+        ensures open { OnOk result (IsOpen self.new (S.left source.new)) }
+        ensures goes_on { result ≡ Ok true → self.old.input.handed < self.new.input.handed }
+        ensures later { S.faults source.old ≤ S.faults source.new }
+    {
+        self.input.skip(self.taken);
+        self.line_end = 0;
+        self.taken = 0;
+        self.ready = false;
+        self.fed = false;
+        match self.input.seek_feed(source) {
+            Ok(Some(end)) => {
+                self.line_end = end;
+                self.taken = end + 1;
+                self.ready = true;
+                self.fed = true;
+                Ok(true)
+            }
+            Ok(None) => {
+                let rest = self.input.held().len();
+                self.line_end = rest;
+                self.taken = rest;
+                self.ready = rest > 0;
+                Ok(self.ready)
+            }
+            Err(fault) => {
+                self.failed = true;
+                Err(fault)
+            }
+        }
+    }
+
+    /// The line that is ready, without its line feed. It needs that the last `next` answered true.
+    pub fn line(&self) -> &[u8]
+        requires { IsTrue self.now.ready }
+        ensures { result.now ≡ self.now.line }
+    {
+        &self.input.held()[..self.line_end]
+    }
+
+    /// Whether a line feed ended the line that is ready, and not the end of the input. It needs that
+    /// the last `next` answered true.
+    pub fn fed(&self) -> bool
+        requires { IsTrue self.now.ready }
+        ensures { result ≡ self.now.fed }
+    {
+        self.fed
+    }
+
+    /// Whether the reader has met a fault.
+    pub fn failed(&self) -> bool
+        ensures { result ≡ self.now.failed }
+    {
+        self.failed
+    }
+}

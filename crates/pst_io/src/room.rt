@@ -1,0 +1,38 @@
+// The buffer of an input: the bytes that are held stand between two places of it.
+ghost use Rattle.std.specs.Prelude.{◌≡◌, ◌<◌, ◌≤◌, ◌-◌, drop, take, vec_len, OnErr, OnOk};
+
+use std::alloc::AllocError;
+
+/// The most bytes that are read of one source: 64 MiB.
+pub const MOST: usize = 67_108_864;
+
+/// The most bytes that one read asks for: 64 KiB.
+pub const PIECE: usize = 65_536;
+
+// Moves the bytes between two places to the front.
+pub fn move_to_front(buffer: &mut Vec<u8>, start: usize, end: usize)
+    requires ordered { start ≤ end }
+    requires within { end ≤ vec_len buffer.old }
+    ensures front { take (end - start) buffer.new.items ≡ take (end - start) (drop start buffer.old.items) }
+    ensures len { vec_len buffer.new ≡ vec_len buffer.old }
+{
+    if start > 0 {
+        buffer.copy_within(start..end, 0);
+    }
+}
+
+// Makes room behind the first bytes, so many that a line of n bytes costs a copy of at most n in all.
+pub fn make_room(buffer: &mut Vec<u8>, end: usize) -> Result<(), AllocError>
+    requires within { end ≤ vec_len buffer.old }
+    requires below { end < MOST }
+    requires most { vec_len buffer.old ≤ MOST }
+    ensures room { OnOk result (end < vec_len buffer.new) }
+    ensures front { OnOk result (take end buffer.new.items ≡ take end buffer.old.items) }
+    ensures within { vec_len buffer.new ≤ MOST }
+    ensures err { OnErr result (buffer.new.items ≡ buffer.old.items) }
+{
+    if end == buffer.len() {
+        buffer.resize(PIECE.max(2 * end).min(MOST), 0)?;
+    }
+    Ok(())
+}
