@@ -1,0 +1,9 @@
+pub mod Blanks
+pub mod Comparing
+pub mod Fronts
+pub mod Marks
+pub mod Numbers
+pub mod Places
+pub mod Rows
+pub mod Spellings
+pub mod Unique

@@ -1,0 +1,4 @@
+pub mod Bytes
+pub mod Words
+pub mod Lexing
+pub mod Pieces

@@ -1,0 +1,196 @@
+//! One token at the front of a text.
+
+ghost use Rattle.std.specs.Prelude.{◌≡◌, ◌+◌, ◌≤◌, ◌<◌, length, drop, take, slice_index, None};
+ghost use Rattle.std.specs.List.{list_all};
+ghost use Rattle.std.specs.Prelude.{true, false};
+ghost use Rattle.pst_lex.specs.Bytes.{gap_step, is_word as is_word_byte, EndsWord, StartsWithDigit, StartsWithLetter};
+ghost use Rattle.pst_lex.specs.Pieces.{IsKeyword, IsNameKind, IsPair, IsSingle, leading_zero, Takes, Writes};
+
+use crate::bytes::{is_digit, is_letter, is_word};
+use crate::faults::LexFault;
+use crate::types::TokenKind;
+use pst_base::Text;
+use std::alloc::Global;
+
+/// The greatest length of a name, in bytes.
+const LONGEST_NAME: usize = 32;
+
+/// How many bytes of a word stand at the front.
+#[tactic(auto, using(crate::proofs::Marks::words))]
+fn word_length(text: &[u8]) -> usize
+    ensures within { result ≤ length text.now }
+    ensures all { list_all is_word_byte (take result text.now) ≡ true }
+    ensures longest { EndsWord (drop result text.now) }
+{
+    let mut n = 0;
+    while n < text.len() && is_word(text[n]) {
+        n += 1;
+    }
+    n
+}
+
+/// The position of the keyword that is spelled so.
+#[tactic(auto, using(std::proofs::lemmas::Slice::Eq::text_from_reads))]
+fn keyword_position(word: &[u8]) -> Option<u8>
+    ensures { IsKeyword result word.now }
+{
+    match word {
+        b"record" => Some(0),
+        b"val" => Some(1),
+        b"ptr" => Some(2),
+        b"root" => Some(3),
+        b"proc" => Some(4),
+        b"query" => Some(5),
+        b"var" => Some(6),
+        b"new" => Some(7),
+        b"call" => Some(8),
+        b"print" => Some(9),
+        b"if" => Some(10),
+        b"else" => Some(11),
+        b"while" => Some(12),
+        b"return" => Some(13),
+        b"null" => Some(14),
+        b"and" => Some(15),
+        b"or" => Some(16),
+        b"not" => Some(17),
+        b"int" => Some(18),
+        _ => None,
+    }
+}
+
+/// Whether a zero stands in front of more.
+fn has_leading_zero(word: &[u8]) -> bool
+    ensures { result ≡ leading_zero word.now }
+{
+    matches!(word, [b'0', _, ..])
+}
+
+/// The number that a word writes: `0`, or a digit from 1 to 9 and digits behind it, up to 9,223,372,036,854,775,807.
+fn number(word: &[u8]) -> Option<u64>
+    requires { 0 < length word.now }
+    ensures { Writes result word.now }
+{
+    if has_leading_zero(word) {
+        return None;
+    }
+    let mut value: u64 = 0;
+    for b in word {
+        if !is_digit(*b) {
+            return None;
+        }
+        let digit = u64::from(*b - b'0');
+        if value > (i64::MAX as u64 - digit) / 10 {
+            return None;
+        }
+        value = value * 10 + digit;
+    }
+    Some(value)
+}
+
+/// What a word is that begins with a letter or `_` and is not too long: a keyword, or a name.
+fn name_kind(alloc: Global, word: &[u8]) -> Result<TokenKind, LexFault>
+    requires starts { StartsWithLetter word.now }
+    requires all { list_all is_word_byte word.now ≡ true }
+    requires short { length word.now ≤ 32 }
+    ensures { IsNameKind result word.now }
+{
+    match keyword_position(word) {
+        Some(position) => Ok(TokenKind::Keyword(position)),
+        None => Ok(TokenKind::Name(Text::from_vec(word.to_vec(alloc)?))),
+    }
+}
+
+/// A name or keyword at the front, as long as it can be, and its length.
+fn name(alloc: Global, text: &[u8], line: u32) -> Result<(TokenKind, usize), LexFault>
+    requires { StartsWithLetter text.now }
+    ensures { Takes result text.now line }
+{
+    let length = word_length(text);
+    if length > LONGEST_NAME {
+        return Err(LexFault::NameLength { line });
+    }
+    let kind = name_kind(alloc, &text[..length])?;
+    Ok((kind, length))
+}
+
+/// A number at the front, as long as it can be, and its length.
+fn numeral(text: &[u8], line: u32) -> Result<(TokenKind, usize), LexFault>
+    requires { StartsWithDigit text.now }
+    ensures { Takes result text.now line }
+{
+    let length = word_length(text);
+    match number(&text[..length]) {
+        Some(value) => Ok((TokenKind::Number(value as i64), length)),
+        None => Err(LexFault::Number { line }),
+    }
+}
+
+/// The position of the symbol that a byte is where no second one makes a pair of them.
+fn single(a: u8) -> Option<u8>
+    ensures { IsSingle result a }
+{
+    match a {
+        b'{' => Some(0),
+        b'}' => Some(1),
+        b'(' => Some(2),
+        b')' => Some(3),
+        b';' => Some(4),
+        b':' => Some(5),
+        b',' => Some(6),
+        b'.' => Some(7),
+        b'=' => Some(8),
+        b'<' => Some(11),
+        b'>' => Some(13),
+        b'+' => Some(15),
+        b'-' => Some(16),
+        b'*' => Some(17),
+        b'/' => Some(18),
+        b'%' => Some(19),
+        _ => None,
+    }
+}
+
+/// The position of the symbol of two bytes that stands at the front.
+fn pair(text: &[u8]) -> Option<u8>
+    ensures { IsPair result text.now }
+{
+    match text {
+        [b'=', b'=', ..] => Some(9),
+        [b'!', b'=', ..] => Some(10),
+        [b'<', b'=', ..] => Some(12),
+        [b'>', b'=', ..] => Some(14),
+        _ => None,
+    }
+}
+
+/// A symbol at the front, the longer one first, and its length.
+fn symbol(text: &[u8], line: u32) -> Result<(TokenKind, usize), LexFault>
+    requires some { 0 < length text.now }
+    requires no_gap { gap_step false (slice_index text.now 0) ≡ None }
+    requires no_word { is_word_byte (slice_index text.now 0) ≡ false }
+    ensures { Takes result text.now line }
+{
+    if let Some(position) = pair(text) {
+        return Ok((TokenKind::Symbol(position), 2));
+    }
+    match single(text[0]) {
+        Some(position) => Ok((TokenKind::Symbol(position), 1)),
+        None => Err(LexFault::Byte { line }),
+    }
+}
+
+/// The token at the front, and its length.
+pub fn first_token(alloc: Global, text: &[u8], line: u32) -> Result<(TokenKind, usize), LexFault>
+    requires some { 0 < length text.now }
+    requires no_gap { gap_step false (slice_index text.now 0) ≡ None }
+    ensures { Takes result text.now line }
+{
+    let first = text[0];
+    if is_letter(first) {
+        name(alloc, text, line)
+    } else if is_digit(first) {
+        numeral(text, line)
+    } else {
+        symbol(text, line)
+    }
+}

@@ -1,0 +1,79 @@
+//! Tokens, where they stand, and the list of them.
+
+use pst_base::Text;
+use std::marker::Model;
+
+/// The bytes from `from` up to the one before `to`, counted from 0 at the front of the text.
+#[derive(Clone, Copy, Debug, PartialEq, Eq)]
+pub struct Span {
+    pub from: u32,
+    pub to: u32,
+}
+
+/// What a token is.
+#[derive(Debug, Drop)]
+pub enum TokenKind {
+    /// A name: its 1 to 32 bytes.
+    Name(Text),
+    /// A number: from 0 to 9,223,372,036,854,775,807.
+    Number(i64),
+    /// A keyword: its position, from 0 to 18, in the list of the keywords.
+    Keyword(u8),
+    /// A symbol: its position, from 0 to 19, in the list of the symbols.
+    Symbol(u8),
+}
+
+/// A token: what it is, its bytes, and its line, from 1.
+#[derive(Debug, Drop)]
+pub struct Token {
+    pub kind: TokenKind,
+    pub span: Span,
+    pub line: u32,
+}
+
+/// A list of tokens.
+#[derive(Debug, Drop)]
+pub struct TokenList {
+    items: Vec<Token>,
+}
+
+impl Model for TokenList {
+    ghost use Rattle.std.specs.Prelude.{List};
+    ghost use Rattle.pst_lex.specs.declared.types.Token.{Token};
+
+    ghost Value = { List Token };
+
+    ghost view = { λ a. a.items.items };
+}
+
+impl TokenList {
+    ghost use Rattle.std.specs.Prelude.{◌≡◌};
+
+    /// The list of these items.
+    pub fn from_vec(items: Vec<Token>) -> Self
+        ensures { result ≡ items.items }
+    {
+        TokenList { items }
+    }
+
+    /// The items, given back.
+    pub fn into_vec(self) -> Vec<Token>
+        ensures { result.items ≡ self }
+    {
+        self.items
+    }
+
+    /// The items, in order.
+    pub fn as_slice(&self) -> &[Token]
+        ensures { result.now ≡ self.now }
+    {
+        self.items.as_slice()
+    }
+}
+
+/// The tokens of a text in order, and the line of its end, from 1.
+#[derive(Debug, Drop)]
+pub struct Tokens {
+    pub list: TokenList,
+    pub end: u32,
+}
