@@ -1,0 +1,130 @@
+//! Declarations of a program's text.
+
+use crate::statement::Block;
+use pst_base::Text;
+use std::marker::Model;
+
+/// A type as it was written: `int`, or the name of a record type.
+#[derive(Debug, Drop)]
+pub enum TypeName {
+    Int,
+    Named(Text),
+}
+
+/// A field of a record type, with the line of its first token.
+#[derive(Debug, Drop)]
+pub enum Field {
+    Val { line: u32, name: Text },
+    Ptr { line: u32, name: Text, target: Text },
+}
+
+/// A parameter or a local, with the line of its first token.
+#[derive(Debug, Drop)]
+pub struct Local {
+    pub line: u32,
+    pub name: Text,
+    pub kind: TypeName,
+}
+
+/// A declaration, with the line of its first token.
+#[derive(Debug, Drop)]
+pub enum Declaration {
+    Record {
+        line: u32,
+        name: Text,
+        limit: i64,
+        fields: Fields,
+    },
+    Root {
+        line: u32,
+        name: Text,
+        kind: TypeName,
+    },
+    Procedure {
+        line: u32,
+        query: bool,
+        name: Text,
+        parameters: Locals,
+        result: Option<TypeName>,
+        locals: Locals,
+        body: Block,
+    },
+}
+
+/// The fields of a record type, in the order of declaration.
+#[derive(Debug, Drop)]
+pub struct Fields {
+    pub items: Vec<Field>,
+}
+
+impl Model for Fields {
+    ghost use Rattle.std.specs.Prelude.{List};
+    ghost use Rattle.pst_tree.specs.declared.declaration.Field.{Field};
+
+    ghost Value = { List Field };
+
+    ghost view = { λ a. a.items.items };
+}
+
+impl Fields {
+    ghost use Rattle.std.specs.Prelude.{◌≡◌};
+
+    /// The list of these items.
+    pub fn from_vec(items: Vec<Field>) -> Self
+        ensures { result ≡ items.items }
+    {
+        Fields { items }
+    }
+
+    /// The items, in order.
+    pub fn as_slice(&self) -> &[Field]
+        ensures { result.now ≡ self.now }
+    {
+        self.items.as_slice()
+    }
+}
+
+/// The parameters of a procedure, or its locals.
+#[derive(Debug, Drop)]
+pub struct Locals {
+    pub items: Vec<Local>,
+}
+
+impl Model for Locals {
+    ghost use Rattle.std.specs.Prelude.{List};
+    ghost use Rattle.pst_tree.specs.declared.declaration.Local.{Local};
+
+    ghost Value = { List Local };
+
+    ghost view = { λ a. a.items.items };
+}
+
+impl Locals {
+    ghost use Rattle.std.specs.Prelude.{◌≡◌};
+
+    /// The list of these items.
+    pub fn from_vec(items: Vec<Local>) -> Self
+        ensures { result ≡ items.items }
+    {
+        Locals { items }
+    }
+
+    /// The items, in order.
+    pub fn as_slice(&self) -> &[Local]
+        ensures { result.now ≡ self.now }
+    {
+        self.items.as_slice()
+    }
+}
+
+/// The declarations of a program, in order.
+#[derive(Debug, Drop)]
+pub struct Declarations {
+    pub items: Vec<Declaration>,
+}
+
+/// A program's text, read.
+#[derive(Debug, Drop)]
+pub struct Tree {
+    pub declarations: Declarations,
+}

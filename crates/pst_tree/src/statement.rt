@@ -1,0 +1,49 @@
+//! Statements of a program's text.
+
+use crate::expression::{Expression, Expressions};
+use pst_base::Text;
+
+/// A statement, with the line of its first token, from 1.
+#[cycle(tree)]
+#[derive(Debug, Drop)]
+pub struct Statement {
+    pub line: u32,
+    pub form: Form,
+}
+
+/// What a statement says.
+#[cycle(tree)]
+#[derive(Debug, Drop)]
+pub enum Form {
+    New {
+        name: Text,
+        ty: Text,
+    },
+    Call {
+        result: Option<Text>,
+        procedure: Text,
+        arguments: Expressions,
+    },
+    Write {
+        place: Expression,
+        value: Expression,
+    },
+    Print(Expression),
+    If {
+        condition: Expression,
+        yes: Block,
+        no: Option<Block>,
+    },
+    While {
+        condition: Expression,
+        body: Block,
+    },
+    Return(Option<Expression>),
+}
+
+/// Statements one after another.
+#[cycle(tree)]
+#[derive(Debug, Drop)]
+pub struct Block {
+    pub items: Vec<Statement>,
+}
