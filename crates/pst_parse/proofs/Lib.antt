@@ -1,0 +1,14 @@
+pub mod Equations
+pub mod Loops
+pub mod StatementEquations
+pub mod Parsed
+pub mod Laws
+pub mod ReadLaw
+pub mod Wider
+pub mod Again
+pub mod Many
+pub mod StatementLaw
+pub mod DeclarationLaw
+pub mod StatementAgain
+pub mod DeclarationAgain
+pub mod Faults
