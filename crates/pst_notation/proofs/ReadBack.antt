@@ -1,0 +1,86 @@
+-- The canonical text of a program reads as that program.
+use Rattle.std.specs.Prelude.{◌≡◌, ℕ, List, [], ◌∷◌, Option, Some, None}
+use Rattle.std.proofs.Common.{refl, sym, ap, ◌∙◌, subst}
+use Rattle.pst_lex.specs.declared.types.Token.{Token}
+use Rattle.pst_lex.specs.declared.types.Tokens.{Tokens}
+use Rattle.pst_lex.specs.declared.types.TokenKind.{TokenKind}
+use Rattle.pst_lex.specs.declared.types.TokenKind.TheVariants as kind
+use Rattle.pst_lex.specs.declared.words.Mark.{Mark}
+use Rattle.pst_lex.specs.Words.{Word, Fixed, fixed, keyword_of, symbol_of}
+use Rattle.pst_lex.specs.Words as lex
+use Rattle.pst_lex.specs.Lexing.{AreWords, LexedAs, Lexes, Faults}
+use Rattle.pst_lex.specs.Lexing as lexing
+use Rattle.pst_lex.proofs.Unique.{its_words, no_fault, are_words}
+use Rattle.pst_tree.specs.declared.declaration.Tree.{Tree}
+use Rattle.pst_tree.specs.View.{items_of}
+use Rattle.pst_tree.specs.Syntax as tree
+use Rattle.pst_parse.specs.Lexemes.{lexeme_in, lexemes, marked_if}
+use Rattle.pst_parse.specs.Spelling.{Item, program}
+use Rattle.pst_parse.specs.Grammar.{Spells}
+use Rattle.pst_parse.proofs.Faults.{unique}
+use Rattle.pst_notation.specs.Canonical.{canonical}
+use Rattle.pst_notation.specs.Lines.{lineless}
+use Rattle.pst_notation.specs.Tokens.{word_of, words_of, program_words}
+use Rattle.pst_notation.specs.Laws.{IsWritten, HasItsTokens, HasNoFault, ReadsBack, ReadsAsNoOther, DropsLines, KeepsTokens, KeepsTree}
+use Rattle.pst_notation.proofs.Fronts.{marked_word}
+use Rattle.pst_notation.proofs.DeclarationReads.{program_lexed}
+use Rattle.pst_notation.proofs.DeclarationLines.{program_relined}
+use Rattle.pst_notation.proofs.Limits.{program_same, shallow_same}
+use Rattle.pst_notation.proofs.SameText.{canonical_lineless}
+
+marked_words : (line : ℕ) (m : Option Mark) → word_of (marked_if line m) ≡ fixed m
+marked_words line None = refl
+marked_words line (Some m) = marked_word line m
+
+kind_word : (line : ℕ) (k : TokenKind) → word_of (lexeme_in line k) ≡ lex.word_of k
+kind_word line (kind.Name x) = refl
+kind_word line (kind.Number v) = refl
+kind_word line (kind.Keyword n) = marked_words line (keyword_of n)
+kind_word line (kind.Symbol n) = marked_words line (symbol_of n)
+
+-- the parser sees the words of the tokens
+seen_words : (ts : List Token) → words_of (lexemes ts) ≡ lexing.words_of ts
+seen_words [] = refl
+seen_words (t ∷ ts) = rw (kind_word t.line t.kind, seen_words ts) refl
+
+pub has_its_tokens : (items : List tree.Item) → HasItsTokens items
+has_its_tokens items p e written = subst (λ (l : List tree.Item). LexedAs (canonical l) (program_words p)) e (program_lexed p written)
+
+pub has_no_fault : (items : List tree.Item) → HasNoFault items
+has_no_fault items p f e written faults = no_fault (canonical items) (program_words p) f (has_its_tokens items p e written) faults
+
+pub reads_back : (items : List tree.Item) → ReadsBack items
+reads_back items h d p e written shallow ts end lexes =
+    let same : program_words p ≡ lexing.words_of ts = (its_words (canonical items) ts end lexes).1 (program_words p) (has_its_tokens items p e written) in
+    let r = program_relined p (lexemes ts) (seen_words ts ∙ sym same) in
+    let apart : lineless (program r.items) ≡ lineless items = r.same ∙ ap lineless e in
+    (r.items, shallow_same h d items (program r.items) apart shallow, r.spells, apart)
+
+pub reads_as_no_other : (items : List tree.Item) → ReadsAsNoOther items
+reads_as_no_other items p e written formed ts end lexes q formed_q spells =
+    let same : program_words p ≡ lexing.words_of ts = (its_words (canonical items) ts end lexes).1 (program_words p) (has_its_tokens items p e written) in
+    let r = program_relined p (lexemes ts) (seen_words ts ∙ sym same) in
+    let apart : lineless (program r.items) ≡ lineless items = r.same ∙ ap lineless e in
+    let one : program q ≡ program r.items = unique (lexemes ts) q r.items formed_q (program_same items (program r.items) apart formed) spells r.spells in
+    ap lineless one ∙ apart
+
+pub drops_lines : (items : List tree.Item) → DropsLines items
+drops_lines items other e = sym (canonical_lineless other) ∙ ap canonical e ∙ canonical_lineless items
+
+spelled_words : (tokens : List Token) (p : List Item) → Spells (lexemes tokens) p → program_words p ≡ lexing.words_of tokens
+spelled_words tokens p spells = ap words_of spells ∙ seen_words tokens
+
+-- the tree that a text was read as has names that are names, and numbers that are numbers
+written : (text : List ℕ) (tokens : List Token) (end : ℕ) (p : List Item) → Lexes text tokens end → Spells (lexemes tokens) p → IsWritten p
+written text tokens end p lexes spells =
+    subst AreWords (sym (spelled_words tokens p spells)) (are_words text (lexing.words_of tokens) (its_words text tokens end lexes).0)
+
+pub keeps_tokens : (text : List ℕ) (tokens : Tokens) (tree : Tree) → KeepsTokens text tokens tree
+keeps_tokens text tokens tree h d (lexes, (p, e, shallow, spells)) =
+    subst (λ (ws : List Word). LexedAs (canonical (items_of tree)) ws) (spelled_words tokens.list p spells)
+    (has_its_tokens (items_of tree) p e (written text tokens.list tokens.end p lexes spells))
+
+pub keeps_tree : (text : List ℕ) (tokens : Tokens) (tree : Tree) → KeepsTree text tokens tree
+keeps_tree text tokens tree h d (lexes, (p, e, shallow, spells)) ts end is =
+    let is_written = written text tokens.list tokens.end p lexes spells in
+    (reads_back (items_of tree) h d p e is_written shallow ts end is, reads_as_no_other (items_of tree) p e is_written shallow.formed ts end is)

@@ -1,0 +1,76 @@
+//! The text of expressions.
+
+ghost use Rattle.std.specs.Prelude.{◌≡◌, ◌++◌, OnOk};
+ghost use Rattle.std.specs.Fmt.{signed_decimal};
+ghost use Rattle.pst_tree.specs.View.{expr_of};
+ghost use Rattle.pst_notation.specs.Canonical.{op_text, expr_text};
+
+use itoa::Buffer;
+use pst_base::{NoMemory, Op};
+use pst_tree::Expression;
+
+/// Puts a number.
+pub fn put_number(out: &mut Vec<u8>, number: i64) -> Result<(), NoMemory>
+    ensures { OnOk result (out.new.items ≡ out.old.items ++ signed_decimal number) }
+{
+    let mut digits = Buffer::new();
+    out.extend_from_slice(digits.format(number).as_bytes())
+}
+
+/// An operator as it is written.
+fn op_text(op: Op) -> &'static [u8]
+    ensures { result.now ≡ op_text op }
+{
+    match op {
+        Op::Add => b"+",
+        Op::Sub => b"-",
+        Op::Mul => b"*",
+        Op::Div => b"/",
+        Op::Rem => b"%",
+        Op::Equal => b"==",
+        Op::NotEqual => b"!=",
+        Op::Less => b"<",
+        Op::LessEqual => b"<=",
+        Op::Greater => b">",
+        Op::GreaterEqual => b">=",
+        Op::And => b"and",
+        Op::Or => b"or",
+    }
+}
+
+/// Puts an expression.
+pub fn put_expression(out: &mut Vec<u8>, e: &Expression) -> Result<(), NoMemory>
+    ensures { OnOk result (out.new.items ≡ out.old.items ++ expr_text (expr_of e.now)) }
+{
+    match e {
+        Expression::Number(n) => put_number(out, *n)?,
+        Expression::Null => out.extend_from_slice(b"null")?,
+        Expression::Name(x) => out.extend_from_slice(x.as_slice())?,
+        Expression::Parens(inner) => {
+            out.extend_from_slice(b"(")?;
+            put_expression(out, inner)?;
+            out.extend_from_slice(b")")?;
+        }
+        Expression::Field { object, name } => {
+            put_expression(out, object)?;
+            out.extend_from_slice(b".")?;
+            out.extend_from_slice(name.as_slice())?;
+        }
+        Expression::Negate(operand) => {
+            out.extend_from_slice(b"-")?;
+            put_expression(out, operand)?;
+        }
+        Expression::Not(operand) => {
+            out.extend_from_slice(b"not ")?;
+            put_expression(out, operand)?;
+        }
+        Expression::Binary { op, left, right } => {
+            put_expression(out, left)?;
+            out.extend_from_slice(b" ")?;
+            out.extend_from_slice(op_text(*op))?;
+            out.extend_from_slice(b" ")?;
+            put_expression(out, right)?;
+        }
+    }
+    Ok(())
+}
