@@ -1,0 +1,11 @@
+pub mod Fields
+pub mod Follows
+pub mod Fewer
+pub mod Growth
+pub mod More
+pub mod Soundness
+pub mod Locals
+pub mod Queries
+pub mod Outcomes
+pub mod Guards
+pub mod Lookups

@@ -1,0 +1,9 @@
+pub mod Syntax
+pub mod View
+pub mod Value
+pub mod Meaning
+pub mod Outcome
+pub mod Typed
+pub mod Worked
+pub mod Sound
+pub mod Laws
