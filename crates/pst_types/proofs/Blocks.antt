@@ -1,0 +1,87 @@
+-- Statements and arguments, one after another.
+use Rattle.std.proofs.Common.{◌≡◌, ℕ, ◌+◌, ◌<◌, List, [], ◌∷◌, ◌++◌, length, drop, get_or, Result, Ok, Err, refl, sym, ap, ◌∙◌}
+use Rattle.pst_tree.specs.Syntax as tree
+use Rattle.pst_tree.specs.View as tree_view
+use Rattle.pst_tree.specs.declared.statement.Block as code
+use Rattle.pst_tree.specs.declared.statement.Statement.{Statement}
+use Rattle.pst_program.specs.Syntax as program
+use Rattle.pst_program.specs.View as typed_view
+use Rattle.pst_program.specs.declared.block.TypedBlock as typed
+use Rattle.pst_program.specs.declared.block.TypedStatement.{TypedStatement}
+use Rattle.pst_program.specs.declared.block.TypedForm.{TypedForm}
+use Rattle.std.proofs.Math.Seq.{drop-length}
+use Rattle.pst_types.specs.declared.fault.TypeFault.{TypeFault}
+use Rattle.pst_types.specs.Answers.{and_then}
+use Rattle.pst_types.specs.Names.{Place}
+use Rattle.pst_types.specs.Statements.{statement, block}
+use Rattle.pst_types.proofs.Through.{at_index}
+
+-- ---- arguments
+
+-- an answer with arguments before it
+abbrev pub ahead : List program.Expr → Result (List program.Expr) TypeFault → Result (List program.Expr) TypeFault
+ahead es r = and_then r (λ rest. Ok (es ++ rest))
+
+-- ---- statements
+
+abbrev pub before : program.Actions → program.Actions → program.Actions
+before program.Empty rest = rest
+before (program.Then line action done) rest = program.Then line action (before done rest)
+
+-- an answer with statements before it
+abbrev pub behind : program.Actions → Result program.Actions TypeFault → Result program.Actions TypeFault
+behind done r = and_then r (λ rest. Ok (before done rest))
+
+-- the statements of a block are those of its list
+written_row : {m : _} (row : code.Row_of-Statement m) → tree_view.row_of row ≡ tree_view.statements_of (code.items-the_row-Statement m row)
+written_row code.end_of-Statement = refl
+written_row (code.more_of-Statement line form rest) = ap (tree.Then line (tree_view.phrase_of form)) (written_row rest)
+
+pub written_list : (b : code.Block) → tree_view.phrases_of b ≡ tree_view.statements_of (code.out-Block b).items.items
+written_list (code.Block' shape row) = written_row row ∙ sym (ap tree_view.statements_of (ap (λ o. o.items.items) (code.outs-Block' shape row) ∙ code.items_shown-the_row-Statement-0 shape row))
+
+pub behind_none : (r : Result program.Actions TypeFault) → behind program.Empty r ≡ r
+behind_none (Ok a) = refl
+behind_none (Err f) = refl
+
+before_more : (done : List TypedStatement) (s : TypedStatement) (rest : program.Actions) → before (typed_view.statements_of (done ++ s ∷ [])) rest ≡ before (typed_view.statements_of done) (program.Then s.line (typed_view.action_of s.form) rest)
+before_more [] s rest = refl
+before_more (t ∷ done) s rest = ap (program.Then t.line (typed_view.action_of t.form)) (before_more done s rest)
+
+before_all : (done : List TypedStatement) → before (typed_view.statements_of done) program.Empty ≡ typed_view.statements_of done
+before_all [] = refl
+before_all (t ∷ done) = ap (program.Then t.line (typed_view.action_of t.form)) (before_all done)
+
+behind_more : (done : List TypedStatement) (s : TypedStatement) (r : Result program.Actions TypeFault) →
+    behind (typed_view.statements_of done) (and_then r (λ rest. Ok (program.Then s.line (typed_view.action_of s.form) rest))) ≡ behind (typed_view.statements_of (done ++ s ∷ [])) r
+behind_more done s (Ok rest) = ap Ok (sym (before_more done s rest))
+behind_more done s (Err f) = refl
+
+-- one more statement is judged
+pub block_on : (place : Place) (xs : List Statement) (i : ℕ) (x : Statement) (done after : List TypedStatement) (form : TypedForm) (all : Result program.Actions TypeFault) → i < length xs → x ≡ get_or xs i x →
+    statement place x.line (tree_view.phrase_of x.form) ≡ Ok (typed_view.action_of form) → after ≡ done ++ record { line = x.line; form = form } ∷ [] →
+    behind (typed_view.statements_of done) (block place (tree_view.statements_of (drop i xs))) ≡ all → behind (typed_view.statements_of after) (block place (tree_view.statements_of (drop (i + 1) xs))) ≡ all
+block_on place xs i x done after form all below is judged more so_far =
+    let rest = block place (tree_view.statements_of (drop (i + 1) xs)) in
+    ap (λ l. behind (typed_view.statements_of l) rest) more ∙ sym (behind_more done (record { line = x.line; form = form }) rest)
+    ∙ sym (ap (λ r. behind (typed_view.statements_of done) (and_then r (λ action. and_then rest (λ actions. Ok (program.Then x.line action actions))))) judged)
+    ∙ sym (ap (λ l. behind (typed_view.statements_of done) (block place (tree_view.statements_of l))) (at_index xs i x below is)) ∙ so_far
+
+pub block_starts : (place : Place) (b : code.Block) (xs : List Statement) (none : List TypedStatement) → none ≡ [] → xs ≡ (code.out-Block b).items.items →
+    behind (typed_view.statements_of none) (block place (tree_view.statements_of xs)) ≡ block place (tree_view.phrases_of b)
+block_starts place b xs none empty is =
+    ap (λ l. behind (typed_view.statements_of l) (block place (tree_view.statements_of xs))) empty ∙ behind_none _ ∙ ap (block place) (ap tree_view.statements_of is ∙ sym (written_list b))
+
+made_row : {m : _} (row : typed.Row_of-TypedStatement m) → typed_view.row_of row ≡ typed_view.statements_of (typed.items-the_row-TypedStatement m row)
+made_row typed.end_of-TypedStatement = refl
+made_row (typed.more_of-TypedStatement line form rest) = ap (program.Then line (typed_view.action_of form)) (made_row rest)
+
+made_list : (b : typed.TypedBlock) → typed_view.actions_of b ≡ typed_view.statements_of (typed.out-TypedBlock b).items.items
+made_list (typed.TypedBlock' shape row) = made_row row ∙ sym (ap typed_view.statements_of (ap (λ o. o.items.items) (typed.outs-TypedBlock' shape row) ∙ typed.items_shown-the_row-TypedStatement-0 shape row))
+
+pub block_ends : (place : Place) (b : code.Block) (xs : List Statement) (i : ℕ) (made : typed.TypedBlock) (done : List TypedStatement) → i ≡ length xs → (typed.out-TypedBlock made).items.items ≡ done →
+    behind (typed_view.statements_of done) (block place (tree_view.statements_of (drop i xs))) ≡ block place (tree_view.phrases_of b) → block place (tree_view.phrases_of b) ≡ Ok (typed_view.actions_of made)
+block_ends place b xs i made done end holds so_far =
+    let past : drop i xs ≡ [] = ap (λ k. drop k xs) end ∙ drop-length xs in
+    sym so_far ∙ ap (λ l. behind (typed_view.statements_of done) (block place (tree_view.statements_of l))) past
+    ∙ ap Ok (before_all done ∙ ap typed_view.statements_of (sym holds) ∙ sym (made_list made))

@@ -1,0 +1,11 @@
+use Rattle.std.proofs.Common.{map}
+use Rattle.pst_tree.specs.View as tree_view
+use Rattle.pst_types.specs.Answers.{through}
+use Rattle.pst_types.specs.Declarations.{noted}
+use Rattle.pst_types.specs.Names.{nothing_declared}
+use Rattle.pst_types.specs.View.{scope_of}
+use Rattle.pst_types.proofs.Through.{Left}
+use Rattle.pst_types.proofs.walks.gather.Given as goal
+
+abbrev pub invariant-loop-declaration : goal.invariant-loop-declaration
+invariant-loop-declaration l = Left noted tree_view.item_of l.declarations (through noted nothing_declared (map tree_view.item_of l.declarations)) l.declaration-index (scope_of l.scope)

@@ -1,0 +1,141 @@
+-- The types of expressions.
+use Rattle.std.specs.Prelude.{ℕ, Bool, true, false, not, ◌&&◌, List, Result, Ok, Err, bytes_eq}
+use Rattle.pst_base.specs.declared.names.Op.{Op}
+use Rattle.pst_base.specs.declared.names.Op.TheVariants.{Add, Sub, Mul, Div, Rem, Equal, NotEqual, Less, LessEqual, Greater, GreaterEqual, And, Or}
+use Rattle.pst_base.specs.declared.names.TypeNo.{TypeNo}
+use Rattle.pst_tree.specs.Syntax as tree
+use Rattle.pst_program.specs.Syntax as program
+use Rattle.pst_types.specs.declared.fault.TypeFault.{TypeFault}
+use Rattle.pst_types.specs.declared.fault.TypeFault.TheVariants.{Unknown, Mismatch}
+use Rattle.pst_types.specs.Answers.{and_then, check, found}
+use Rattle.pst_types.specs.Names.{Place, Slot, Variable, IsLocal, IsRoot, number_of, kind_of, field_named, variable}
+
+-- what an expression gives: a number, a truth, or a pointer to records of the type with a name
+pub data Sort : Type 0 where
+  Int : Sort
+  Truth : Sort
+  Pointer : List ℕ → Sort
+
+abbrev pub same_sort : Sort → Sort → Bool
+same_sort Int Int = true
+same_sort Int Truth = false
+same_sort Int (Pointer t) = false
+same_sort Truth Int = false
+same_sort Truth Truth = true
+same_sort Truth (Pointer t) = false
+same_sort (Pointer s) Int = false
+same_sort (Pointer s) Truth = false
+same_sort (Pointer s) (Pointer t) = bytes_eq s t
+
+abbrev pub sort_of : tree.TypeWord → Sort
+sort_of tree.Int = Int
+sort_of (tree.Named t) = Pointer t
+
+-- an expression judged: a null that waits for its type, or a typed expression
+pub data Judged : Type 0 where
+  Bare : Judged
+  Known : program.Expr → Sort → Judged
+
+-- parentheses round an expression; a bare null in them stays one
+abbrev pub in_parens : Judged → Judged
+in_parens Bare = Bare
+in_parens (Known e sort) = Known (program.Parens e) sort
+
+-- a null with its type, in its parentheses
+abbrev pub null_of : TypeNo → tree.Expr → program.Expr
+null_of ty (tree.Parens e) = program.Parens (null_of ty e)
+null_of ty (tree.Number n) = program.Null ty
+null_of ty tree.Null = program.Null ty
+null_of ty (tree.Name x) = program.Null ty
+null_of ty (tree.Field e f) = program.Null ty
+null_of ty (tree.Negate e) = program.Null ty
+null_of ty (tree.Not e) = program.Null ty
+null_of ty (tree.Binary op a b) = program.Null ty
+
+-- an operand that has to be of a sort
+abbrev pub operand : (line : ℕ) → Sort → Judged → Result program.Expr TypeFault
+operand line sort Bare = Err (Mismatch line)
+operand line sort (Known e other) = check (same_sort other sort) (Mismatch line) (Ok e)
+
+-- an object: a pointer, and the name of the type of its records
+pub record Object : Type 0 where
+  pub pointer : program.Expr
+  pub type : List ℕ
+
+abbrev pub object : (line : ℕ) → Judged → Result Object TypeFault
+object line Bare = Err (Mismatch line)
+object line (Known e Int) = Err (Mismatch line)
+object line (Known e Truth) = Err (Mismatch line)
+object line (Known e (Pointer t)) = Ok (record { pointer = e; type = t })
+
+abbrev pub named_value : Variable → Judged
+named_value (IsLocal l) = Known (program.Local l.number) (sort_of l.kind)
+named_value (IsRoot r) = Known (program.Root r.slot) (sort_of r.kind)
+
+abbrev pub loaded : Place → Object → Slot → Judged
+loaded place o f = Known (program.Load o.pointer f.slot (kind_of place.scope f.kind)) (sort_of f.kind)
+
+-- an operator whose operands are of one sort
+abbrev pub operation : (line : ℕ) → Op → (operands result : Sort) → (left right : Judged) → Result Judged TypeFault
+operation line op sort gives left right =
+    and_then (operand line sort left) (λ a. and_then (operand line sort right) (λ b. Ok (Known (program.Binary op a b) gives)))
+
+-- a bare null beside an operand of a sort is one of the type that the operand points to
+abbrev pub null_beside : Place → (line : ℕ) → tree.Expr → Sort → Result program.Expr TypeFault
+null_beside place line e Int = Err (Mismatch line)
+null_beside place line e Truth = Err (Mismatch line)
+null_beside place line e (Pointer t) = Ok (null_of (number_of place.scope t) e)
+
+-- two numbers, or two pointers to records of one type
+abbrev pub can_equal : Sort → Sort → Bool
+can_equal left right = not (same_sort left Truth) && same_sort left right
+
+-- an equality: of two numbers, of two pointers to one type, or of a pointer and a bare null
+abbrev pub equality : Place → (line : ℕ) → Op → (a b : tree.Expr) → (left right : Judged) → Result Judged TypeFault
+equality place line op a b Bare Bare = Err (Mismatch line)
+equality place line op a b Bare (Known r sort) = and_then (null_beside place line a sort) (λ l. Ok (Known (program.Binary op l r) Truth))
+equality place line op a b (Known l sort) Bare = and_then (null_beside place line b sort) (λ r. Ok (Known (program.Binary op l r) Truth))
+equality place line op a b (Known l sort) (Known r other) = check (can_equal sort other) (Mismatch line) (Ok (Known (program.Binary op l r) Truth))
+
+-- an operator, whose operands stand in the text as a and b and were judged
+abbrev pub combined : Place → (line : ℕ) → Op → (a b : tree.Expr) → (left right : Judged) → Result Judged TypeFault
+combined place line Add a b left right = operation line Add Int Int left right
+combined place line Sub a b left right = operation line Sub Int Int left right
+combined place line Mul a b left right = operation line Mul Int Int left right
+combined place line Div a b left right = operation line Div Int Int left right
+combined place line Rem a b left right = operation line Rem Int Int left right
+combined place line Equal a b left right = equality place line Equal a b left right
+combined place line NotEqual a b left right = equality place line NotEqual a b left right
+combined place line Less a b left right = operation line Less Int Truth left right
+combined place line LessEqual a b left right = operation line LessEqual Int Truth left right
+combined place line Greater a b left right = operation line Greater Int Truth left right
+combined place line GreaterEqual a b left right = operation line GreaterEqual Int Truth left right
+combined place line And a b left right = operation line And Truth Truth left right
+combined place line Or a b left right = operation line Or Truth Truth left right
+
+-- an expression of a statement that begins on a line: the operands from left to right, then the form itself
+abbrev pub judged : Place → (line : ℕ) → tree.Expr → Result Judged TypeFault
+judged place line (tree.Number n) = Ok (Known (program.Number n) Int)
+judged place line tree.Null = Ok Bare
+judged place line (tree.Name x) = found (variable place x) (Unknown line) (λ v. Ok (named_value v))
+judged place line (tree.Parens e) = and_then (judged place line e) (λ j. Ok (in_parens j))
+judged place line (tree.Field e f) =
+    and_then (judged place line e) (λ j. and_then (object line j) (λ o. found (field_named place.scope o.type f) (Unknown line) (λ field. Ok (loaded place o field))))
+judged place line (tree.Negate e) = and_then (judged place line e) (λ j. and_then (operand line Int j) (λ v. Ok (Known (program.Negate v) Int)))
+judged place line (tree.Not e) = and_then (judged place line e) (λ j. and_then (operand line Truth j) (λ v. Ok (Known (program.Not v) Truth)))
+judged place line (tree.Binary op a b) =
+    and_then (judged place line a) (λ left. and_then (judged place line b) (λ right. combined place line op a b left right))
+
+-- a judged expression fits a type that is declared; a bare null fits each pointer type
+abbrev pub fits : Place → (line : ℕ) → tree.TypeWord → tree.Expr → Judged → Result program.Expr TypeFault
+fits place line tree.Int e Bare = Err (Mismatch line)
+fits place line (tree.Named t) e Bare = Ok (null_of (number_of place.scope t) e)
+fits place line kind e (Known v sort) = check (same_sort sort (sort_of kind)) (Mismatch line) (Ok v)
+
+-- an expression that has to fit a type
+abbrev pub fitted : Place → (line : ℕ) → tree.TypeWord → tree.Expr → Result program.Expr TypeFault
+fitted place line kind e = and_then (judged place line e) (fits place line kind e)
+
+-- an expression that has to be a number, or a truth
+abbrev pub of_sort : Place → (line : ℕ) → Sort → tree.Expr → Result program.Expr TypeFault
+of_sort place line sort e = and_then (judged place line e) (operand line sort)

@@ -1,0 +1,28 @@
+-- What a procedure's text in the checker stands for in the definitions, and what a program in the making.
+use Rattle.std.specs.Prelude.{map}
+use Rattle.std.specs.Option.{option_map}
+use Rattle.pst_tree.specs.Syntax as tree
+use Rattle.pst_tree.specs.View as tree_view
+use Rattle.pst_program.specs.View as typed_view
+use Rattle.pst_program.specs.declared.program.Program.{Program}
+use Rattle.pst_types.specs.declared.procedure.ProcedureText.{ProcedureText}
+use Rattle.pst_types.specs.declared.walks.Parts.{Parts}
+use Rattle.pst_types.specs.Declarations.{NamedProgram}
+
+abbrev pub procedure_text_of : ProcedureText → tree.ProcedureText
+procedure_text_of p = record {
+  line = p.line;
+  query = p.query;
+  name = p.name.now;
+  parameters = map tree_view.local_of p.parameters.now;
+  result = option_map tree_view.type_word_of p.result.now;
+  locals = map tree_view.local_of p.locals.now;
+  body = tree_view.phrases_of p.body.now;
+}
+
+abbrev pub parts_of : Parts → NamedProgram
+parts_of p = record { shape = p.shape.items; names = p.names.items; procedures = map typed_view.procedure_of p.procedures.items }
+
+-- a typed program with its names
+abbrev pub program_of : Program → NamedProgram
+program_of p = record { shape = p.shape; names = p.names; procedures = map typed_view.procedure_of p.procedures.items.items }

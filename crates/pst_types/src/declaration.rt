@@ -1,0 +1,138 @@
+//! What the declarations of a program say.
+
+ghost use Rattle.std.specs.Prelude.{◌≡◌, Ok, IfOk, IfErr, map};
+ghost use Rattle.pst_tree.specs.View as tree_view;
+ghost use Rattle.pst_types.specs.declared.fault.TypeFault.TheVariants as fault;
+ghost use Rattle.pst_types.specs.Answers.{through};
+ghost use Rattle.pst_types.specs.Declarations.{limit_of, field, targets_of, shape_of, names_of};
+ghost use Rattle.pst_types.specs.Names.{no_members, members_from};
+ghost use Rattle.pst_types.specs.View.{Answers, members_of, scope_of};
+
+use crate::fault::TypeFault;
+use crate::names::{Members, Scope, Word, line_of, name_of};
+use pst_base::{SlotNo, Targets, Text, TypeShape};
+use pst_program::{FieldName, FieldNames, TypeEntry};
+use pst_tree::Field;
+use std::alloc::Global;
+
+/// The in-degree limit, if it is from 1 to 16.
+pub(crate) fn limit_of(limit: i64) -> Option<u8>
+    ensures { result ≡ limit_of limit }
+{
+    if (1..=16).contains(&limit) {
+        Some(limit as u8)
+    } else {
+        None
+    }
+}
+
+/// The fields of a record type; of doubled names the first counts.
+pub(crate) fn lay_out<'t>(alloc: Global, fields: &'t [Field]) -> Result<Members<'t>, TypeFault>
+    ensures { Answers members_of result (Ok (members_from no_members (map tree_view.field_of fields.entry.now))) }
+{
+    let mut members = Members::new(alloc);
+    for field in fields {
+        members.add_new(field)?;
+    }
+    Ok(members)
+}
+
+/// Judges a field after those before it, and adds it.
+#[tactic(auto, using(crate::proofs::Lookups::look_ups))]
+fn add_field<'t>(
+    scope: &Scope<'t>,
+    members: &mut Members<'t>,
+    next: &'t Field,
+) -> Result<(), TypeFault>
+    ensures { Answers (λ _. members_of members.new) result (field (scope_of scope.now) (members_of members.old) (tree_view.field_of next.now)) }
+{
+    let line = line_of(next);
+    if members.list.len() >= 16 {
+        return Err(TypeFault::TooMany { line });
+    }
+    let name = name_of(next);
+    if members.has(name) {
+        return Err(TypeFault::Duplicate { line });
+    }
+    let kind = Word::of_field(next);
+    if !scope.is_known(kind) {
+        return Err(TypeFault::Unknown { line });
+    }
+    members.add(name, kind)?;
+    Ok(())
+}
+
+/// Judges the fields of a record type.
+pub(crate) fn judge_fields<'t>(
+    alloc: Global,
+    scope: &Scope<'t>,
+    fields: &'t [Field],
+) -> Result<Members<'t>, TypeFault>
+    ensures { Answers members_of result (through (field (scope_of scope.now)) no_members (map tree_view.field_of fields.entry.now)) }
+{
+    let mut members = Members::new(alloc);
+    for field in fields {
+        add_field(scope, &mut members, field)?;
+    }
+    Ok(members)
+}
+
+/// The types of the fields that hold pointers.
+fn targets_of(alloc: Global, scope: &Scope, members: &Members) -> Result<Targets, TypeFault>
+    ensures { Answers (λ targets. targets) result (Ok (targets_of (scope_of scope.now) (members_of members.now).list)) }
+{
+    let mut items = Vec::new(alloc);
+    for member in members.list.values().as_slice() {
+        if let Word::Named(name) = member.kind {
+            items.push(scope.number_of(name))?;
+        }
+    }
+    Ok(Targets::from_vec(items))
+}
+
+/// A record type as a shape has it.
+pub(crate) fn shape_of(
+    alloc: Global,
+    scope: &Scope,
+    limit: u8,
+    members: &Members,
+) -> Result<TypeShape, TypeFault>
+    ensures { Answers (λ shape. shape) result (Ok (shape_of (scope_of scope.now) limit (members_of members.now))) }
+{
+    Ok(TypeShape {
+        values: members.values,
+        targets: targets_of(alloc, scope, members)?,
+        limit,
+    })
+}
+
+/// A field by its name.
+fn named_field(alloc: Global, name: &[u8], slot: SlotNo) -> Result<FieldName, TypeFault>
+    ensures ok { IfOk result (λ f. (f.name ≡ name.now) × (f.slot ≡ slot)) }
+    ensures err { IfErr result (λ e. e ≡ fault.Memory) }
+{
+    Ok(FieldName {
+        name: Text::from_vec(Vec::from_slice(alloc, name)?),
+        slot,
+    })
+}
+
+/// The names of a record type and of its fields.
+pub(crate) fn names_of(
+    alloc: Global,
+    name: &[u8],
+    members: &Members,
+) -> Result<TypeEntry, TypeFault>
+    ensures { Answers (λ names. names) result (Ok (names_of name.now (members_of members.now))) }
+{
+    let mut fields = Vec::new(alloc);
+    let declared = members.list.values().as_slice();
+    for (index, field) in members.list.keys().as_slice().iter().enumerate() {
+        let slot = members.slot(&declared[index]);
+        fields.push(named_field(alloc, field, slot)?)?;
+    }
+    Ok(TypeEntry {
+        name: Text::from_vec(Vec::from_slice(alloc, name)?),
+        fields: FieldNames::from_vec(fields),
+    })
+}

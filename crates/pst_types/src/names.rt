@@ -1,0 +1,333 @@
+//! What the names of a program stand for.
+
+ghost use Rattle.std.specs.Prelude.{◌≡◌, ◌+◌, OnOk, Bool};
+ghost use Rattle.std.specs.Option.{option_map};
+ghost use Rattle.pst_base.specs.Shape.{root_type};
+ghost use Rattle.pst_tree.specs.View.{type_word_of, field_of};
+ghost use Rattle.pst_types.specs.Names.{bounded, named, no_members, with_member, is_named, slot_in, slot_of, field_line, field_name, field_kind, with_new_member, nothing_declared, is_free, number_of, kind_of, is_known, field_named, variable};
+ghost use Rattle.pst_types.specs.View.{kind_word, member_of, members_of, slot_seen, record_type_of, signature_of, scope_of, local_of, place_of, variable_of};
+
+use indexmap::IndexMap;
+use pst_base::{Kind, ProcNo, SlotNo, TypeNo};
+use pst_tree::{Field, Local, TypeName};
+use std::alloc::{AllocError, Global};
+
+/// A type as it was written: `int`, or the name of a record type.
+#[derive(Clone, Copy, Debug)]
+pub(crate) enum Word<'t> {
+    Int,
+    Named(&'t [u8]),
+}
+
+impl<'t> Word<'t> {
+    /// The type that stands in the tree.
+    pub(crate) fn of_type(kind: &'t TypeName) -> Word<'t>
+        ensures { kind_word result ≡ type_word_of kind.now }
+    {
+        match kind {
+            TypeName::Int => Word::Int,
+            TypeName::Named(name) => Word::Named(name.as_slice()),
+        }
+    }
+
+    /// The type of a result, if there is one.
+    pub(crate) fn of_result(kind: &'t Option<TypeName>) -> Option<Word<'t>>
+        ensures { option_map kind_word result ≡ option_map type_word_of kind.now }
+    {
+        match kind {
+            None => None,
+            Some(kind) => Some(Word::of_type(kind)),
+        }
+    }
+
+    /// The type of a field.
+    pub(crate) fn of_field(field: &'t Field) -> Word<'t>
+        ensures { kind_word result ≡ field_kind (field_of field.now) }
+    {
+        match field {
+            Field::Val { .. } => Word::Int,
+            Field::Ptr { target, .. } => Word::Named(target.as_slice()),
+        }
+    }
+}
+
+/// The name of a field.
+pub(crate) fn name_of(field: &Field) -> &[u8]
+    ensures { result.now ≡ field_name (field_of field.now) }
+{
+    match field {
+        Field::Val { name, .. } => name.as_slice(),
+        Field::Ptr { name, .. } => name.as_slice(),
+    }
+}
+
+/// The line of a field.
+pub(crate) fn line_of(field: &Field) -> u32
+    ensures { result ≡ field_line (field_of field.now) }
+{
+    match field {
+        Field::Val { line, .. } => *line,
+        Field::Ptr { line, .. } => *line,
+    }
+}
+
+/// A field: its type, and how many fields of its sort stand before it.
+#[derive(Clone, Copy, Debug)]
+pub(crate) struct Member<'t> {
+    pub(crate) rank: u16,
+    pub(crate) kind: Word<'t>,
+}
+
+/// A field as a program reads and writes it.
+#[derive(Clone, Copy, Debug)]
+pub(crate) struct Slot<'t> {
+    pub(crate) slot: SlotNo,
+    pub(crate) kind: Word<'t>,
+}
+
+/// The fields of a record type by name in the order of declaration, and how many hold a number and how many a pointer.
+#[derive(Debug, Drop)]
+pub(crate) struct Members<'t> {
+    pub(crate) values: u16,
+    pub(crate) pointers: u16,
+    pub(crate) list: IndexMap<&'t [u8], Member<'t>>,
+}
+
+/// The sum, or the last number of 16 bits where it is above that.
+fn bounded_sum(a: u16, b: u16) -> u16
+    ensures { result ≡ bounded (a + b) }
+{
+    if a > 65535 - b { 65535 } else { a + b }
+}
+
+#[tactic(auto, using(crate::proofs::Lookups::look_ups))]
+impl<'t> Members<'t> {
+    /// No fields.
+    pub(crate) fn new(alloc: Global) -> Self
+        ensures { members_of result ≡ no_members }
+    {
+        Members {
+            values: 0,
+            pointers: 0,
+            list: IndexMap::new(alloc),
+        }
+    }
+
+    /// Whether a field has the name.
+    pub(crate) fn has(&self, name: &[u8]) -> bool
+        ensures { result ≡ is_named name.now (members_of self.now).list }
+    {
+        self.list.contains_key(name)
+    }
+
+    /// Adds a field whose name is new.
+    pub(crate) fn add(&mut self, name: &'t [u8], kind: Word<'t>) -> Result<(), AllocError>
+        requires { is_named name.now (members_of self.old).list ≡ Bool.false }
+        ensures { OnOk result (members_of self.new ≡ with_member (members_of self.old) name.entry.now (kind_word kind.entry)) }
+    {
+        match kind {
+            Word::Int => {
+                let rank = self.values;
+                self.list.insert(name, Member { rank, kind })?;
+                self.values = bounded_sum(self.values, 1);
+            }
+            Word::Named(_) => {
+                let rank = self.pointers;
+                self.list.insert(name, Member { rank, kind })?;
+                self.pointers = bounded_sum(self.pointers, 1);
+            }
+        }
+        Ok(())
+    }
+
+    /// Adds a field if its name is new.
+    pub(crate) fn add_new(&mut self, field: &'t Field) -> Result<(), AllocError>
+        ensures { OnOk result (members_of self.new ≡ with_new_member (members_of self.old) (field_of field.entry.now)) }
+    {
+        let name = name_of(field);
+        if self.has(name) {
+            return Ok(());
+        }
+        self.add(name, Word::of_field(field))
+    }
+
+    /// The slot of one of these fields.
+    pub(crate) fn slot(&self, member: &Member<'t>) -> SlotNo
+        ensures { result.0 ≡ slot_of (members_of self.now) (member_of member.now) }
+    {
+        match member.kind {
+            Word::Int => SlotNo(member.rank),
+            Word::Named(_) => SlotNo(bounded_sum(self.values, member.rank)),
+        }
+    }
+
+    /// The field with the name.
+    pub(crate) fn find(&self, name: &[u8]) -> Option<Slot<'t>>
+        ensures { option_map slot_seen result ≡ slot_in (members_of self.now) name.now }
+    {
+        match self.list.get(name) {
+            None => None,
+            Some(member) => Some(Slot {
+                slot: self.slot(member),
+                kind: member.kind,
+            }),
+        }
+    }
+}
+
+/// A record type: its number and its fields.
+#[derive(Debug, Drop)]
+pub(crate) struct RecordType<'t> {
+    pub(crate) number: TypeNo,
+    pub(crate) members: Members<'t>,
+}
+
+/// A procedure as it is called.
+#[derive(Clone, Copy, Debug)]
+pub(crate) struct Signature<'t> {
+    pub(crate) number: ProcNo,
+    pub(crate) query: bool,
+    pub(crate) parameters: &'t [Local],
+    pub(crate) result: Option<Word<'t>>,
+}
+
+/// The declared names. The roots are the fields of the root record.
+#[derive(Debug, Drop)]
+pub(crate) struct Scope<'t> {
+    pub(crate) types: IndexMap<&'t [u8], RecordType<'t>>,
+    pub(crate) roots: Members<'t>,
+    pub(crate) procedures: IndexMap<&'t [u8], Signature<'t>>,
+}
+
+#[tactic(auto, using(crate::proofs::Lookups::look_ups))]
+impl<'t> Scope<'t> {
+    /// Nothing declared.
+    pub(crate) fn new(alloc: Global) -> Self
+        ensures { scope_of result ≡ nothing_declared }
+    {
+        Scope {
+            types: IndexMap::new(alloc),
+            roots: Members::new(alloc),
+            procedures: IndexMap::new(alloc),
+        }
+    }
+
+    /// Whether no declaration has the name.
+    pub(crate) fn is_free(&self, name: &[u8]) -> bool
+        ensures { result ≡ is_free (scope_of self.now) name.now }
+    {
+        !self.types.contains_key(name)
+            && !self.roots.has(name)
+            && !self.procedures.contains_key(name)
+    }
+
+    /// The number of a record type; that of the root record for a name of none.
+    pub(crate) fn number_of(&self, name: &[u8]) -> TypeNo
+        ensures { result ≡ number_of (scope_of self.now) name.now }
+    {
+        match self.types.get(name) {
+            None => TypeNo(0),
+            Some(record) => record.number,
+        }
+    }
+
+    /// What a variable or a field of a type holds.
+    pub(crate) fn kind_of(&self, kind: Word<'t>) -> Kind
+        ensures { result ≡ kind_of (scope_of self.now) (kind_word kind.entry) }
+    {
+        match kind {
+            Word::Int => Kind::Int,
+            Word::Named(name) => Kind::Pointer(self.number_of(name)),
+        }
+    }
+
+    /// Whether a type is `int` or a record type.
+    pub(crate) fn is_known(&self, kind: Word<'t>) -> bool
+        ensures { result ≡ is_known (scope_of self.now) (kind_word kind.entry) }
+    {
+        match kind {
+            Word::Int => true,
+            Word::Named(name) => self.types.contains_key(name),
+        }
+    }
+
+    /// The field of a record type.
+    pub(crate) fn field(&self, type_name: &[u8], name: &[u8]) -> Option<Slot<'t>>
+        ensures { option_map slot_seen result ≡ field_named (scope_of self.now) type_name.now name.now }
+    {
+        match self.types.get(type_name) {
+            None => None,
+            Some(record) => record.members.find(name),
+        }
+    }
+
+    /// The record type with the name: its number.
+    pub(crate) fn record(&self, name: &[u8]) -> Option<TypeNo>
+        ensures { result ≡ option_map (λ r. r.number) (named name.now (scope_of self.now).types) }
+    {
+        match self.types.get(name) {
+            None => None,
+            Some(record) => Some(record.number),
+        }
+    }
+
+    /// The procedure with the name.
+    pub(crate) fn signature(&self, name: &[u8]) -> Option<Signature<'t>>
+        ensures { option_map signature_of result ≡ named name.now (scope_of self.now).procedures }
+    {
+        match self.procedures.get(name) {
+            None => None,
+            Some(signature) => Some(*signature),
+        }
+    }
+}
+
+/// A parameter or a local: its number in its procedure, and its type.
+#[derive(Clone, Copy, Debug)]
+pub(crate) struct Variable<'t> {
+    pub(crate) number: u16,
+    pub(crate) kind: Word<'t>,
+}
+
+/// Where a statement stands: the declared names, whether it is in a query, what the procedure gives, and its parameters
+/// and locals.
+#[derive(Debug, Drop)]
+pub(crate) struct Place<'a, 't> {
+    pub(crate) scope: &'a Scope<'t>,
+    pub(crate) query: bool,
+    pub(crate) result: Option<Word<'t>>,
+    pub(crate) locals: IndexMap<&'t [u8], Variable<'t>>,
+}
+
+/// What can be assigned by its name.
+#[derive(Clone, Copy, Debug)]
+pub(crate) enum Target<'t> {
+    Local(Variable<'t>),
+    Root(Slot<'t>),
+}
+
+#[tactic(auto, using(crate::proofs::Lookups::look_ups))]
+impl<'a, 't> Place<'a, 't> {
+    /// The parameter or local with the name.
+    pub(crate) fn local(&self, name: &[u8]) -> Option<Variable<'t>>
+        ensures { option_map local_of result ≡ named name.now (place_of self.now).locals }
+    {
+        match self.locals.get(name) {
+            None => None,
+            Some(variable) => Some(*variable),
+        }
+    }
+
+    /// The parameter, local or root with the name.
+    pub(crate) fn variable(&self, name: &[u8]) -> Option<Target<'t>>
+        ensures { option_map variable_of result ≡ variable (place_of self.now) name.now }
+    {
+        match self.local(name) {
+            Some(local) => Some(Target::Local(local)),
+            None => match self.scope.roots.find(name) {
+                Some(root) => Some(Target::Root(root)),
+                None => None,
+            },
+        }
+    }
+}

@@ -1,0 +1,168 @@
+//! What a procedure says.
+
+ghost use Rattle.std.specs.Prelude.{◌≡◌, ◌≤◌, Ok, Bool, OnOk, [], ◌∷◌, ◌++◌, map};
+ghost use Rattle.std.specs.Option.{option_map};
+ghost use Rattle.pst_tree.specs.View as tree_view;
+ghost use Rattle.pst_program.specs.View as typed_view;
+ghost use Rattle.pst_types.specs.Answers.{through};
+ghost use Rattle.pst_types.specs.Declarations.{variable, is_new, is_result_known, procedure};
+ghost use Rattle.pst_types.specs.Names.{kind_of, is_named};
+ghost use Rattle.pst_types.specs.View.{Answers, kind_word, entries_of, local_of, scope_of};
+ghost use Rattle.pst_types.specs.ProcedureView.{procedure_text_of};
+
+use crate::fault::TypeFault;
+use crate::names::{Place, Scope, Variable, Word};
+use crate::statement::judge_block;
+use indexmap::IndexMap;
+use pst_base::{Kind, Kinds, Text};
+use pst_program::TypedProc;
+use pst_tree::{Block, Local, TypeName};
+use std::alloc::{AllocError, Global};
+
+/// A procedure as it was written.
+#[derive(Clone, Copy, Debug)]
+pub(crate) struct ProcedureText<'t> {
+    pub(crate) line: u32,
+    pub(crate) query: bool,
+    pub(crate) name: &'t Text,
+    pub(crate) parameters: &'t [Local],
+    pub(crate) result: &'t Option<TypeName>,
+    pub(crate) locals: &'t [Local],
+    pub(crate) body: &'t Block,
+}
+
+/// Whether neither a parameter or local before nor a root has the name.
+#[tactic(auto, using(crate::proofs::Lookups::look_ups))]
+fn is_new<'t>(scope: &Scope<'t>, variables: &IndexMap<&'t [u8], Variable<'t>>, name: &[u8]) -> bool
+    ensures { result ≡ is_new (scope_of scope.now) (entries_of local_of variables.now.entries) name.now }
+{
+    !variables.contains_key(name) && !scope.roots.has(name)
+}
+
+/// Adds a parameter or a local whose name is new.
+#[tactic(auto, using(crate::proofs::Lookups::look_ups))]
+fn insert<'t>(
+    variables: &mut IndexMap<&'t [u8], Variable<'t>>,
+    name: &'t [u8],
+    variable: Variable<'t>,
+) -> Result<(), AllocError>
+    requires { is_named name.now (entries_of local_of variables.old.entries) ≡ Bool.false }
+    ensures { OnOk result (entries_of local_of variables.new.entries ≡ entries_of local_of variables.old.entries ++ (name.now, local_of variable.entry) ∷ []) }
+{
+    variables.insert(name, variable)?;
+    Ok(())
+}
+
+/// Judges a parameter or a local after those before it, of which there may be so many, and adds it.
+#[tactic(auto, using(crate::proofs::Lookups::look_ups))]
+fn add_variable<'t>(
+    scope: &Scope<'t>,
+    most: usize,
+    variables: &mut IndexMap<&'t [u8], Variable<'t>>,
+    local: &'t Local,
+) -> Result<(), TypeFault>
+    requires { most ≤ 72 }
+    ensures { Answers (λ _. entries_of local_of variables.new.entries) result (variable (scope_of scope.now) most (entries_of local_of variables.old.entries) (tree_view.local_of local.now)) }
+{
+    let line = local.line;
+    let count = variables.len();
+    if count >= most {
+        return Err(TypeFault::TooMany { line });
+    }
+    let name = local.name.as_slice();
+    if !is_new(scope, variables, name) {
+        return Err(TypeFault::Duplicate { line });
+    }
+    let kind = Word::of_type(&local.kind);
+    if !scope.is_known(kind) {
+        return Err(TypeFault::Unknown { line });
+    }
+    let number = count as u16;
+    insert(variables, name, Variable { number, kind })?;
+    Ok(())
+}
+
+/// Judges parameters or locals after others, so many in all at most.
+fn add_variables<'t>(
+    scope: &Scope<'t>,
+    most: usize,
+    variables: &mut IndexMap<&'t [u8], Variable<'t>>,
+    locals: &'t [Local],
+) -> Result<(), TypeFault>
+    requires { most ≤ 72 }
+    ensures { Answers (λ _. entries_of local_of variables.new.entries) result (through (variable (scope_of scope.now) most) (entries_of local_of variables.old.entries) (map tree_view.local_of locals.now)) }
+{
+    for local in locals {
+        add_variable(scope, most, variables, local)?;
+    }
+    Ok(())
+}
+
+/// What the parameters and locals hold.
+fn kinds_of<'t>(
+    alloc: Global,
+    scope: &Scope<'t>,
+    variables: &IndexMap<&'t [u8], Variable<'t>>,
+) -> Result<Kinds, TypeFault>
+    ensures { Answers (λ kinds. kinds) result (Ok (map (λ v. kind_of (scope_of scope.now) v.1.kind) (entries_of local_of variables.now.entries))) }
+{
+    let mut items = Vec::new(alloc);
+    for variable in variables.values().as_slice() {
+        items.push(scope.kind_of(variable.kind))?;
+    }
+    Ok(Kinds::from_vec(items))
+}
+
+/// What a procedure gives.
+fn result_kind(scope: &Scope, kind: Option<Word>) -> Option<Kind>
+    ensures { result ≡ option_map (kind_of (scope_of scope.now)) (option_map kind_word kind.entry) }
+{
+    match kind {
+        None => None,
+        Some(kind) => Some(scope.kind_of(kind)),
+    }
+}
+
+/// Whether a procedure gives nothing, or something of a type that is declared.
+fn is_result_known(scope: &Scope, kind: Option<Word>) -> bool
+    ensures { result ≡ is_result_known (scope_of scope.now) (option_map kind_word kind.entry) }
+{
+    match kind {
+        None => true,
+        Some(kind) => scope.is_known(kind),
+    }
+}
+
+/// Judges a procedure.
+pub(crate) fn judge_procedure<'t>(
+    alloc: Global,
+    scope: &Scope<'t>,
+    text: &ProcedureText<'t>,
+) -> Result<TypedProc, TypeFault>
+    ensures { Answers typed_view.procedure_of result (procedure (scope_of scope.now) (procedure_text_of text.now)) }
+{
+    let mut variables = IndexMap::new(alloc);
+    add_variables(scope, 8, &mut variables, text.parameters)?;
+    let arguments = variables.len();
+    let gives = Word::of_result(text.result);
+    if !is_result_known(scope, gives) {
+        return Err(TypeFault::Unknown { line: text.line });
+    }
+    add_variables(scope, arguments + 64, &mut variables, text.locals)?;
+    let kinds = kinds_of(alloc, scope, &variables)?;
+    let place = Place {
+        scope,
+        query: text.query,
+        result: gives,
+        locals: variables,
+    };
+    let body = judge_block(alloc, &place, text.body)?;
+    Ok(TypedProc {
+        name: text.name.copy()?,
+        query: text.query,
+        arguments: arguments as u8,
+        result: result_kind(scope, gives),
+        kinds,
+        body,
+    })
+}

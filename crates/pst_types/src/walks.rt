@@ -1,0 +1,266 @@
+//! The two walks over the declarations of a program.
+
+ghost use Rattle.std.specs.Prelude.{◌≡◌, ℤ, Ok, IfOk, map};
+ghost use Rattle.pst_tree.specs.Syntax as tree;
+ghost use Rattle.pst_tree.specs.View as tree_view;
+ghost use Rattle.pst_tree.specs.Depth.{IsShallow};
+ghost use Rattle.pst_program.specs.View.{routines_of};
+ghost use Rattle.pst_program.specs.Typed.{IsTyped};
+ghost use Rattle.pst_types.specs.Answers.{through};
+ghost use Rattle.pst_types.specs.Declarations.{noted, declared, root_alone, checked};
+ghost use Rattle.pst_types.specs.Names.{nothing_declared};
+ghost use Rattle.pst_types.specs.View.{Answers, scope_of};
+ghost use Rattle.pst_types.specs.ProcedureView.{procedure_text_of, parts_of, program_of};
+
+use crate::declaration::{judge_fields, lay_out, limit_of, names_of, shape_of};
+use crate::fault::TypeFault;
+use crate::names::{RecordType, Scope, Signature, Word};
+use crate::procedure::{ProcedureText, judge_procedure};
+use pst_base::{ProcNo, Shape, Text, TypeNo, TypeShape};
+use pst_program::{Program, TypeEntry, TypeNames, TypedProc, TypedProcs};
+use pst_tree::{Declaration, Fields, Tree, TypeName};
+use std::alloc::Global;
+
+/// The parts of a typed program that are made so far.
+#[derive(Debug, Drop)]
+pub(crate) struct Parts {
+    pub(crate) shape: Vec<TypeShape>,
+    pub(crate) names: Vec<TypeEntry>,
+    pub(crate) procedures: Vec<TypedProc>,
+}
+
+/// Notes a record type.
+fn note_record<'t>(
+    alloc: Global,
+    scope: &mut Scope<'t>,
+    line: u32,
+    name: &'t Text,
+    fields: &'t Fields,
+) -> Result<(), TypeFault>
+    ensures { (limit : ℤ) → Answers (λ _. scope_of scope.new) result (noted (scope_of scope.old) (tree.Record line name.now limit (map tree_view.field_of fields.now))) }
+{
+    let count = scope.types.len();
+    if count >= 64 {
+        return Err(TypeFault::TooMany { line });
+    }
+    let name = name.as_slice();
+    if !scope.is_free(name) {
+        return Err(TypeFault::Duplicate { line });
+    }
+    let number = TypeNo(count as u8 + 1);
+    let members = lay_out(alloc, fields.as_slice())?;
+    scope.types.insert(name, RecordType { number, members })?;
+    Ok(())
+}
+
+/// Notes a root.
+fn note_root<'t>(
+    scope: &mut Scope<'t>,
+    line: u32,
+    name: &'t Text,
+    kind: &'t TypeName,
+) -> Result<(), TypeFault>
+    ensures { Answers (λ _. scope_of scope.new) result (noted (scope_of scope.old) (tree.Root line name.now (tree_view.type_word_of kind.now))) }
+{
+    if scope.roots.list.len() >= 32 {
+        return Err(TypeFault::TooMany { line });
+    }
+    let name = name.as_slice();
+    if !scope.is_free(name) {
+        return Err(TypeFault::Duplicate { line });
+    }
+    scope.roots.add(name, Word::of_type(kind))?;
+    Ok(())
+}
+
+/// Notes a procedure.
+fn note_procedure<'t>(scope: &mut Scope<'t>, text: &ProcedureText<'t>) -> Result<(), TypeFault>
+    ensures { Answers (λ _. scope_of scope.new) result (noted (scope_of scope.old) (tree.Procedure (procedure_text_of text.now))) }
+{
+    let count = scope.procedures.len();
+    if count >= 256 {
+        return Err(TypeFault::TooMany { line: text.line });
+    }
+    let name = text.name.as_slice();
+    if !scope.is_free(name) {
+        return Err(TypeFault::Duplicate { line: text.line });
+    }
+    let signature = Signature {
+        number: ProcNo(count as u16),
+        query: text.query,
+        parameters: text.parameters,
+        result: Word::of_result(text.result),
+    };
+    scope.procedures.insert(name, signature)?;
+    Ok(())
+}
+
+/// Notes a declaration, judged against those before it.
+fn note<'t>(
+    alloc: Global,
+    scope: &mut Scope<'t>,
+    declaration: &'t Declaration,
+) -> Result<(), TypeFault>
+    ensures { Answers (λ _. scope_of scope.new) result (noted (scope_of scope.old) (tree_view.item_of declaration.now)) }
+{
+    match declaration {
+        Declaration::Record {
+            line,
+            name,
+            fields,
+            ..
+        } => note_record(alloc, scope, *line, name, fields),
+        Declaration::Root { line, name, kind } => note_root(scope, *line, name, kind),
+        Declaration::Procedure {
+            line,
+            query,
+            name,
+            parameters,
+            result,
+            locals,
+            body,
+        } => {
+            let text = ProcedureText {
+                line: *line,
+                query: *query,
+                name,
+                parameters: parameters.as_slice(),
+                result,
+                locals: locals.as_slice(),
+                body,
+            };
+            note_procedure(scope, &text)
+        }
+    }
+}
+
+/// The first walk: the declared names.
+fn gather<'t>(alloc: Global, declarations: &'t [Declaration]) -> Result<Scope<'t>, TypeFault>
+    ensures { Answers scope_of result (through noted nothing_declared (map tree_view.item_of declarations.entry.now)) }
+{
+    let mut scope = Scope::new(alloc);
+    for declaration in declarations {
+        note(alloc, &mut scope, declaration)?;
+    }
+    Ok(scope)
+}
+
+/// The parts that are there before the second walk: the root record.
+fn root_alone(alloc: Global, scope: &Scope) -> Result<Parts, TypeFault>
+    ensures { Answers parts_of result (Ok (root_alone (scope_of scope.now))) }
+{
+    let mut shape = Vec::new(alloc);
+    shape.push(shape_of(alloc, scope, 1, &scope.roots)?)?;
+    let mut names = Vec::new(alloc);
+    names.push(names_of(alloc, b"root", &scope.roots)?)?;
+    Ok(Parts {
+        shape,
+        names,
+        procedures: Vec::new(alloc),
+    })
+}
+
+/// Judges a declaration after those before it, and adds what it says.
+fn judge_declaration<'t>(
+    alloc: Global,
+    scope: &Scope<'t>,
+    parts: &mut Parts,
+    declaration: &'t Declaration,
+) -> Result<(), TypeFault>
+    ensures { Answers (λ _. parts_of parts.new) result (declared (scope_of scope.now) (parts_of parts.old) (tree_view.item_of declaration.now)) }
+{
+    match declaration {
+        Declaration::Record {
+            line,
+            name,
+            limit,
+            fields,
+        } => {
+            let limit = match limit_of(*limit) {
+                None => return Err(TypeFault::Limit { line: *line }),
+                Some(limit) => limit,
+            };
+            let members = judge_fields(alloc, scope, fields.as_slice())?;
+            parts.shape.push(shape_of(alloc, scope, limit, &members)?)?;
+            parts
+                .names
+                .push(names_of(alloc, name.as_slice(), &members)?)?;
+        }
+        Declaration::Root { line, kind, .. } => {
+            if !scope.is_known(Word::of_type(kind)) {
+                return Err(TypeFault::Unknown { line: *line });
+            }
+        }
+        Declaration::Procedure {
+            line,
+            query,
+            name,
+            parameters,
+            result,
+            locals,
+            body,
+        } => {
+            let text = ProcedureText {
+                line: *line,
+                query: *query,
+                name,
+                parameters: parameters.as_slice(),
+                result,
+                locals: locals.as_slice(),
+                body,
+            };
+            parts
+                .procedures
+                .push(judge_procedure(alloc, scope, &text)?)?;
+        }
+    }
+    Ok(())
+}
+
+/// The second walk: what the declarations say.
+fn judge_all<'t>(
+    alloc: Global,
+    scope: &Scope<'t>,
+    declarations: &'t [Declaration],
+) -> Result<Parts, TypeFault>
+    ensures { Answers parts_of result (through (declared (scope_of scope.now)) (root_alone (scope_of scope.now)) (map tree_view.item_of declarations.entry.now)) }
+{
+    let mut parts = root_alone(alloc, scope)?;
+    for declaration in declarations {
+        judge_declaration(alloc, scope, &mut parts, declaration)?;
+    }
+    Ok(parts)
+}
+
+/// Both walks.
+fn walk(alloc: Global, declarations: &[Declaration]) -> Result<Program, TypeFault>
+    ensures { Answers program_of result (checked (map tree_view.item_of declarations.now)) }
+{
+    let scope = gather(alloc, declarations)?;
+    let parts = judge_all(alloc, &scope, declarations)?;
+    Ok(Program {
+        shape: Shape::from_vec(parts.shape),
+        names: TypeNames::from_vec(parts.names),
+        procedures: TypedProcs {
+            items: parts.procedures,
+        },
+    })
+}
+
+/// Checks the types of a program whose expressions are no deeper than 64 and whose blocks are no deeper than 16, as in
+/// each tree that the parser gives. There are two walks over the declarations: the first notes the declared names, and
+/// the second judges each declaration with its statements. The first fault is the answer; without one it is the typed
+/// program.
+///
+/// Names are found in constant time, so this takes time that is linear in the tree.
+///
+/// # Errors
+///
+/// The first fault with its line, or `Memory` where memory runs out before it is found.
+pub fn check(alloc: Global, tree: &Tree) -> Result<Program, TypeFault>
+    requires { IsShallow (tree_view.items_of tree.now) }
+    ensures answer { Answers program_of result (checked (tree_view.items_of tree.now)) }
+    ensures typed { IfOk result (λ p. IsTyped (routines_of p)) }
+{
+    walk(alloc, tree.declarations.items.as_slice())
+}
