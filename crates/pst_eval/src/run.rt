@@ -1,0 +1,216 @@
+//! Blocks, choices, loops and calls.
+
+ghost use Rattle.std.specs.Prelude.{◌≡◌, ◌≤◌, ◌<◌, ℕ, [], map, IfOk, OnOk, Option, slice_get};
+ghost use Rattle.pst_program.specs.declared.block.TypedBlock.{size-TypedBlock};
+ghost use Rattle.pst_program.specs.declared.block.TypedStatement.{size-TypedStatement};
+ghost use Rattle.pst_program.specs.Meaning.{exec, exec_action, turns, call, call_with, after_call, run_body};
+ghost use Rattle.pst_program.specs.View.{expr_of, action_of, actions_of, routines_of};
+ghost use Rattle.pst_eval.specs.Ends.{ending_of, world_of, deepest, IsReady};
+
+use crate::call::{after, arguments, default_result, first_env, procedure_at};
+use crate::steps::{condition, give_back, make, print, set_local, set_root, store_field};
+use crate::tally::{End, Tally};
+use pst_base::{NoMemory, TrapKind};
+use pst_heap::PlainHeap;
+use pst_program::{Program, Typed, TypedBlock, TypedForm, TypedList, TypedStatement, Value};
+use std::alloc::Global;
+
+/// Runs a block, where `deep` more calls may become active.
+#[cycle(run)]
+pub fn run_block(
+    alloc: Global,
+    program: &Program,
+    deep: u32,
+    block: &TypedBlock,
+    env: &mut Vec<Value>,
+    heap: &mut PlainHeap,
+    tally: &mut Tally,
+) -> Result<End, NoMemory>
+    requires within { size-TypedBlock block.now ≤ deepest program.now.procedures.items.items }
+    requires ready { IsReady program.now.shape heap.old tally.old }
+    ensures meaning { IfOk result (λ end. ending_of end env.new.items (world_of heap.new tally.new) ≡ exec program.now.shape (call (routines_of program.now) deep) (actions_of block.now) env.old.items (world_of heap.old tally.old)) }
+    ensures ready { OnOk result (IsReady program.now.shape heap.new tally.new) }
+    ensures fewer { OnOk result (tally.new.charges ≤ tally.old.charges) }
+{
+    for statement in &block.items {
+        match run_statement(alloc, program, deep, statement, env, heap, tally)? {
+            End::Normal => {}
+            end => return Ok(end),
+        }
+    }
+    Ok(End::Normal)
+}
+
+#[cycle(run)]
+fn run_statement(
+    alloc: Global,
+    program: &Program,
+    deep: u32,
+    statement: &TypedStatement,
+    env: &mut Vec<Value>,
+    heap: &mut PlainHeap,
+    tally: &mut Tally,
+) -> Result<End, NoMemory>
+    requires within { size-TypedStatement statement.now ≤ deepest program.now.procedures.items.items }
+    requires ready { IsReady program.now.shape heap.old tally.old }
+    ensures meaning { IfOk result (λ end. ending_of end env.new.items (world_of heap.new tally.new) ≡ exec_action program.now.shape (call (routines_of program.now) deep) (action_of statement.now.form) statement.now.line env.old.items (world_of heap.old tally.old)) }
+    ensures ready { OnOk result (IsReady program.now.shape heap.new tally.new) }
+    ensures fewer { OnOk result (tally.new.charges ≤ tally.old.charges) }
+{
+    let line = statement.line;
+    match &statement.form {
+        TypedForm::Set { local, value } => Ok(set_local(*local, value, line, env, heap, tally)),
+        TypedForm::SetRoot { field, value } => Ok(set_root(*field, value, line, env, heap, tally)),
+        TypedForm::Store {
+            object,
+            field,
+            value,
+        } => Ok(store_field(object, *field, value, line, env, heap, tally)),
+        TypedForm::New { local, ty } => make(*local, *ty, line, env, heap, tally),
+        TypedForm::Print(e) => print(e, line, env, heap, tally),
+        TypedForm::Return(e) => Ok(give_back(e, line, env, heap, tally)),
+        TypedForm::If {
+            condition: e,
+            yes,
+            no,
+        } => match condition(e, line, env, heap, tally) {
+            Err(end) => Ok(end),
+            Ok(true) => run_block(alloc, program, deep, yes, env, heap, tally),
+            Ok(false) => match no {
+                None => Ok(End::Normal),
+                Some(block) => run_block(alloc, program, deep, block, env, heap, tally),
+            },
+        },
+        TypedForm::While { condition: e, body } => {
+            run_while(alloc, program, deep, line, e, body, env, heap, tally)
+        }
+        TypedForm::Call {
+            result,
+            procedure,
+            arguments: list,
+        } => {
+            let called = run_called(
+                alloc,
+                program,
+                deep,
+                procedure.0,
+                list,
+                line,
+                env,
+                heap,
+                tally,
+            )?;
+            Ok(after(called, *result, env))
+        }
+    }
+}
+
+/// Takes the charge of a call, evaluates its arguments and runs it.
+#[cycle(run)]
+fn run_called(
+    alloc: Global,
+    program: &Program,
+    deep: u32,
+    procedure: u16,
+    list: &TypedList,
+    line: u32,
+    env: &[Value],
+    heap: &mut PlainHeap,
+    tally: &mut Tally,
+) -> Result<End, NoMemory>
+    requires ready { IsReady program.now.shape heap.old tally.old }
+    ensures meaning { (local : Option ℕ) → IfOk result (λ end. after_call local env.now (ending_of end env.now (world_of heap.new tally.new)) ≡ call_with program.now.shape local (map expr_of list.now) (λ vs w. call (routines_of program.now) deep procedure vs line w) line env.now (world_of heap.old tally.old)) }
+    ensures ready { OnOk result (IsReady program.now.shape heap.new tally.new) }
+    ensures fewer { OnOk result (tally.new.charges ≤ tally.old.charges) }
+{
+    if tally.charges == 0 {
+        return Ok(End::Spent(line));
+    }
+    tally.charges -= 1;
+    match arguments(alloc, list.as_slice(), env, heap)? {
+        Err(trap) => Ok(End::Trap(trap, line)),
+        Ok(values) => run_call(alloc, program, deep, procedure, values, line, heap, tally),
+    }
+}
+
+#[cycle(run)]
+fn run_while(
+    alloc: Global,
+    program: &Program,
+    deep: u32,
+    line: u32,
+    e: &Typed,
+    body: &TypedBlock,
+    env: &mut Vec<Value>,
+    heap: &mut PlainHeap,
+    tally: &mut Tally,
+) -> Result<End, NoMemory>
+    requires within { size-TypedBlock body.now ≤ deepest program.now.procedures.items.items }
+    requires ready { IsReady program.now.shape heap.old tally.old }
+    ensures meaning { IfOk result (λ end. ending_of end env.new.items (world_of heap.new tally.new) ≡ turns tally.old.charges program.now.shape (expr_of e.now) (exec program.now.shape (call (routines_of program.now) deep) (actions_of body.now)) line env.old.items (world_of heap.old tally.old)) }
+    ensures ready { OnOk result (IsReady program.now.shape heap.new tally.new) }
+    ensures fewer { OnOk result (tally.new.charges ≤ tally.old.charges) }
+{
+    loop {
+        match condition(e, line, env, heap, tally) {
+            Err(end) => return Ok(end),
+            Ok(true) => {}
+            Ok(false) => return Ok(End::Normal),
+        }
+        match run_block(alloc, program, deep, body, env, heap, tally)? {
+            End::Normal => {}
+            end => return Ok(end),
+        }
+    }
+}
+
+/// Runs a procedure, where `deep` more calls may become active, from a statement at this line.
+#[cycle(run)]
+fn run_call(
+    alloc: Global,
+    program: &Program,
+    deep: u32,
+    procedure: u16,
+    values: Vec<Value>,
+    line: u32,
+    heap: &mut PlainHeap,
+    tally: &mut Tally,
+) -> Result<End, NoMemory>
+    requires ready { IsReady program.now.shape heap.old tally.old }
+    ensures meaning { IfOk result (λ end. ending_of end [] (world_of heap.new tally.new) ≡ call (routines_of program.now) deep procedure values.items line (world_of heap.old tally.old)) }
+    ensures ready { OnOk result (IsReady program.now.shape heap.new tally.new) }
+    ensures fewer { OnOk result (tally.new.charges ≤ tally.old.charges) }
+{
+    if deep == 0 {
+        return Ok(End::Trap(TrapKind::Depth, line));
+    }
+    run_body(alloc, program, deep - 1, procedure, values, heap, tally)
+}
+
+/// Runs the body of a procedure, where `deep` more calls may become active.
+#[cycle(run)]
+pub fn run_body(
+    alloc: Global,
+    program: &Program,
+    deep: u32,
+    procedure: u16,
+    values: Vec<Value>,
+    heap: &mut PlainHeap,
+    tally: &mut Tally,
+) -> Result<End, NoMemory>
+    requires ready { IsReady program.now.shape heap.old tally.old }
+    ensures meaning { IfOk result (λ end. ending_of end [] (world_of heap.new tally.new) ≡ run_body program.now.shape (call (routines_of program.now) deep) (slice_get (routines_of program.now).procedures procedure) values.items (world_of heap.old tally.old)) }
+    ensures ready { OnOk result (IsReady program.now.shape heap.new tally.new) }
+    ensures fewer { OnOk result (tally.new.charges ≤ tally.old.charges) }
+{
+    match procedure_at(program, procedure) {
+        None => Ok(End::Return(None)),
+        Some(p) => {
+            let mut env = first_env(values, p.kinds.as_slice())?;
+            match run_block(alloc, program, deep, &p.body, &mut env, heap, tally)? {
+                End::Normal => Ok(End::Return(default_result(p.result))),
+                end => Ok(end),
+            }
+        }
+    }
+}

@@ -1,0 +1,222 @@
+//! The statements that hold no other statement.
+
+ghost use Rattle.std.specs.Prelude.{◌≡◌, ◌+◌, ◌≤◌, ◌<◌, List, IfOk, OnOk, slice_set};
+ghost use Rattle.std.specs.Option.{option_map};
+ghost use Rattle.pst_program.specs.declared.meaning.Value.{Value};
+ghost use Rattle.pst_program.specs.Meaning.{World, Ending, set_local, set_root, store_field, make, print_value, return_value, if_else, is_target};
+ghost use Rattle.pst_program.specs.View.{expr_of};
+ghost use Rattle.pst_eval.specs.Ends.{ending_of, world_of, goes_on, IsReady};
+
+use crate::tally::{End, Tally};
+use crate::value::{ROOT, number, value};
+use crate::write::write;
+use pst_base::{NoMemory, SlotNo, TrapKind, TypeNo, TypeShape};
+use pst_heap::PlainHeap;
+use pst_program::{Typed, Value};
+
+/// The most numbers that a run prints.
+const OUTPUT: usize = 65_536;
+
+/// `x = e;` with a local.
+pub fn set_local(
+    x: u16,
+    e: &Typed,
+    line: u32,
+    env: &mut Vec<Value>,
+    heap: &PlainHeap,
+    tally: &mut Tally,
+) -> End
+    requires ready { IsReady heap.now.shape heap.now tally.old }
+    ensures meaning { ending_of result env.new.items (world_of heap.now tally.new) ≡ set_local heap.now.shape x (expr_of e.now) line env.old.items (world_of heap.now tally.old) }
+    ensures ready { IsReady heap.now.shape heap.now tally.new }
+    ensures fewer { tally.new.charges ≤ tally.old.charges }
+{
+    if tally.charges == 0 {
+        return End::Spent(line);
+    }
+    tally.charges -= 1;
+    match value(e, env, heap) {
+        Err(trap) => End::Trap(trap, line),
+        Ok(v) => {
+            set_at(env, x as usize, v);
+            End::Normal
+        }
+    }
+}
+
+/// Sets an element, if it is there.
+pub fn set_at(values: &mut Vec<Value>, at: usize, v: Value)
+    ensures { values.new.items ≡ slice_set values.old.items at v }
+{
+    if at < values.len() {
+        values[at] = v;
+    }
+}
+
+/// `g = e;` with a root.
+pub fn set_root(
+    slot: SlotNo,
+    e: &Typed,
+    line: u32,
+    env: &[Value],
+    heap: &mut PlainHeap,
+    tally: &mut Tally,
+) -> End
+    requires ready { IsReady heap.old.shape heap.old tally.old }
+    ensures meaning { ending_of result env.now (world_of heap.new tally.new) ≡ set_root heap.old.shape slot.0 (expr_of e.now) line env.now (world_of heap.old tally.old) }
+    ensures ready { IsReady heap.old.shape heap.new tally.new }
+    ensures fewer { tally.new.charges ≤ tally.old.charges }
+{
+    if tally.charges == 0 {
+        return End::Spent(line);
+    }
+    tally.charges -= 1;
+    match value(e, env, heap) {
+        Err(trap) => End::Trap(trap, line),
+        Ok(v) => write(ROOT, slot, v, line, heap, tally),
+    }
+}
+
+/// `o.f = e;`, where null traps before `e` is evaluated.
+pub fn store_field(
+    object: &Typed,
+    slot: SlotNo,
+    e: &Typed,
+    line: u32,
+    env: &[Value],
+    heap: &mut PlainHeap,
+    tally: &mut Tally,
+) -> End
+    requires ready { IsReady heap.old.shape heap.old tally.old }
+    ensures meaning { ending_of result env.now (world_of heap.new tally.new) ≡ store_field heap.old.shape (expr_of object.now) slot.0 (expr_of e.now) line env.now (world_of heap.old tally.old) }
+    ensures ready { IsReady heap.old.shape heap.new tally.new }
+    ensures fewer { tally.new.charges ≤ tally.old.charges }
+{
+    if tally.charges == 0 {
+        return End::Spent(line);
+    }
+    tally.charges -= 1;
+    match value(object, env, heap) {
+        Err(trap) => End::Trap(trap, line),
+        Ok(Value::Record(name)) => match value(e, env, heap) {
+            Err(trap) => End::Trap(trap, line),
+            Ok(v) => write(name, slot, v, line, heap, tally),
+        },
+        Ok(_) => End::Trap(TrapKind::Null, line),
+    }
+}
+
+/// `x = new T;`.
+pub fn make(
+    x: u16,
+    ty: TypeNo,
+    line: u32,
+    env: &mut Vec<Value>,
+    heap: &mut PlainHeap,
+    tally: &mut Tally,
+) -> Result<End, NoMemory>
+    requires ready { IsReady heap.old.shape heap.old tally.old }
+    ensures meaning { IfOk result (λ end. ending_of end env.new.items (world_of heap.new tally.new) ≡ make heap.old.shape x ty line env.old.items (world_of heap.old tally.old)) }
+    ensures ready { OnOk result (IsReady heap.old.shape heap.new tally.new) }
+    ensures fewer { OnOk result (tally.new.charges ≤ tally.old.charges) }
+{
+    if tally.charges == 0 {
+        return Ok(End::Spent(line));
+    }
+    tally.charges -= 1;
+    if !is_target(heap.shape().as_slice(), ty) {
+        return Ok(End::Trap(TrapKind::Null, line));
+    }
+    let name = tally.next_name();
+    heap.make(name, ty)?;
+    tally.made += 1;
+    tally.counts.records += 1;
+    set_at(env, x as usize, Value::Record(name));
+    Ok(End::Normal)
+}
+
+/// Whether a type number is that of a record type other than the root's.
+fn is_target(shape: &[TypeShape], ty: TypeNo) -> bool
+    ensures { result ≡ is_target shape.now ty }
+{
+    0 < ty.0 && (ty.0 as usize) < shape.len()
+}
+
+/// `print e;`.
+pub fn print(
+    e: &Typed,
+    line: u32,
+    env: &[Value],
+    heap: &PlainHeap,
+    tally: &mut Tally,
+) -> Result<End, NoMemory>
+    requires ready { IsReady heap.now.shape heap.now tally.old }
+    ensures meaning { IfOk result (λ end. ending_of end env.now (world_of heap.now tally.new) ≡ print_value heap.now.shape (expr_of e.now) line env.now (world_of heap.now tally.old)) }
+    ensures ready { OnOk result (IsReady heap.now.shape heap.now tally.new) }
+    ensures fewer { OnOk result (tally.new.charges ≤ tally.old.charges) }
+{
+    if tally.charges == 0 {
+        return Ok(End::Spent(line));
+    }
+    tally.charges -= 1;
+    match value(e, env, heap) {
+        Err(trap) => Ok(End::Trap(trap, line)),
+        Ok(v) => {
+            if tally.printed.len() >= OUTPUT {
+                return Ok(End::Trap(TrapKind::Output, line));
+            }
+            tally.printed.push(number(v))?;
+            Ok(End::Normal)
+        }
+    }
+}
+
+/// `return;` or `return e;`.
+pub fn give_back(
+    e: &Option<Typed>,
+    line: u32,
+    env: &[Value],
+    heap: &PlainHeap,
+    tally: &mut Tally,
+) -> End
+    requires ready { IsReady heap.now.shape heap.now tally.old }
+    ensures meaning { ending_of result env.now (world_of heap.now tally.new) ≡ return_value heap.now.shape (option_map expr_of e.now) line env.now (world_of heap.now tally.old) }
+    ensures ready { IsReady heap.now.shape heap.now tally.new }
+    ensures fewer { tally.new.charges ≤ tally.old.charges }
+{
+    if tally.charges == 0 {
+        return End::Spent(line);
+    }
+    tally.charges -= 1;
+    match e {
+        None => End::Return(None),
+        Some(e) => match value(e, env, heap) {
+            Err(trap) => End::Trap(trap, line),
+            Ok(v) => End::Return(Some(v)),
+        },
+    }
+}
+
+/// Takes a charge and evaluates a condition; an end, where there is no charge or a trap.
+pub fn condition(
+    e: &Typed,
+    line: u32,
+    env: &[Value],
+    heap: &PlainHeap,
+    tally: &mut Tally,
+) -> Result<bool, End>
+    requires ready { IsReady heap.now.shape heap.now tally.old }
+    ensures meaning { (first other : List Value → World → Ending) → if_else heap.now.shape (expr_of e.now) first other line env.now (world_of heap.now tally.old) ≡ goes_on result first other env.now (world_of heap.now tally.new) }
+    ensures ready { IsReady heap.now.shape heap.now tally.new }
+    ensures fewer { IfOk result (λ _. tally.new.charges < tally.old.charges) }
+    ensures no_more { tally.new.charges ≤ tally.old.charges }
+{
+    if tally.charges == 0 {
+        return Err(End::Spent(line));
+    }
+    tally.charges -= 1;
+    match value(e, env, heap) {
+        Err(trap) => Err(End::Trap(trap, line)),
+        Ok(v) => Ok(crate::value::truth(v)),
+    }
+}

@@ -1,0 +1,162 @@
+// Runs of programs that are built by hand.
+use crate::{Outcome, RunSpec, evaluate};
+use pst_base::{
+    Kind, Kinds, Numbers, Op, ProcNo, RunNo, Shape, SlotNo, Targets, Text, Trap, TrapKind, TypeNo,
+    TypeShape,
+};
+use pst_heap::PlainHeap;
+use pst_program::{
+    Ended, FieldNames, Program, TypeEntry, TypeNames, Typed, TypedBlock, TypedForm, TypedList,
+    TypedProc, TypedProcs, TypedStatement,
+};
+use std::alloc::{AllocError, Global};
+use std::test::Fail;
+
+// A root record with one root for numbers.
+fn one_root(alloc: Global) -> Result<Shape, AllocError> {
+    let mut types = Vec::new(alloc);
+    types.push(TypeShape {
+        values: 1,
+        targets: Targets::from_vec(Vec::new(alloc)),
+        limit: 1,
+    })?;
+    Ok(Shape::from_vec(types))
+}
+
+fn one(alloc: Global, line: u32, form: TypedForm) -> Result<TypedBlock, AllocError> {
+    let mut items = Vec::new(alloc);
+    items.push(TypedStatement { line, form })?;
+    Ok(TypedBlock { items })
+}
+
+// A program with one procedure of one parameter.
+fn program(alloc: Global, body: TypedBlock) -> Result<Program, AllocError> {
+    let mut kinds = Vec::new(alloc);
+    kinds.push(Kind::Int)?;
+    let mut procedures = Vec::new(alloc);
+    procedures.push(TypedProc {
+        name: Text::from_vec(b"p".to_vec(alloc)?),
+        query: false,
+        arguments: 1,
+        result: None,
+        kinds: Kinds::from_vec(kinds),
+        body,
+    })?;
+    let mut names = Vec::new(alloc);
+    names.push(TypeEntry {
+        name: Text::from_vec(b"root".to_vec(alloc)?),
+        fields: FieldNames::from_vec(Vec::new(alloc)),
+    })?;
+    Ok(Program {
+        shape: one_root(alloc)?,
+        names: TypeNames::from_vec(names),
+        procedures: TypedProcs { items: procedures },
+    })
+}
+
+fn binary(alloc: Global, op: Op, left: Typed, right: Typed) -> Result<Typed, AllocError> {
+    Ok(Typed::Binary {
+        op,
+        left: Box::new(alloc, left)?,
+        right: Box::new(alloc, right)?,
+    })
+}
+
+// What a run comes to on the heap of the root record alone, if the shape is valid.
+fn run(
+    alloc: Global,
+    program: &Program,
+    argument: i64,
+    budget: u32,
+) -> Result<Option<Outcome>, AllocError> {
+    let mut arguments = Vec::new(alloc);
+    arguments.push(argument)?;
+    let spec = RunSpec {
+        run: RunNo(1),
+        procedure: ProcNo(0),
+        arguments: Numbers::from_vec(arguments),
+        budget,
+        granted: budget,
+    };
+    if !program.shape.is_valid() {
+        return Ok(None);
+    }
+    let mut heap = PlainHeap::initial(alloc, &program.shape)?;
+    Ok(Some(evaluate(alloc, program, &mut heap, &spec)?))
+}
+
+#[test]
+fn counts_up(rt: HostRuntime) -> Result<(), Fail> {
+    let alloc = rt.alloc();
+    let more = binary(alloc, Op::Add, Typed::Local(0), Typed::Number(1))?;
+    let body = one(
+        alloc,
+        2,
+        TypedForm::Set {
+            local: 0,
+            value: more,
+        },
+    )?;
+    let condition = binary(alloc, Op::Less, Typed::Local(0), Typed::Number(5))?;
+    let mut block = one(alloc, 1, TypedForm::While { condition, body })?;
+    block.items.push(TypedStatement {
+        line: 4,
+        form: TypedForm::Print(Typed::Local(0)),
+    })?;
+    let root = SlotNo(0);
+    block.items.push(TypedStatement {
+        line: 5,
+        form: TypedForm::SetRoot {
+            field: root,
+            value: Typed::Local(0),
+        },
+    })?;
+    let program = program(alloc, block)?;
+    // Three turns, the condition that does not hold, the print and the write: nine charges.
+    let outcome = run(alloc, &program, 2, 9)?.expect(&rt, "a valid shape");
+    assert_eq!(rt; outcome.ended, Ended::Done);
+    assert_eq!(rt; outcome.printed.as_slice(), [5].as_slice());
+    assert_eq!(rt; outcome.counts.value_writes, 1);
+    let outcome = run(alloc, &program, 2, 8)?.expect(&rt, "a valid shape");
+    let trap = Trap {
+        kind: TrapKind::Budget,
+        line: 5,
+    };
+    assert_eq!(rt; outcome.ended, Ended::Trapped(trap));
+    Ok(())
+}
+
+// At the limits of the language: 256 calls, 15 blocks inside each body, and an expression of depth 64.
+#[test]
+fn deepest_calls_fit_the_stack(rt: HostRuntime) -> Result<(), Fail> {
+    let alloc = rt.alloc();
+    let mut deep = Typed::Local(0);
+    for _ in 0..63 {
+        deep = Typed::Negate(Box::new(alloc, deep)?);
+    }
+    let mut list = Vec::new(alloc);
+    list.push(deep)?;
+    let call = TypedForm::Call {
+        result: None,
+        procedure: ProcNo(0),
+        arguments: TypedList::from_vec(list),
+    };
+    let mut block = one(alloc, 100, call)?;
+    for line in 1..16u32 {
+        let condition = binary(alloc, Op::Equal, Typed::Number(0), Typed::Number(0))?;
+        let form = TypedForm::If {
+            condition,
+            yes: block,
+            no: None,
+        };
+        block = one(alloc, line, form)?;
+    }
+    let program = program(alloc, block)?;
+    let outcome = run(alloc, &program, 7, 1_000_000)?.expect(&rt, "a valid shape");
+    let trap = Trap {
+        kind: TrapKind::Depth,
+        line: 100,
+    };
+    assert_eq!(rt; outcome.ended, Ended::Trapped(trap));
+    Ok(())
+}
