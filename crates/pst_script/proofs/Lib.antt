@@ -1,0 +1,5 @@
+pub mod WordLemmas
+pub mod NumeralLemmas
+pub mod CallLemmas
+pub mod SpelledLemmas
+pub mod CommandLemmas

@@ -1,0 +1,6 @@
+pub mod Words
+pub mod Numerals
+pub mod Names
+pub mod Commands
+pub mod Texts
+pub mod Spelled

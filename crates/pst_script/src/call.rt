@@ -1,0 +1,102 @@
+//! The calls of a script: which procedure runs on which version, with which arguments.
+ghost use Rattle.std.specs.Prelude.{◌≡◌, true, is_some, IfOk, MatchOption, Some, None, ⊤};
+ghost use Rattle.pst_script.specs.Words.{words};
+ghost use Rattle.pst_script.specs.Commands.{arguments_of, all_fit, call_of, IsCallOf, IsReadAs, judged, call_in_range};
+
+use crate::command::{Call, LineFault};
+use crate::names::is_name;
+use crate::numerals::{argument, is_argument, is_numeral, number};
+use crate::words::split_word;
+use pst_base::{Numbers, Text, VersionNo};
+use std::alloc::{AllocError, Global};
+
+/// The words of a call. The arguments stand in one piece.
+#[derive(Clone, Copy)]
+struct CallWords<'a> {
+    version: &'a [u8],
+    procedure: &'a [u8],
+    arguments: &'a [u8],
+}
+
+/// Whether all words are arguments.
+fn are_arguments(rest: &[u8]) -> bool
+    ensures { result ≡ is_some (arguments_of (words rest.now)) }
+{
+    let mut left = rest;
+    while let Some((word, behind)) = split_word(left) {
+        if !is_argument(word) {
+            return false;
+        }
+        left = behind;
+    }
+    true
+}
+
+/// Whether all arguments have at most 64 bits.
+fn fit_arguments(rest: &[u8]) -> bool
+    requires { is_some (arguments_of (words rest.now)) ≡ true }
+    ensures { result ≡ all_fit (arguments_of (words rest.now)) }
+{
+    let mut left = rest;
+    while let Some((word, behind)) = split_word(left) {
+        if argument(word).is_none() {
+            return false;
+        }
+        left = behind;
+    }
+    true
+}
+
+/// The arguments.
+fn read_arguments(alloc: Global, rest: &[u8]) -> Result<Numbers, AllocError>
+    requires written { is_some (arguments_of (words rest.now)) ≡ true }
+    requires fit { all_fit (arguments_of (words rest.now)) ≡ true }
+    ensures { IfOk result (λ arguments. arguments_of (words rest.now) ≡ Some arguments) }
+{
+    let mut arguments = Vec::new(alloc);
+    let mut left = rest;
+    while let Some((word, behind)) = split_word(left) {
+        arguments.push(argument(word).unwrap())?;
+        left = behind;
+    }
+    Ok(Numbers::from_vec(arguments))
+}
+
+/// The words of a call. None where one of them has not the form.
+fn split_call(rest: &[u8]) -> Option<CallWords<'_>>
+    ensures { MatchOption result (call_of (words rest.now) ≡ None) (λ call. IsCallOf call.version.now call.procedure.now (words call.arguments.now) (words rest.now)) }
+{
+    let (version, behind) = split_word(rest)?;
+    let (procedure, arguments) = split_word(behind)?;
+    if !is_numeral(version) || !is_name(procedure) {
+        return None;
+    }
+    if !are_arguments(arguments) {
+        return None;
+    }
+    Some(CallWords {
+        version,
+        procedure,
+        arguments,
+    })
+}
+
+/// The call that the words behind a verb are. No memory is taken before all of them are judged.
+pub(crate) fn read_call(alloc: Global, rest: &[u8]) -> Result<Call, LineFault>
+    ensures { IsReadAs (λ _. ⊤) (judged call_in_range (call_of (words rest.now))) result }
+{
+    let Some(call) = split_call(rest) else {
+        return Err(LineFault::Line);
+    };
+    let Some(version) = number(call.version) else {
+        return Err(LineFault::Number);
+    };
+    if !fit_arguments(call.arguments) {
+        return Err(LineFault::Number);
+    }
+    Ok(Call {
+        version: VersionNo(version),
+        procedure: Text::from_vec(Vec::from_slice(alloc, call.procedure)?),
+        arguments: read_arguments(alloc, call.arguments)?,
+    })
+}
