@@ -1,0 +1,11 @@
+pub mod Lists
+pub mod Heaps
+pub mod Sums
+pub mod Steps
+pub mod Sound
+pub mod Refusals
+pub mod After
+pub mod Apart
+pub mod Accepting
+pub mod LawLemmas
+pub mod DirectLemmas
