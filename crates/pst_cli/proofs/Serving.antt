@@ -1,0 +1,119 @@
+-- What comes of the text of a program.
+use Rattle.std.proofs.Common.{◌≡◌, ℕ, ◌<◌, inl, inr, List, [], ◌∷◌, length, take, refl, sym, ap, ◌∙◌, subst, arith, Option, None, Some, append-nil}
+use Rattle.std.specs.Prelude.{IfSome, IsSome}
+use Rattle.std.specs.Io.KnownBytes.{Appends, IsAtEnd}
+use Rattle.pst_tree.specs.Syntax.{Item}
+use Rattle.pst_types.specs.Declarations.{NamedProgram}
+use Rattle.pst_notation.specs.Canonical.{canonical}
+use Rattle.pst_program.specs.declared.program.Program.{Program}
+use Rattle.pst_types.specs.ProcedureView.{program_of}
+use Rattle.pst_history.specs.declared.history.History.{History}
+use Rattle.pst_history.specs.History.{opening}
+use Rattle.pst_history.specs.Direct.{meaning_of}
+use Rattle.pst_io.specs.Text.{whole_lines}
+use Rattle.pst_io.specs.Input.{InputState, Gives, IsOver}
+use Rattle.pst_io.proofs.Handing.{gives_none}
+use Rattle.pst_cli.specs.declared.fault.Fault.{Fault}
+use Rattle.pst_cli.specs.declared.job.Job.{Job}
+use Rattle.pst_cli.specs.declared.job.Job.TheVariants.{Run, Replay, Check}
+use Rattle.pst_cli.specs.declared.stop.Stop.{Stop}
+use Rattle.pst_cli.specs.declared.stop.Stop.TheVariants as stop
+use Rattle.pst_cli.specs.declared.status.Status.{Status}
+use Rattle.pst_cli.specs.declared.status.Status.TheVariants.{Done, ReadFault, WriteFault, Usage, Refused, TooLong, Memory}
+use Rattle.pst_cli.specs.Input.{Parts, cut}
+use Rattle.pst_cli.specs.Pieces.{pieces_from, IsAll, IsCutInPiece}
+use Rattle.pst_cli.specs.Script.{script_of}
+use Rattle.pst_cli.specs.Verdict.{Accepted, Refused as IsRefusedBy, Judged, HasFault}
+use Rattle.pst_cli.specs.Reading.{GivesUntil}
+use Rattle.pst_cli.specs.Rows.{most, IsWithin, CutOff, Row, IsComplete}
+use Rattle.pst_cli.specs.Stages.{Refuses, StopsAtReply, IsWrittenUntil, Serves, Prints, status_of}
+
+one_part : (piece out : List ℕ) (n : ℕ) → n < length piece → out ≡ take n piece → IsCutInPiece (piece ∷ []) out
+one_part piece out n short is = record { done = []; piece = piece; rest = []; count = n; split = refl; short = short; bytes = is }
+
+one_whole : (piece out : List ℕ) → out ≡ piece → IsAll (piece ∷ []) out
+one_whole piece out is = is ∙ sym (append-nil piece)
+
+-- ---- a fault
+
+pub fault_printed : (status : Status) (text out : List ℕ) (fault : Fault) → HasFault text fault.kind fault.line → Refuses status fault out → Prints status text out
+fault_printed Refused text out fault has w = (IsRefusedBy fault, has, tt, one_whole _ out w)
+fault_printed WriteFault text out fault has w = (IsRefusedBy fault, has, tt, one_part _ out w.0 w.1 w.2)
+fault_printed Memory text out fault has w = w
+fault_printed Done text out fault has w = absurd w
+fault_printed ReadFault text out fault has w = absurd w
+fault_printed TooLong text out fault has w = absurd w
+fault_printed Usage text out fault has w = absurd w
+
+pub fault_served : (status : Status) (a : InputState) (left : Option (List ℕ)) (text out : List ℕ) (fault : Fault) → HasFault text fault.kind fault.line → Refuses status fault out → Serves status a left a left text out
+fault_served Refused a left text out fault has w = (IsRefusedBy fault, has, tt, one_whole _ out w)
+fault_served WriteFault a left text out fault has w = ([], gives_none a left, (IsRefusedBy fault, has, tt, one_part _ out w.0 w.1 w.2))
+fault_served Memory a left text out fault has w = inl w
+fault_served Done a left text out fault has w = absurd w
+fault_served ReadFault a left text out fault has w = absurd w
+fault_served TooLong a left text out fault has w = absurd w
+fault_served Usage a left text out fault has w = absurd w
+
+-- ---- the canonical text
+
+pub canonical_printed : (text piece out : List ℕ) (items : List Item) (program : NamedProgram) → Judged text (Accepted items program) → piece ≡ canonical items → out ≡ piece → Prints Done text out
+canonical_printed text piece out items program judged is w = (Accepted items program, judged, tt, one_whole _ out (w ∙ is))
+
+pub canonical_stopped : (s : Stop) (text piece out : List ℕ) (items : List Item) (program : NamedProgram) → Judged text (Accepted items program) → piece ≡ canonical items
+    → StopsAtReply s (Some piece) out → Prints (status_of s) text out
+canonical_stopped stop.Write text piece out items program judged is (whole, n, same, short, part) =
+    let e : whole ≡ piece = cc in
+    let all : whole ≡ canonical items = e ∙ is in
+    (Accepted items program, judged, tt, one_part _ out n (subst (λ l. n < length l) all short) (part ∙ ap (take n) all))
+canonical_stopped stop.Memory text piece out items program judged is s = s
+canonical_stopped stop.Read text piece out items program judged is s = absurd s
+canonical_stopped stop.TooLong text piece out items program judged is s = absurd s
+
+-- ---- the script
+
+pub script_answered : (a b : InputState) (left left' : Option (List ℕ)) (text out : List ℕ) (items : List Item) (program : Program) (history : History) (given : List (List ℕ))
+    → Judged text (Accepted items (program_of program)) → history ≡ opening → Gives a left b left' given → IsOver b → IsAtEnd left' → IsAll (pieces_from (script_of (meaning_of program)) history given) out
+    → Serves Done a left b left' text out
+script_answered a b left left' text out items program history given judged new g over end w =
+    (given, g, over, end, (Accepted items (program_of program), judged, tt, subst (λ h. IsAll (pieces_from (script_of (meaning_of program)) h given) out) new w))
+
+stopped : (s : Stop) (a b : InputState) (left left' : Option (List ℕ)) (text out : List ℕ) (items : List Item) (program : Program) (given : List (List ℕ))
+    → Judged text (Accepted items (program_of program)) → GivesUntil s a left b left' given → IsWrittenUntil s (pieces_from (script_of (meaning_of program)) opening given) out
+    → Serves (status_of s) a left b left' text out
+stopped stop.Read a b left left' text out items program given judged g w = (given, g.0, g.1, (Accepted items (program_of program), judged, tt, w))
+stopped stop.TooLong a b left left' text out items program given judged g w = (given, g.0, g.1, (Accepted items (program_of program), judged, tt, w))
+stopped stop.Write a b left left' text out items program given judged g w = (given, g, (Accepted items (program_of program), judged, tt, w))
+stopped stop.Memory a b left left' text out items program given judged g w = inr (given, g, (Accepted items (program_of program), judged, tt, w))
+
+pub script_stopped : (s : Stop) (a b : InputState) (left left' : Option (List ℕ)) (text out : List ℕ) (items : List Item) (program : Program) (history : History) (given : List (List ℕ))
+    → Judged text (Accepted items (program_of program)) → history ≡ opening → GivesUntil s a left b left' given → IsWrittenUntil s (pieces_from (script_of (meaning_of program)) history given) out
+    → Serves (status_of s) a left b left' text out
+script_stopped s a b left left' text out items program history given judged new g w =
+    stopped s a b left left' text out items program given judged g (subst (λ h. IsWrittenUntil s (pieces_from (script_of (meaning_of program)) h given) out) new w)
+
+-- ---- how a call ends where nothing failed
+
+not_cut_off : (o : Option Parts) (out : List ℕ) → IsSome o → CutOff o Check out → ⊥
+not_cut_off None out there off = cc
+not_cut_off (Some parts) out there off = off
+
+not_too_long : (job : Job) (input out : List ℕ) (left : Option (List ℕ)) → IsWithin job input → Row TooLong job input left out → ⊥
+not_too_long Run input out left within (long, off) = omega (arith, within, long)
+not_too_long Replay input out left within (long, off) = omega (arith, within, long)
+not_too_long Check input out left (inl within) (long, off) = omega (arith, within, long)
+not_too_long Check input out left (inr there) (long, off) = not_cut_off (cut (whole_lines (take most input))) out there off
+
+complete : (status : Status) (job : Job) (input out : List ℕ) (left : Option (List ℕ)) (P Q : Type 0) → Row status job input left out → (status ≡ ReadFault → P) → (status ≡ WriteFault → Q)
+    → IsWithin job input → (P → ⊥) → (Q → ⊥) → IsComplete status
+complete Done job input out left P Q row read write within p q = tt
+complete Refused job input out left P Q row read write within p q = tt
+complete Memory job input out left P Q row read write within p q = tt
+complete ReadFault job input out left P Q row read write within p q = absurd (p (read refl))
+complete WriteFault job input out left P Q row read write within p q = absurd (q (write refl))
+complete TooLong job input out left P Q row read write within p q = absurd (not_too_long job input out left within row)
+complete Usage job input out left P Q row read write within p q = absurd row
+
+pub completes : (status : Status) (job : Job) (left left' sink sink' : Option (List ℕ)) (P Q : Type 0) → IfSome left (λ input. (out : List ℕ) × Appends sink sink' out × Row status job input left' out)
+    → (status ≡ ReadFault → P) → (status ≡ WriteFault → Q) → IfSome left (λ input. IsWithin job input → (P → ⊥) → (Q → ⊥) → IsComplete status)
+completes status job None left' sink sink' P Q row read write = tt
+completes status job (Some input) left' sink sink' P Q (out, written, row) read write = λ within p q. complete status job input out left' P Q row read write within p q

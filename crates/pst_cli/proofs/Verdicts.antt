@@ -1,0 +1,206 @@
+-- A text has at most one verdict.
+use Rattle.std.proofs.Common.{◌≡◌, ℕ, ◌⊎◌, inl, inr, Bool, true, false, List, [], ◌∷◌, ◌++◌, refl, sym, ap, ◌∙◌, subst, Result, Ok, Err, append-nil, append_assoc}
+use Rattle.pst_lex.specs.declared.types.Token.{Token}
+use Rattle.pst_lex.specs.declared.faults.LexFault.{LexFault}
+use Rattle.pst_lex.specs.declared.faults.LexFault.TheVariants as lexical
+use Rattle.pst_lex.specs.Lexing.{Faults}
+use Rattle.pst_lex.proofs.Unique.{one_lexing, one_fault, not_both}
+use Rattle.pst_tree.specs.Syntax as tree
+use Rattle.pst_parse.specs.Lexemes.{Lexeme, lexeme, lexemes}
+use Rattle.pst_parse.specs.Forms.{IsProgram, IsShallow}
+use Rattle.pst_parse.specs.Spelling.{Item, program}
+use Rattle.pst_parse.specs.Grammar.{Spells, Begins, IsUnexpected, IsTooDeep, line_at}
+use Rattle.pst_parse.proofs.Faults.{unique}
+use Rattle.pst_types.specs.declared.fault.TypeFault.{TypeFault}
+use Rattle.pst_types.specs.declared.fault.TypeFault.TheVariants as typing
+use Rattle.pst_types.specs.Declarations.{NamedProgram, checked}
+use Rattle.pst_cli.specs.declared.fault.FaultKind.{FaultKind}
+use Rattle.pst_cli.specs.declared.fault.FaultKind.TheVariants as kind
+use Rattle.std.specs.List.{concat}
+use Rattle.pst_cli.specs.declared.job.Job.{Job}
+use Rattle.pst_cli.specs.Input.{parts_of}
+use Rattle.pst_cli.specs.Pieces.{IsAll}
+use Rattle.pst_cli.specs.Output.{pieces}
+use Rattle.pst_cli.specs.Rows.{Writes}
+use Rattle.pst_cli.specs.Verdict.{IsEither, Verdict, Accepted, Refused, HasTree, HasParseFault, HasFault, Judged}
+
+-- ---- two places of a list
+
+-- the same place, or the second one is further, or the first one is
+abbrev Places : {A : Type 0} → (xs ys zs ws : List A) → Type 0
+Places {A} xs ys zs ws = ((xs ≡ zs) × (ys ≡ ws)) ⊎ (((t : A) × (more : List A) × (ys ≡ t ∷ (more ++ ws)) × (zs ≡ xs ++ (t ∷ more))) ⊎ ((t : A) × (more : List A) × (ws ≡ t ∷ (more ++ ys)) × (xs ≡ zs ++ (t ∷ more))))
+
+behind : {A : Type 0} (x : A) (xs ys zs ws : List A) → Places xs ys zs ws → Places (x ∷ xs) ys (x ∷ zs) ws
+behind x xs ys zs ws (inl (e, f)) = inl (ap (λ l. x ∷ l) e, f)
+behind x xs ys zs ws (inr (inl (t, more, e, f))) = inr (inl (t, more, e, ap (λ l. x ∷ l) f))
+behind x xs ys zs ws (inr (inr (t, more, e, f))) = inr (inr (t, more, e, ap (λ l. x ∷ l) f))
+
+abbrev head_or : {A : Type 0} → A → List A → A
+head_or a [] = a
+head_or a (x ∷ xs) = x
+
+abbrev tail_of : {A : Type 0} → List A → List A
+tail_of [] = []
+tail_of (x ∷ xs) = xs
+
+places : {A : Type 0} (xs ys zs ws : List A) → xs ++ ys ≡ zs ++ ws → Places xs ys zs ws
+places [] ys [] ws e = inl (refl, e)
+places [] ys (z ∷ zs) ws e = inr (inl (z, zs, e, refl))
+places (x ∷ xs) ys [] ws e = inr (inr (x, xs, sym e, refl))
+places (x ∷ xs) ys (z ∷ zs) ws e =
+    let first : x ≡ z = ap (head_or x) e in
+    subst (λ v. Places (x ∷ xs) ys (v ∷ zs) ws) first (behind x xs ys zs ws (places xs ys zs ws (ap tail_of e)))
+
+-- ---- where the first fault of tokens stands
+
+-- no program within the limits goes on
+abbrev GoesNot : List Lexeme → List Lexeme → Type 0
+GoesNot before [] = (p : List Item) → IsShallow 63 15 (program p) → Spells before p → ⊥
+GoesNot before (t ∷ ts) = Begins (IsShallow 63 15) (before ++ (t ∷ [])) → ⊥
+
+-- programs within the limits begin with those before, and none goes on
+abbrev Stops : List Lexeme → List Lexeme → Type 0
+Stops before rest = Begins (IsShallow 63 15) before × GoesNot before rest
+
+-- the sort of a fault: too deep, or not expected
+abbrev Sort : Bool → List Lexeme → List Lexeme → Type 0
+Sort true before rest = IsTooDeep 63 15 before rest
+Sort false before rest = IsUnexpected 63 15 before rest
+
+stops : (deep : Bool) (before rest : List Lexeme) → Sort deep before rest → Stops before rest
+stops true before [] h = absurd h
+stops true before (t ∷ ts) (begins, goes, none) = (begins, none)
+stops false before [] (begins, none) = (begins, λ p shallow spells. none p shallow.formed spells)
+stops false before (t ∷ ts) (begins, none) = (begins, λ b. none (b.0, b.1, b.2.formed, b.3))
+
+-- no further place of a fault is behind one
+further : (before rest : List Lexeme) (t : Lexeme) (more later : List Lexeme) → GoesNot before (t ∷ later) → Begins (IsShallow 63 15) (before ++ (t ∷ more)) → ⊥
+further before rest t more later none (p, end, shallow, spells) =
+    none (p, more ++ end, shallow, spells ∙ (append_assoc before (t ∷ more) end ∙ sym (append_assoc before (t ∷ []) (more ++ end))))
+
+-- a program within the limits has no fault
+no_fault : (before rest : List Lexeme) (p : List Item) → GoesNot before rest → IsShallow 63 15 (program p) → Spells (before ++ rest) p → ⊥
+no_fault before [] p none shallow spells = none p shallow (spells ∙ append-nil before)
+no_fault before (t ∷ ts) p none shallow spells = none (p, ts, shallow, spells ∙ sym (append_assoc before (t ∷ []) ts))
+
+lexemes-append : (xs ys : List Token) → lexemes (xs ++ ys) ≡ lexemes xs ++ lexemes ys
+lexemes-append [] ys = refl
+lexemes-append (x ∷ xs) ys = ap (λ l. lexeme x ∷ l) (lexemes-append xs ys)
+
+-- one sort of fault at one place
+one_sort : (d e : Bool) (before rest : List Lexeme) → Sort d before rest → Sort e before rest → d ≡ e
+one_sort true true before rest h k = refl
+one_sort false false before rest h k = refl
+one_sort true false before [] h k = absurd h
+one_sort true false before (t ∷ ts) (begins, goes, none) (begins', never) = absurd (never goes)
+one_sort false true before [] h k = absurd k
+one_sort false true before (t ∷ ts) (begins', never) (begins, goes, none) = absurd (never goes)
+
+-- a fault behind another one can't be
+not_behind : (before rest before' rest' : List Token) (t : Token) (more : List Token) → rest ≡ t ∷ (more ++ rest') → before' ≡ before ++ (t ∷ more)
+    → Stops (lexemes before) (lexemes rest) → Stops (lexemes before') (lexemes rest') → ⊥
+not_behind before rest before' rest' t more e f (begins, none) (begins', none') =
+    further (lexemes before) (lexemes rest) (lexeme t) (lexemes more) (lexemes (more ++ rest')) (subst (λ l. GoesNot (lexemes before) (lexemes l)) e none)
+    (subst (Begins (IsShallow 63 15)) (ap lexemes f ∙ lexemes-append before (t ∷ more)) begins')
+
+one_place : (tokens before rest before' rest' : List Token) (d e : Bool) → tokens ≡ before ++ rest → tokens ≡ before' ++ rest' → Sort d (lexemes before) (lexemes rest)
+    → Sort e (lexemes before') (lexemes rest') → (before ≡ before') × (rest ≡ rest')
+one_place tokens before rest before' rest' d e p q h k =
+    let one = stops d _ _ h in
+    let other = stops e _ _ k in
+    elim (places before rest before' rest' (sym p ∙ q)) [
+      | inl same ↦ same
+      | inr apart ↦ elim apart [
+        | inl (t, more, e1, e2) ↦ absurd (not_behind before rest before' rest' t more e1 e2 one other)
+        | inr (t, more, e1, e2) ↦ absurd (not_behind before' rest' before rest t more e1 e2 other one)
+      ]
+    ]
+
+-- ---- what is known of a text, by its stage
+
+abbrev of_lex : LexFault → Verdict
+of_lex (lexical.Byte line) = Refused (record { kind = kind.Byte; line = line })
+of_lex (lexical.Number line) = Refused (record { kind = kind.Number; line = line })
+of_lex (lexical.NameLength line) = Refused (record { kind = kind.NameLength; line = line })
+of_lex lexical.Memory = Refused (record { kind = kind.Byte; line = 0 })
+
+abbrev of_parse : Bool → ℕ → Verdict
+of_parse true line = Refused (record { kind = kind.TooDeep; line = line })
+of_parse false line = Refused (record { kind = kind.Unexpected; line = line })
+
+abbrev of_checked : List tree.Item → Result NamedProgram TypeFault → Verdict
+of_checked items (Ok typed) = Accepted items typed
+of_checked items (Err (typing.Unknown line)) = Refused (record { kind = kind.Unknown; line = line })
+of_checked items (Err (typing.Duplicate line)) = Refused (record { kind = kind.Duplicate; line = line })
+of_checked items (Err (typing.Mismatch line)) = Refused (record { kind = kind.Mismatch; line = line })
+of_checked items (Err (typing.Limit line)) = Refused (record { kind = kind.Limit; line = line })
+of_checked items (Err (typing.TooMany line)) = Refused (record { kind = kind.TooMany; line = line })
+of_checked items (Err (typing.QueryWrites line)) = Refused (record { kind = kind.QueryWrites; line = line })
+of_checked items (Err typing.Memory) = Refused (record { kind = kind.Byte; line = 0 })
+
+abbrev Stage : List ℕ → Verdict → Type 0
+Stage text v =
+    ((f : LexFault) × Faults text f × (v ≡ of_lex f))
+    ⊎ (((deep : Bool) × (line : ℕ) × HasParseFault text (Sort deep) line × (v ≡ of_parse deep line))
+    ⊎ ((items : List tree.Item) × HasTree text items × (v ≡ of_checked items (checked items))))
+
+typed_stage : (text : List ℕ) (v : Verdict) (items : List tree.Item) (answer : Result NamedProgram TypeFault) → HasTree text items → checked items ≡ answer → v ≡ of_checked items answer → Stage text v
+typed_stage text v items answer has is e = inr (inr (items, has, e ∙ ap (of_checked items) (sym is)))
+
+fault_stage : (text : List ℕ) (k : FaultKind) (line : ℕ) → HasFault text k line → Stage text (Refused (record { kind = k; line = line }))
+fault_stage text kind.Byte line h = inl (lexical.Byte line, h, refl)
+fault_stage text kind.Number line h = inl (lexical.Number line, h, refl)
+fault_stage text kind.NameLength line h = inl (lexical.NameLength line, h, refl)
+fault_stage text kind.Unexpected line h = inr (inl (false, line, h, refl))
+fault_stage text kind.TooDeep line h = inr (inl (true, line, h, refl))
+fault_stage text kind.Unknown line (items, has, is) = typed_stage text _ items (Err (typing.Unknown line)) has is refl
+fault_stage text kind.Duplicate line (items, has, is) = typed_stage text _ items (Err (typing.Duplicate line)) has is refl
+fault_stage text kind.Mismatch line (items, has, is) = typed_stage text _ items (Err (typing.Mismatch line)) has is refl
+fault_stage text kind.Limit line (items, has, is) = typed_stage text _ items (Err (typing.Limit line)) has is refl
+fault_stage text kind.TooMany line (items, has, is) = typed_stage text _ items (Err (typing.TooMany line)) has is refl
+fault_stage text kind.QueryWrites line (items, has, is) = typed_stage text _ items (Err (typing.QueryWrites line)) has is refl
+
+stage : (text : List ℕ) (v : Verdict) → Judged text v → Stage text v
+stage text (Accepted items typed) (has, is) = typed_stage text (Accepted items typed) items (Ok typed) has is refl
+stage text (Refused fault) h = fault_stage text fault.kind fault.line h
+
+-- ---- a text has one stage
+
+same_tree : (text : List ℕ) (items items' : List tree.Item) → HasTree text items → HasTree text items' → items ≡ items'
+same_tree text items items' (a, lexes, (p, is, shallow, spells)) (b, lexes', (q, is', shallow', spells')) =
+    let (same, end) = one_lexing text a.list b.list a.end b.end lexes lexes' in
+    let formed : IsProgram (program p) = subst IsProgram (sym is) shallow.formed in
+    let formed' : IsProgram (program q) = subst IsProgram (sym is') shallow'.formed in
+    sym is ∙ unique (lexemes b.list) p q formed formed' (subst (λ l. Spells (lexemes l) p) same spells) spells' ∙ is'
+
+fault_or_tree : (text : List ℕ) (deep : Bool) (line : ℕ) (items : List tree.Item) → HasParseFault text (Sort deep) line → HasTree text items → ⊥
+fault_or_tree text deep line items (a, lexes, (before, rest, split, sort, on)) (b, lexes', (p, is, shallow, spells)) =
+    let (same, end) = one_lexing text b.list a.list b.end a.end lexes' lexes in
+    no_fault (lexemes before) (lexemes rest) p (stops deep _ _ sort).1 (subst (IsShallow 63 15) (sym is) shallow)
+    (subst (λ l. Spells l p) (ap lexemes (same ∙ split) ∙ lexemes-append before rest) spells)
+
+same_fault : (text : List ℕ) (d e : Bool) (line line' : ℕ) → HasParseFault text (Sort d) line → HasParseFault text (Sort e) line' → of_parse d line ≡ of_parse e line'
+same_fault text d e line line' (a, lexes, (before, rest, split, sort, on)) (b, lexes', (before', rest', split', sort', on')) =
+    let (same, end) = one_lexing text a.list b.list a.end b.end lexes lexes' in
+    let (one, other) = one_place a.list before rest before' rest' d e split (same ∙ split') sort sort' in
+    let sorts : d ≡ e = one_sort d e (lexemes before') (lexemes rest') (subst (λ l. Sort d (lexemes before') (lexemes l)) other (subst (λ l. Sort d (lexemes l) (lexemes rest)) one sort)) sort' in
+    let lines : line ≡ line' = on ∙ ap (λ n. line_at n rest) end ∙ ap (line_at b.end) other ∙ sym on' in
+    ap (λ k. of_parse k line) sorts ∙ ap (of_parse e) lines
+
+same_stage : (text : List ℕ) (v w : Verdict) → Stage text v → Stage text w → v ≡ w
+same_stage text v w (inl (f, h, is)) (inl (g, k, is')) = is ∙ ap of_lex (one_fault text f g h k) ∙ sym is'
+same_stage text v w (inl (f, h, is)) (inr (inl (deep, line, (tokens, lexes, stands), is'))) = absurd (not_both text tokens.list tokens.end f lexes h)
+same_stage text v w (inl (f, h, is)) (inr (inr (items, (tokens, lexes, spelled), is'))) = absurd (not_both text tokens.list tokens.end f lexes h)
+same_stage text v w (inr (inl (deep, line, (tokens, lexes, stands), is'))) (inl (f, h, is)) = absurd (not_both text tokens.list tokens.end f lexes h)
+same_stage text v w (inr (inr (items, (tokens, lexes, spelled), is'))) (inl (f, h, is)) = absurd (not_both text tokens.list tokens.end f lexes h)
+same_stage text v w (inr (inl (d, line, h, is))) (inr (inl (e, line', k, is'))) = is ∙ same_fault text d e line line' h k ∙ sym is'
+same_stage text v w (inr (inl (d, line, h, is))) (inr (inr (items, k, is'))) = absurd (fault_or_tree text d line items h k)
+same_stage text v w (inr (inr (items, k, is'))) (inr (inl (d, line, h, is))) = absurd (fault_or_tree text d line items h k)
+same_stage text v w (inr (inr (items, h, is))) (inr (inr (items', k, is'))) = is ∙ ap (λ i. of_checked i (checked i)) (same_tree text items items' h k) ∙ sym is'
+
+pub one_verdict : (text : List ℕ) (v w : Verdict) → Judged text v → Judged text w → v ≡ w
+one_verdict text v w h k = same_stage text v w (stage text v h) (stage text w k)
+
+pub one_output : (input : List ℕ) (job : Job) (out out' : List ℕ) → Writes IsEither IsAll job (parts_of input) out → Writes IsEither IsAll job (parts_of input) out' → out ≡ out'
+one_output input job out out' (v, judged, is, all) (w, judged', is', all') =
+    all ∙ ap (λ u. concat (pieces job (parts_of input).script u)) (one_verdict (parts_of input).text v w judged judged') ∙ sym all'

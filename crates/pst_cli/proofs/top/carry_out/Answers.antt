@@ -1,0 +1,27 @@
+use Rattle.std.proofs.Common.{ap, Err}
+use Rattle.pst_cli.proofs.RowLemmas.{text_stopped, text_served, text_replayed, text_printed}
+use Rattle.pst_cli.proofs.top.carry_out.Goals as goal
+
+pub returns-in-Err-clause-table : goal.returns-in-Err-clause-table
+returns-in-Err-clause-table g c =
+    let r = c.in-Err.ensures in
+    let (given, stopped, none) = r.stopped in
+    text_stopped c.args.job c.in-Err.stop c.status_of.result c.args.lines.now.input c.read_text.new.lines.input _ _ _ given c.status_of.ensures (ap (λ s. s.input) c.requires)
+    (λ e. r.not_write (ap (λ s. Err s) e)) stopped none r.within
+
+pub returns-in-Check-clause-table : goal.returns-in-Check-clause-table
+returns-in-Check-clause-table g c =
+    let r = c.in-Ok.ensures in
+    rw c.in-Check.is (text_printed c.print.result c.args.lines.now.input c.read_text.new.lines.input _ _ _ _ c.in-Ok.text.items (ap (λ s. s.input) c.requires) r.text r.open.seen r.within c.print.ensures.printed)
+
+pub returns-in-Run-clause-table : goal.returns-in-Run-clause-table
+returns-in-Run-clause-table g c =
+    let r = c.in-Ok.ensures in
+    rw c.in-Run.is (text_served c.serve.result c.args.lines.now.input c.read_text.new.lines.input c.serve.new.lines.input _ _ _ _ _ c.in-Ok.text.items (ap (λ s. s.input) c.requires) r.text r.open.seen r.within
+    c.serve.ensures.within c.serve.ensures.served)
+
+pub returns-in-Replay-clause-table : goal.returns-in-Replay-clause-table
+returns-in-Replay-clause-table g c =
+    let r = c.in-Ok.ensures in
+    rw c.in-Replay.is (text_replayed c.serve-in-Replay.result _ _ _ _ (text_served c.serve-in-Replay.result c.args.lines.now.input c.read_text.new.lines.input c.serve-in-Replay.new.lines.input _ _ _ _ _ c.in-Ok.text.items (ap (λ s. s.input) c.requires) r.text r.open.seen
+    r.within c.serve-in-Replay.ensures.within c.serve-in-Replay.ensures.served))

@@ -1,0 +1,11 @@
+pub mod Input
+pub mod Pieces
+pub mod Script
+pub mod Verdict
+pub mod Jobs
+pub mod Output
+pub mod Reasons
+pub mod Reading
+pub mod Rows
+pub mod Stages
+pub mod Laws

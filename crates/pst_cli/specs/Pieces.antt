@@ -1,0 +1,40 @@
+-- The pieces that answer the lines of a script, and how far they are written.
+use Rattle.std.specs.Prelude.{◌≡◌, ℕ, ◌<◌, List, [], ◌∷◌, ◌++◌, Option, length, take}
+use Rattle.std.specs.List.{concat}
+use Rattle.std.specs.Option.{option_to_list}
+
+-- What answers lines: in each state a line has a reply or none, and there is a next state.
+pub record Answering (A : Type 0) : Type 0 where
+  pub reply : A → List ℕ → Option (List ℕ)
+  pub next : A → List ℕ → A
+
+-- the replies to the lines in order, each in the state so far
+abbrev pub pieces_from : {A : Type 0} → Answering A → A → List (List ℕ) → List (List ℕ)
+pieces_from m a [] = []
+pieces_from m a (line ∷ lines) = option_to_list (m.reply a line) ++ pieces_from m (m.next a line) lines
+
+-- the state after the lines
+abbrev pub state_after : {A : Type 0} → Answering A → A → List (List ℕ) → A
+state_after m a [] = a
+state_after m a (line ∷ lines) = state_after m (m.next a line) lines
+
+-- all the pieces, one behind the other
+abbrev pub IsAll : List (List ℕ) → List ℕ → Type 0
+IsAll pieces out = out ≡ concat pieces
+
+-- the first pieces whole, and a proper part of the next
+pub record IsCutInPiece (pieces : List (List ℕ)) (out : List ℕ) : Type 0 where
+  pub done : List (List ℕ)
+  pub piece : List ℕ
+  pub rest : List (List ℕ)
+  pub count : ℕ
+  pub split : pieces ≡ done ++ (piece ∷ rest)
+  pub short : count < length piece
+  pub bytes : out ≡ concat done ++ take count piece
+
+-- the first pieces whole, and nothing of the next
+pub record IsCutBetween (pieces : List (List ℕ)) (out : List ℕ) : Type 0 where
+  pub done : List (List ℕ)
+  pub rest : List (List ℕ)
+  pub split : pieces ≡ done ++ rest
+  pub bytes : out ≡ concat done

@@ -1,0 +1,141 @@
+//! The verdict on the text of a program.
+
+ghost use Rattle.std.specs.Prelude.{◌≡◌, ◌+◌, ◌<◌, ◌^◌, List, length, IfOk, MatchResult};
+ghost use Rattle.pst_tree.specs.Syntax.{Item};
+ghost use Rattle.pst_types.specs.Declarations.{NamedProgram};
+ghost use Rattle.pst_tree.specs.View.{items_of};
+ghost use Rattle.pst_program.specs.View.{routines_of};
+ghost use Rattle.pst_program.specs.Typed.{IsTyped};
+ghost use Rattle.pst_types.specs.ProcedureView.{program_of};
+ghost use Rattle.pst_notation.specs.Canonical.{canonical};
+ghost use Rattle.pst_cli.specs.Verdict.{HasTree, Judged, Accepted};
+ghost use Rattle.pst_cli.specs.Stages.{IsNoProgram};
+
+use crate::fault::{Fault, FaultKind};
+use pst_base::{NoMemory, Text};
+use pst_lex::{LexFault, tokens};
+use pst_notation::print_program;
+use pst_parse::{ParseFault, parse};
+use pst_program::Program;
+use pst_tree::Tree;
+use pst_types::{TypeFault, check};
+use std::alloc::Global;
+
+/// Why a text gives no program.
+#[derive(Clone, Copy, Debug, PartialEq, Eq)]
+pub enum NoProgram {
+    /// It has this fault.
+    Fault(Fault),
+    /// There was no memory.
+    Memory,
+}
+
+impl NoProgram {
+    fn at(kind: FaultKind, line: u32) -> NoProgram
+        ensures { result ≡ NoProgram.Fault (record { kind = kind; line = line }) }
+    {
+        NoProgram::Fault(Fault { kind, line })
+    }
+}
+
+impl From<LexFault> for NoProgram {
+    ghost use Rattle.pst_cli.specs.Reasons.{of_lexing};
+
+    ghost from_gives = { λ fault why. why ≡ of_lexing fault };
+
+    fn from(fault: LexFault) -> NoProgram {
+        match fault {
+            LexFault::Byte { line } => NoProgram::at(FaultKind::Byte, line),
+            LexFault::Number { line } => NoProgram::at(FaultKind::Number, line),
+            LexFault::NameLength { line } => NoProgram::at(FaultKind::NameLength, line),
+            LexFault::Memory => NoProgram::Memory,
+        }
+    }
+}
+
+impl From<ParseFault> for NoProgram {
+    ghost use Rattle.pst_cli.specs.Reasons.{of_parsing};
+
+    ghost from_gives = { λ fault why. why ≡ of_parsing fault };
+
+    fn from(fault: ParseFault) -> NoProgram {
+        match fault {
+            ParseFault::Unexpected { line } => NoProgram::at(FaultKind::Unexpected, line),
+            ParseFault::TooDeep { line } => NoProgram::at(FaultKind::TooDeep, line),
+            ParseFault::Memory => NoProgram::Memory,
+        }
+    }
+}
+
+impl From<TypeFault> for NoProgram {
+    ghost use Rattle.pst_cli.specs.Reasons.{of_typing};
+
+    ghost from_gives = { λ fault why. why ≡ of_typing fault };
+
+    fn from(fault: TypeFault) -> NoProgram {
+        match fault {
+            TypeFault::Unknown { line } => NoProgram::at(FaultKind::Unknown, line),
+            TypeFault::Duplicate { line } => NoProgram::at(FaultKind::Duplicate, line),
+            TypeFault::Mismatch { line } => NoProgram::at(FaultKind::Mismatch, line),
+            TypeFault::Limit { line } => NoProgram::at(FaultKind::Limit, line),
+            TypeFault::TooMany { line } => NoProgram::at(FaultKind::TooMany, line),
+            TypeFault::QueryWrites { line } => NoProgram::at(FaultKind::QueryWrites, line),
+            TypeFault::Memory => NoProgram::Memory,
+        }
+    }
+}
+
+impl From<NoMemory> for NoProgram {
+    ghost use Rattle.pst_cli.specs.declared.judge.NoProgram.TheVariants.{Memory};
+
+    ghost from_gives = { λ _ why. why ≡ Memory };
+
+    fn from(_: NoMemory) -> NoProgram {
+        NoProgram::Memory
+    }
+}
+
+/// The tree of a text of fewer than 4,294,967,295 bytes.
+fn read_tree(alloc: Global, text: &[u8]) -> Result<Tree, NoProgram>
+    requires { length text.now + 1 < 2 ^ 32 }
+    ensures { MatchResult result (λ tree. HasTree text.now (items_of tree)) (λ why. IsNoProgram text.now why) }
+{
+    let tokens = tokens(alloc, text)?;
+    Ok(parse(alloc, &tokens)?)
+}
+
+/// The tree of a text and its typed program.
+fn judge(alloc: Global, text: &[u8]) -> Result<(Tree, Program), NoProgram>
+    requires { length text.now + 1 < 2 ^ 32 }
+    ensures verdict { MatchResult result (λ x. Judged text.now (Accepted (items_of x.0) (program_of x.1))) (λ why. IsNoProgram text.now why) }
+    ensures typed { IfOk result (λ x. IsTyped (routines_of x.1)) }
+{
+    let tree = read_tree(alloc, text)?;
+    let program = check(alloc, &tree)?;
+    Ok((tree, program))
+}
+
+/// The typed program of a text of fewer than 4,294,967,295 bytes. Neither the text nor its tree is kept.
+///
+/// # Errors
+/// The first fault of the text, or want of memory.
+pub(crate) fn program_of(alloc: Global, text: Vec<u8>) -> Result<Program, NoProgram>
+    requires { length text.items + 1 < 2 ^ 32 }
+    ensures verdict { MatchResult result (λ p. (items : List Item) × Judged text.items (Accepted items (program_of p))) (λ why. IsNoProgram text.items why) }
+    ensures typed { IfOk result (λ p. IsTyped (routines_of p)) }
+{
+    let (_tree, program) = judge(alloc, &text)?;
+    Ok(program)
+}
+
+/// The canonical text of the program of a text of fewer than 4,294,967,295 bytes.
+///
+/// # Errors
+/// The first fault of the text, or want of memory.
+pub(crate) fn canonical_of(alloc: Global, text: Vec<u8>) -> Result<Text, NoProgram>
+    requires { length text.items + 1 < 2 ^ 32 }
+    ensures { MatchResult result (λ out. (items : List Item) × (p : NamedProgram) × Judged text.items (Accepted items p) × (out ≡ canonical items)) (λ why. IsNoProgram text.items why) }
+{
+    let (tree, _program) = judge(alloc, &text)?;
+    Ok(print_program(alloc, &tree)?)
+}

@@ -1,0 +1,20 @@
+//! The top call: everything that the program does, over a source and a sink.
+#![tactic(auto)]
+
+mod answer;
+mod fault;
+mod job;
+mod judge;
+mod laws;
+mod program;
+mod serve;
+mod session;
+mod status;
+mod stop;
+mod top;
+
+pub use fault::{Fault, FaultKind};
+pub use job::Job;
+pub use laws::{input_has_one_output, text_has_one_verdict};
+pub use status::{Status, number};
+pub use top::persist;

@@ -1,0 +1,82 @@
+//! What is done with the text of a program.
+
+ghost use Rattle.std.specs.Prelude.{◌≡◌, ◌≤◌, ◌+◌, ◌<◌, ◌^◌, List, ℕ, length};
+ghost use Rattle.std.specs.Io.KnownBytes.{Appends};
+ghost use Rattle.pst_io.specs.Causes.{Rose};
+ghost use Rattle.pst_io.specs.Input.{bytes_read};
+ghost use Rattle.pst_io.specs.Lines.{IsOpen};
+ghost use Rattle.pst_cli.specs.Stages.{Refuses, Serves, Prints};
+
+use crate::Status;
+use crate::answer::say;
+use crate::fault::{Fault, fault_text};
+use crate::judge::{NoProgram, canonical_of, program_of};
+use crate::session::answer_script;
+use crate::status::status_of;
+use pst_io::{Lines, Sink, Source};
+use pst_replay::Replayer;
+use std::alloc::Global;
+
+/// Writes the line of a fault.
+fn refuse<K: Sink>(alloc: Global, sink: &mut K, fault: Fault) -> Status
+    ensures refused { (out : List ℕ) × Appends (K.taken sink.old) (K.taken sink.new) out × Refuses result fault out }
+    ensures later { K.faults sink.old ≤ K.faults sink.new }
+    ensures write { result ≡ Status.WriteFault → Rose (K.faults sink.old) (K.faults sink.new) }
+{
+    match fault_text(alloc, fault) {
+        Err(_) => Status::Memory,
+        Ok(text) => match say(sink, text.as_bytes()) {
+            Ok(()) => Status::Refused,
+            Err(stop) => status_of(stop),
+        },
+    }
+}
+
+/// Answers the script behind a program, or writes the line of its fault.
+pub(crate) fn serve<S: Source, K: Sink>(
+    alloc: Global,
+    text: Vec<u8>,
+    lines: &mut Lines,
+    source: &mut S,
+    sink: &mut K,
+) -> Status
+    requires short { length text.items + 1 < 2 ^ 32 }
+    requires open { IsOpen lines.old (S.left source.old) }
+    requires within_old { bytes_read lines.old.input ≤ 67108864 }
+    ensures served { (out : List ℕ) × Appends (K.taken sink.old) (K.taken sink.new) out
+        × Serves result lines.old.input (S.left source.old) lines.new.input (S.left source.new) text.items out }
+    ensures within { bytes_read lines.new.input ≤ 67108864 }
+    ensures later { S.faults source.old ≤ S.faults source.new }
+    ensures sink_later { K.faults sink.old ≤ K.faults sink.new }
+    ensures read { result ≡ Status.ReadFault → Rose (S.faults source.old) (S.faults source.new) }
+    ensures write { result ≡ Status.WriteFault → Rose (K.faults sink.old) (K.faults sink.new) }
+{
+    match program_of(alloc, text) {
+        Err(NoProgram::Memory) => Status::Memory,
+        Err(NoProgram::Fault(fault)) => refuse(alloc, sink, fault),
+        Ok(program) => {
+            let mut replayer = Replayer::new(alloc);
+            match answer_script(alloc, &program, &mut replayer, lines, source, sink) {
+                Ok(()) => Status::Done,
+                Err(stop) => status_of(stop),
+            }
+        }
+    }
+}
+
+/// Writes the canonical text of a program, or the line of its fault.
+pub(crate) fn print<K: Sink>(alloc: Global, text: Vec<u8>, sink: &mut K) -> Status
+    requires { length text.items + 1 < 2 ^ 32 }
+    ensures printed { (out : List ℕ) × Appends (K.taken sink.old) (K.taken sink.new) out × Prints result text.items out }
+    ensures later { K.faults sink.old ≤ K.faults sink.new }
+    ensures write { result ≡ Status.WriteFault → Rose (K.faults sink.old) (K.faults sink.new) }
+{
+    match canonical_of(alloc, text) {
+        Err(NoProgram::Memory) => Status::Memory,
+        Err(NoProgram::Fault(fault)) => refuse(alloc, sink, fault),
+        Ok(canonical) => match say(sink, canonical.as_slice()) {
+            Ok(()) => Status::Done,
+            Err(stop) => status_of(stop),
+        },
+    }
+}
