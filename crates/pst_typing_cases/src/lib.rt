@@ -1,8 +1,7 @@
 //! Texts of programs with their first typing faults.
 #![tactic(auto)]
 
+#[cfg(test)]
 mod reading;
 #[cfg(test)]
 mod tests;
-
-pub use reading::{ProgramFault, read_program};

@@ -12,14 +12,14 @@ use std::alloc::Global;
 
 /// The first fault of a text.
 #[derive(Clone, Copy, Debug, PartialEq, Eq)]
-pub enum ProgramFault {
+pub(super) enum ProgramFault {
     Lex(LexFault),
     Parse(ParseFault),
     Type(TypeFault),
 }
 
 /// The typed program of a text, or its first fault: in its tokens, else in its grammar, else in its types.
-pub fn read_program(alloc: Global, text: &[u8]) -> Result<Program, ProgramFault>
+pub(super) fn read_program(alloc: Global, text: &[u8]) -> Result<Program, ProgramFault>
     requires { length text.now + 1 < 2 ^ 32 }
     ensures { IfOk result (λ p. IsTyped (routines_of p)) }
 {

@@ -1,6 +1,6 @@
 //! Texts of programs with their first typing faults.
 
-use super::{ProgramFault, read_program};
+use super::reading::{ProgramFault, read_program};
 use pst_types::TypeFault;
 use std::alloc::{AllocError, Global};
 use std::process::Abort;
