@@ -1,0 +1,7 @@
+pub mod Bridge
+pub mod Lengths
+pub mod Noting
+pub mod Rows
+pub mod Turns
+pub mod Typed
+pub mod Whole

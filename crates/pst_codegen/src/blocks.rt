@@ -1,0 +1,173 @@
+//! The code of blocks, and of the statements that hold some. A nested block is made as a list of its own, since the jumps
+//! around it say where it ends.
+
+ghost use Rattle.std.specs.Prelude.{◌≡◌, ◌+◌, ◌++◌, length, IfOk, OnOk};
+ghost use Rattle.pst_program.specs.View.{expr_of, action_of, actions_of};
+ghost use Rattle.pst_compiled.specs.Code.{if_code, either_code, while_code, action_code, block_code};
+ghost use Rattle.pst_compiled.specs.Needs.{temp_of};
+ghost use Rattle.pst_codegen.specs.Ready.{HasNoted, IsTest, IsReady, AreReady};
+
+use crate::conditions::{after, emit_test, test_len};
+use crate::expressions::put;
+use crate::layout::Layout;
+use crate::statements::{emit_call, emit_print, emit_return, emit_set, emit_set_root, emit_store};
+use pst_base::NoMemory;
+use pst_code::{Instr, Reg};
+use pst_program::{Typed, TypedBlock, TypedForm, TypedStatement};
+use std::alloc::Global;
+
+/// The index after some code that stands at an index.
+fn behind(at: u32, code: &[Instr]) -> Result<u32, NoMemory>
+    ensures { IfOk result (λ to. to ≡ at + length code.now) }
+{
+    match u32::try_from(code.len()) {
+        Ok(count) => after(at, count),
+        Err(_) => Err(NoMemory),
+    }
+}
+
+/// The code of a block that stands at an index.
+#[cycle(blocks)]
+pub fn emit_block(
+    alloc: Global,
+    layout: &Layout<'_>,
+    block: &TypedBlock,
+    at: u32,
+) -> Result<Vec<Instr>, NoMemory>
+    requires { AreReady layout.now.shape.now (HasNoted layout.now.table) (actions_of block.now) }
+    ensures { IfOk result (λ code. code.items ≡ block_code layout.now.shape.now (temp_of layout.now.locals layout.now.table) (actions_of block.now) at) }
+{
+    let mut code = Vec::new(alloc);
+    for statement in &block.items {
+        let here = behind(at, &code)?;
+        emit_statement(alloc, &mut code, layout, statement, here)?;
+    }
+    Ok(code)
+}
+
+/// Adds the code of a statement that stands at an index.
+#[cycle(blocks)]
+fn emit_statement(
+    alloc: Global,
+    code: &mut Vec<Instr>,
+    layout: &Layout<'_>,
+    statement: &TypedStatement,
+    at: u32,
+) -> Result<(), NoMemory>
+    requires { IsReady layout.now.shape.now (HasNoted layout.now.table) (action_of statement.now.form) }
+    ensures { OnOk result (code.new.items ≡ code.old.items ++ action_code layout.now.shape.now (temp_of layout.now.locals layout.now.table) (action_of statement.now.form) statement.now.line at) }
+{
+    let line = statement.line;
+    match &statement.form {
+        TypedForm::Set { local, value } => emit_set(code, layout, *local, value, line),
+        TypedForm::SetRoot { field, value } => emit_set_root(code, layout, *field, value, line),
+        TypedForm::Store {
+            object,
+            field,
+            value,
+        } => emit_store(code, layout, object, *field, value, line),
+        TypedForm::New { local, ty } => {
+            put(code, Instr::Charge(line))?;
+            put(code, Instr::New(Reg(*local), *ty))
+        }
+        TypedForm::Call {
+            result,
+            procedure,
+            arguments,
+        } => emit_call(alloc, code, layout, *result, *procedure, arguments, line),
+        TypedForm::Print(e) => emit_print(code, layout, e, line),
+        TypedForm::If {
+            condition,
+            yes,
+            no: None,
+        } => emit_if(alloc, code, layout, condition, yes, line, at),
+        TypedForm::If {
+            condition,
+            yes,
+            no: Some(no),
+        } => emit_either(alloc, code, layout, condition, yes, no, line, at),
+        TypedForm::While { condition, body } => {
+            emit_while(alloc, code, layout, condition, body, line, at)
+        }
+        TypedForm::Return(value) => emit_return(code, layout, value, line),
+    }
+}
+
+/// Adds the code of a choice with one side.
+#[cycle(blocks)]
+fn emit_if(
+    alloc: Global,
+    code: &mut Vec<Instr>,
+    layout: &Layout<'_>,
+    condition: &Typed,
+    yes: &TypedBlock,
+    line: u32,
+    at: u32,
+) -> Result<(), NoMemory>
+    requires condition { IsTest layout.now.shape.now (HasNoted layout.now.table) (expr_of condition.now) }
+    requires yes { AreReady layout.now.shape.now (HasNoted layout.now.table) (actions_of yes.now) }
+    ensures { OnOk result (code.new.items ≡ code.old.items ++ if_code layout.now.shape.now (temp_of layout.now.locals layout.now.table) (expr_of condition.now) (block_code layout.now.shape.now (temp_of layout.now.locals layout.now.table) (actions_of yes.now)) line at) }
+{
+    let test = after(at, 1)?;
+    let start = after(test, test_len(layout, condition)?)?;
+    let mut first = emit_block(alloc, layout, yes, start)?;
+    let end = behind(start, &first)?;
+    put(code, Instr::Charge(line))?;
+    emit_test(code, layout, condition, false, end, test)?;
+    code.append(&mut first)
+}
+
+/// Adds the code of a choice with two sides.
+#[cycle(blocks)]
+fn emit_either(
+    alloc: Global,
+    code: &mut Vec<Instr>,
+    layout: &Layout<'_>,
+    condition: &Typed,
+    yes: &TypedBlock,
+    no: &TypedBlock,
+    line: u32,
+    at: u32,
+) -> Result<(), NoMemory>
+    requires condition { IsTest layout.now.shape.now (HasNoted layout.now.table) (expr_of condition.now) }
+    requires yes { AreReady layout.now.shape.now (HasNoted layout.now.table) (actions_of yes.now) }
+    requires no { AreReady layout.now.shape.now (HasNoted layout.now.table) (actions_of no.now) }
+    ensures { OnOk result (code.new.items ≡ code.old.items ++ either_code layout.now.shape.now (temp_of layout.now.locals layout.now.table) (expr_of condition.now) (block_code layout.now.shape.now (temp_of layout.now.locals layout.now.table) (actions_of yes.now)) (block_code layout.now.shape.now (temp_of layout.now.locals layout.now.table) (actions_of no.now)) line at) }
+{
+    let test = after(at, 1)?;
+    let start = after(test, test_len(layout, condition)?)?;
+    let mut first = emit_block(alloc, layout, yes, start)?;
+    let middle = after(behind(start, &first)?, 1)?;
+    let mut other = emit_block(alloc, layout, no, middle)?;
+    let end = behind(middle, &other)?;
+    put(code, Instr::Charge(line))?;
+    emit_test(code, layout, condition, false, middle, test)?;
+    code.append(&mut first)?;
+    put(code, Instr::Jump(end))?;
+    code.append(&mut other)
+}
+
+/// Adds the code of a loop, which goes back to its charge.
+#[cycle(blocks)]
+fn emit_while(
+    alloc: Global,
+    code: &mut Vec<Instr>,
+    layout: &Layout<'_>,
+    condition: &Typed,
+    body: &TypedBlock,
+    line: u32,
+    at: u32,
+) -> Result<(), NoMemory>
+    requires condition { IsTest layout.now.shape.now (HasNoted layout.now.table) (expr_of condition.now) }
+    requires body { AreReady layout.now.shape.now (HasNoted layout.now.table) (actions_of body.now) }
+    ensures { OnOk result (code.new.items ≡ code.old.items ++ while_code layout.now.shape.now (temp_of layout.now.locals layout.now.table) (expr_of condition.now) (block_code layout.now.shape.now (temp_of layout.now.locals layout.now.table) (actions_of body.now)) line at) }
+{
+    let test = after(at, 1)?;
+    let start = after(test, test_len(layout, condition)?)?;
+    let mut turn = emit_block(alloc, layout, body, start)?;
+    let end = after(behind(start, &turn)?, 1)?;
+    put(code, Instr::Charge(line))?;
+    emit_test(code, layout, condition, false, end, test)?;
+    code.append(&mut turn)?;
+    put(code, Instr::Jump(at))
+}

@@ -1,0 +1,106 @@
+//! The compiler.
+
+ghost use Rattle.std.specs.Prelude.{◌≡◌, ◌++◌, map, length, IfOk, OnOk};
+ghost use Rattle.pst_program.specs.Typed.{IsTyped};
+ghost use Rattle.pst_program.specs.View.{routines_of, procedure_of};
+ghost use Rattle.pst_compiled.specs.Code.{end_code};
+ghost use Rattle.pst_compiled.specs.Needs.{table_of, temp_of};
+ghost use Rattle.pst_compiled.specs.Compiled.{procedure_code, code_of};
+ghost use Rattle.pst_codegen.specs.Ready.{HasNoted, HasEnd, IsReadyProcedure};
+
+use crate::blocks::emit_block;
+use crate::expressions::put;
+use crate::layout::Layout;
+use crate::needs::{note_block, note_end};
+use crate::table::Table;
+use pst_base::{Kind, Kinds, NoMemory, TypeShape};
+use pst_code::{Code, Instr, Instrs, Parts, Procedure, ProcedureList};
+use pst_compiled::Need;
+use pst_program::{Program, TypedProc};
+use std::alloc::Global;
+
+/// The temporary registers of a procedure.
+#[tactic(auto, using(crate::proofs::Noting::noted_append))]
+fn table_of(alloc: Global, shape: &[TypeShape], p: &TypedProc) -> Result<Table, NoMemory>
+    requires { IsReadyProcedure shape.now (procedure_of p.now) }
+    ensures { IfOk result (λ table. table ≡ table_of shape.now (procedure_of p.now)) }
+{
+    let mut table = Table::new(alloc);
+    note_block(alloc, &mut table, shape, &p.body)?;
+    note_end(alloc, &mut table, p.result)?;
+    Ok(table)
+}
+
+/// What the registers of a procedure hold.
+fn register_kinds(locals: &Kinds, table: &[Need]) -> Result<Kinds, NoMemory>
+    ensures { IfOk result (λ kinds. kinds ≡ locals.now ++ map (λ n. n.kind) table.now) }
+{
+    let mut kinds = locals.copy()?.into_vec();
+    for need in table {
+        kinds.push(need.kind)?;
+    }
+    Ok(Kinds::from_vec(kinds))
+}
+
+/// Adds the code that ends a procedure without `return`.
+fn emit_end(code: &mut Vec<Instr>, layout: &Layout<'_>, kind: Option<Kind>) -> Result<(), NoMemory>
+    requires { HasEnd (HasNoted layout.now.table) kind }
+    ensures { OnOk result (code.new.items ≡ code.old.items ++ end_code (temp_of layout.now.locals layout.now.table) kind) }
+{
+    match kind {
+        None => put(code, Instr::Return(None)),
+        Some(kind) => {
+            let d = layout.temporary(0, kind);
+            match kind {
+                Kind::Int => put(code, Instr::Const(d, 0))?,
+                Kind::Pointer(_) => put(code, Instr::Null(d))?,
+            }
+            put(code, Instr::Return(Some(d)))
+        }
+    }
+}
+
+/// The code of a procedure.
+fn compile_procedure(
+    alloc: Global,
+    shape: &[TypeShape],
+    p: &TypedProc,
+) -> Result<Procedure, NoMemory>
+    requires { IsReadyProcedure shape.now (procedure_of p.now) }
+    ensures { IfOk result (λ code. code ≡ procedure_code shape.now (procedure_of p.now)) }
+{
+    let table = table_of(alloc, shape, p)?;
+    let kinds = register_kinds(&p.kinds, table.as_slice())?;
+    let layout = Layout {
+        shape,
+        locals: p.kinds.as_slice().len() as u16,
+        table,
+    };
+    let mut instructions = emit_block(alloc, &layout, &p.body, 0)?;
+    emit_end(&mut instructions, &layout, p.result)?;
+    Ok(Procedure {
+        name: p.name.copy()?,
+        query: p.query,
+        arguments: p.arguments,
+        result: p.result,
+        kinds,
+        instructions: Instrs::from_vec(instructions),
+    })
+}
+
+/// The code of a program. Code of more than 4,294,967,295 instructions in a procedure is refused as want of memory, since
+/// the index of an instruction has 32 bits.
+pub fn compile(alloc: Global, program: &Program) -> Result<Code, NoMemory>
+    requires { IsTyped (routines_of program.now) }
+    ensures { IfOk result (λ code. code ≡ code_of (routines_of program.now)) }
+{
+    let shape = program.shape.as_slice();
+    let mut procedures = Vec::new(alloc);
+    for p in &program.procedures.items {
+        procedures.push(compile_procedure(alloc, shape, p)?)?;
+    }
+    Ok(Code::from_valid(Parts {
+        shape: program.shape.copy(alloc)?,
+        procedures: ProcedureList::from_vec(procedures),
+    }))
+}
