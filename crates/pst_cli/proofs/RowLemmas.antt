@@ -9,7 +9,9 @@ use Rattle.pst_io.specs.Text.{lines_of, whole_lines}
 use Rattle.pst_io.specs.Input.{InputState, Gives, IsOver, IsCutOff, EndsWhereSeen, bytes_read, pending}
 use Rattle.pst_io.proofs.Handing.{gives_then}
 use Rattle.pst_cli.specs.declared.job.Job.{Job}
-use Rattle.pst_cli.specs.declared.job.Job.TheVariants.{Run, Replay, Check}
+use Rattle.pst_cli.specs.declared.job.Job.TheVariants.{Run, Replay}
+use Rattle.pst_cli.specs.declared.page.Page.{Page}
+use Rattle.pst_cli.specs.declared.page.Page.TheVariants.{Canonical, Listing}
 use Rattle.pst_cli.specs.declared.stop.Stop.{Stop}
 use Rattle.pst_cli.specs.declared.stop.Stop.TheVariants as stop
 use Rattle.pst_cli.specs.declared.status.Status.{Status}
@@ -22,9 +24,10 @@ use Rattle.pst_history.specs.History.{opening}
 use Rattle.pst_history.specs.Direct.{direct}
 use Rattle.pst_cli.specs.Output.{routines_in, replied, printed, Outputs}
 use Rattle.pst_cli.specs.Reading.{GivesPast, GivesUntil, IsTextOf, ReadsText}
-use Rattle.pst_cli.specs.Rows.{most, IsReadable, Writes, CutOff, Row}
+use Rattle.pst_cli.specs.Rows.{most, IsReadable, IsWithin, IsOver as IsRead, Writes, CutOff, Row}
 use Rattle.pst_cli.specs.Stages.{Serves, Prints, status_of}
 use Rattle.pst_cli.proofs.Writing.{pieces-append, in_piece_longer, between_longer}
+use Rattle.pst_cli.proofs.Serving.{job_of_page}
 
 abbrev pub fresh : InputState
 fresh = record { handed = 0; held = []; ended = false }
@@ -245,23 +248,37 @@ pub text_replayed : (status : Status) (left left' sink sink' : Option (List ℕ)
 text_replayed status None left' sink sink' p = tt
 text_replayed status (Some input) left' sink sink' (out, written, row) = (out, written, replayed status input out left' row)
 
-printed_row : (status : Status) (t : InputState) (input text out : List ℕ) (left : Option (List ℕ)) → ReadsText fresh (Some input) t left text → EndsWhereSeen t left → bytes_read t ≤ most
-    → Prints status text out → Row status Check input left out
-printed_row Done t input text out left r seen within w =
-    (readable t input left text r seen within, tt, subst (λ v. Outputs IsAccepted IsAll v printed out) (sym (told_text input text (pending t left) r.told)) w)
-printed_row Refused t input text out left r seen within w =
-    (readable t input left text r seen within, subst (λ v. Outputs IsRefused IsAll v printed out) (sym (told_text input text (pending t left) r.told)) w)
-printed_row WriteFault t input text out left r seen within w =
-    (readable t input left text r seen within, subst (λ v. Outputs IsEither IsCutInPiece v printed out) (sym (told_text input text (pending t left) r.told)) w)
-printed_row Memory t input text out left r seen within w = inl w
-printed_row ReadFault t input text out left r seen within w = absurd w
-printed_row TooLong t input text out left r seen within w = absurd w
-printed_row Usage t input text out left r seen within w = absurd w
+-- ---- a page was written
 
--- the canonical text was written
-pub text_printed : (status : Status) (a t : InputState) (left left' sink sink' : Option (List ℕ)) (text : List ℕ) → a ≡ fresh → ReadsText a left t left' text → EndsWhereSeen t left' → bytes_read t ≤ most
-    → (out : List ℕ) × Appends sink sink' out × Prints status text out
-    → IfSome left (λ input. (out : List ℕ) × Appends sink sink' out × Row status Check input left' out)
-text_printed status a t None left' sink sink' text new r seen within p = tt
-text_printed status a t (Some input) left' sink sink' text new r seen within (out, written, w) =
-    (out, written, printed_row status t input text out left' (subst (λ v. ReadsText v (Some input) t left' text) new r) seen within w)
+page_within : (page : Page) (input : List ℕ) → IsReadable input → IsWithin (job_of_page page) input
+page_within Canonical input r = r
+page_within Listing input r = r
+
+page_read : (page : Page) (left : Option (List ℕ)) → IsRead (job_of_page page) left
+page_read Canonical left = tt
+page_read Listing left = tt
+
+page_writes : (Is : Verdict → Type 0) (IsWritten : List (List ℕ) → List ℕ → Type 0) (page : Page) (parts : Parts) (text out : List ℕ) → parts.text ≡ text → Outputs Is IsWritten text (printed page) out
+    → Writes Is IsWritten (job_of_page page) parts out
+page_writes Is IsWritten Canonical parts text out e w = subst (λ v. Outputs Is IsWritten v (printed Canonical) out) (sym e) w
+page_writes Is IsWritten Listing parts text out e w = subst (λ v. Outputs Is IsWritten v (printed Listing) out) (sym e) w
+
+printed_row : (status : Status) (page : Page) (t : InputState) (input text out : List ℕ) (left : Option (List ℕ)) → ReadsText fresh (Some input) t left text → EndsWhereSeen t left → bytes_read t ≤ most
+    → Prints status page text out → Row status (job_of_page page) input left out
+printed_row Done page t input text out left r seen within w =
+    (page_within page input (readable t input left text r seen within), page_read page left, page_writes IsAccepted IsAll page (parts_of input) text out (told_text input text (pending t left) r.told) w)
+printed_row Refused page t input text out left r seen within w =
+    (readable t input left text r seen within, page_writes IsRefused IsAll page (parts_of input) text out (told_text input text (pending t left) r.told) w)
+printed_row WriteFault page t input text out left r seen within w =
+    (readable t input left text r seen within, page_writes IsEither IsCutInPiece page (parts_of input) text out (told_text input text (pending t left) r.told) w)
+printed_row Memory page t input text out left r seen within w = inl w
+printed_row ReadFault page t input text out left r seen within w = absurd w
+printed_row TooLong page t input text out left r seen within w = absurd w
+printed_row Usage page t input text out left r seen within w = absurd w
+
+pub text_printed : (status : Status) (page : Page) (a t : InputState) (left left' sink sink' : Option (List ℕ)) (text : List ℕ) → a ≡ fresh → ReadsText a left t left' text → EndsWhereSeen t left'
+    → bytes_read t ≤ most → (out : List ℕ) × Appends sink sink' out × Prints status page text out
+    → IfSome left (λ input. (out : List ℕ) × Appends sink sink' out × Row status (job_of_page page) input left' out)
+text_printed status page a t None left' sink sink' text new r seen within p = tt
+text_printed status page a t (Some input) left' sink sink' text new r seen within (out, written, w) =
+    (out, written, printed_row status page t input text out left' (subst (λ v. ReadsText v (Some input) t left' text) new r) seen within w)

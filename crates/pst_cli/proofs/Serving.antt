@@ -4,7 +4,6 @@ use Rattle.std.specs.Prelude.{IfSome, IsSome}
 use Rattle.std.specs.Io.KnownBytes.{Appends, IsAtEnd}
 use Rattle.pst_tree.specs.Syntax.{Item}
 use Rattle.pst_types.specs.Declarations.{NamedProgram}
-use Rattle.pst_notation.specs.Canonical.{canonical}
 use Rattle.pst_program.specs.declared.program.Program.{Program}
 use Rattle.pst_types.specs.ProcedureView.{program_of}
 use Rattle.pst_history.specs.declared.history.History.{History}
@@ -15,7 +14,9 @@ use Rattle.pst_io.specs.Input.{InputState, Gives, IsOver}
 use Rattle.pst_io.proofs.Handing.{gives_none}
 use Rattle.pst_cli.specs.declared.fault.Fault.{Fault}
 use Rattle.pst_cli.specs.declared.job.Job.{Job}
-use Rattle.pst_cli.specs.declared.job.Job.TheVariants.{Run, Replay, Check}
+use Rattle.pst_cli.specs.declared.job.Job.TheVariants.{Run, Replay, Check, Code}
+use Rattle.pst_cli.specs.declared.page.Page.{Page}
+use Rattle.pst_cli.specs.declared.page.Page.TheVariants.{Canonical, Listing}
 use Rattle.pst_cli.specs.declared.stop.Stop.{Stop}
 use Rattle.pst_cli.specs.declared.stop.Stop.TheVariants as stop
 use Rattle.pst_cli.specs.declared.status.Status.{Status}
@@ -24,6 +25,7 @@ use Rattle.pst_cli.specs.Input.{Parts, cut}
 use Rattle.pst_cli.specs.Pieces.{pieces_from, IsAll, IsCutInPiece}
 use Rattle.pst_cli.specs.Script.{script_of}
 use Rattle.pst_cli.specs.Verdict.{Accepted, Refused as IsRefusedBy, Judged, HasFault}
+use Rattle.pst_cli.specs.Output.{page_text}
 use Rattle.pst_cli.specs.Reading.{GivesUntil}
 use Rattle.pst_cli.specs.Rows.{most, IsWithin, CutOff, Row, IsComplete}
 use Rattle.pst_cli.specs.Stages.{Refuses, StopsAtReply, IsWrittenUntil, Serves, Prints, status_of}
@@ -36,14 +38,14 @@ one_whole piece out is = is ∙ sym (append-nil piece)
 
 -- ---- a fault
 
-pub fault_printed : (status : Status) (text out : List ℕ) (fault : Fault) → HasFault text fault.kind fault.line → Refuses status fault out → Prints status text out
-fault_printed Refused text out fault has w = (IsRefusedBy fault, has, tt, one_whole _ out w)
-fault_printed WriteFault text out fault has w = (IsRefusedBy fault, has, tt, one_part _ out w.0 w.1 w.2)
-fault_printed Memory text out fault has w = w
-fault_printed Done text out fault has w = absurd w
-fault_printed ReadFault text out fault has w = absurd w
-fault_printed TooLong text out fault has w = absurd w
-fault_printed Usage text out fault has w = absurd w
+pub fault_printed : (status : Status) (page : Page) (text out : List ℕ) (fault : Fault) → HasFault text fault.kind fault.line → Refuses status fault out → Prints status page text out
+fault_printed Refused page text out fault has w = (IsRefusedBy fault, has, tt, one_whole _ out w)
+fault_printed WriteFault page text out fault has w = (IsRefusedBy fault, has, tt, one_part _ out w.0 w.1 w.2)
+fault_printed Memory page text out fault has w = w
+fault_printed Done page text out fault has w = absurd w
+fault_printed ReadFault page text out fault has w = absurd w
+fault_printed TooLong page text out fault has w = absurd w
+fault_printed Usage page text out fault has w = absurd w
 
 pub fault_served : (status : Status) (a : InputState) (left : Option (List ℕ)) (text out : List ℕ) (fault : Fault) → HasFault text fault.kind fault.line → Refuses status fault out → Serves status a left a left text out
 fault_served Refused a left text out fault has w = (IsRefusedBy fault, has, tt, one_whole _ out w)
@@ -54,20 +56,21 @@ fault_served ReadFault a left text out fault has w = absurd w
 fault_served TooLong a left text out fault has w = absurd w
 fault_served Usage a left text out fault has w = absurd w
 
--- ---- the canonical text
+-- ---- a page
 
-pub canonical_printed : (text piece out : List ℕ) (items : List Item) (program : NamedProgram) → Judged text (Accepted items program) → piece ≡ canonical items → out ≡ piece → Prints Done text out
-canonical_printed text piece out items program judged is w = (Accepted items program, judged, tt, one_whole _ out (w ∙ is))
+pub page_printed : (page : Page) (text piece out : List ℕ) (items : List Item) (program : NamedProgram) → Judged text (Accepted items program) → piece ≡ page_text page items program → out ≡ piece
+    → Prints Done page text out
+page_printed page text piece out items program judged is w = (Accepted items program, judged, tt, one_whole _ out (w ∙ is))
 
-pub canonical_stopped : (s : Stop) (text piece out : List ℕ) (items : List Item) (program : NamedProgram) → Judged text (Accepted items program) → piece ≡ canonical items
-    → StopsAtReply s (Some piece) out → Prints (status_of s) text out
-canonical_stopped stop.Write text piece out items program judged is (whole, n, same, short, part) =
+pub page_stopped : (s : Stop) (page : Page) (text piece out : List ℕ) (items : List Item) (program : NamedProgram) → Judged text (Accepted items program) → piece ≡ page_text page items program
+    → StopsAtReply s (Some piece) out → Prints (status_of s) page text out
+page_stopped stop.Write page text piece out items program judged is (whole, n, same, short, part) =
     let e : whole ≡ piece = cc in
-    let all : whole ≡ canonical items = e ∙ is in
+    let all : whole ≡ page_text page items program = e ∙ is in
     (Accepted items program, judged, tt, one_part _ out n (subst (λ l. n < length l) all short) (part ∙ ap (take n) all))
-canonical_stopped stop.Memory text piece out items program judged is s = s
-canonical_stopped stop.Read text piece out items program judged is s = absurd s
-canonical_stopped stop.TooLong text piece out items program judged is s = absurd s
+page_stopped stop.Memory page text piece out items program judged is s = s
+page_stopped stop.Read page text piece out items program judged is s = absurd s
+page_stopped stop.TooLong page text piece out items program judged is s = absurd s
 
 -- ---- the script
 
@@ -93,15 +96,23 @@ script_stopped s a b left left' text out items program history given judged new 
 
 -- ---- how a call ends where nothing failed
 
-not_cut_off : (o : Option Parts) (out : List ℕ) → IsSome o → CutOff o Check out → ⊥
-not_cut_off None out there off = cc
-not_cut_off (Some parts) out there off = off
+-- a job that prints a page
+abbrev pub job_of_page : Page → Job
+job_of_page Canonical = Check
+job_of_page Listing = Code
+
+not_cut_off : (page : Page) (o : Option Parts) (out : List ℕ) → IsSome o → CutOff o (job_of_page page) out → ⊥
+not_cut_off page None out there off = cc
+not_cut_off Canonical (Some parts) out there off = off
+not_cut_off Listing (Some parts) out there off = off
 
 not_too_long : (job : Job) (input out : List ℕ) (left : Option (List ℕ)) → IsWithin job input → Row TooLong job input left out → ⊥
 not_too_long Run input out left within (long, off) = omega (arith, within, long)
 not_too_long Replay input out left within (long, off) = omega (arith, within, long)
 not_too_long Check input out left (inl within) (long, off) = omega (arith, within, long)
-not_too_long Check input out left (inr there) (long, off) = not_cut_off (cut (whole_lines (take most input))) out there off
+not_too_long Check input out left (inr there) (long, off) = not_cut_off Canonical (cut (whole_lines (take most input))) out there off
+not_too_long Code input out left (inl within) (long, off) = omega (arith, within, long)
+not_too_long Code input out left (inr there) (long, off) = not_cut_off Listing (cut (whole_lines (take most input))) out there off
 
 complete : (status : Status) (job : Job) (input out : List ℕ) (left : Option (List ℕ)) (P Q : Type 0) → Row status job input left out → (status ≡ ReadFault → P) → (status ≡ WriteFault → Q)
     → IsWithin job input → (P → ⊥) → (Q → ⊥) → IsComplete status

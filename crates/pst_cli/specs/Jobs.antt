@@ -2,7 +2,7 @@
 use Rattle.std.specs.Prelude.{ℕ, List, [], ◌∷◌, Option, Some, None, if◌then◌else◌, codes}
 use Rattle.std.specs.Str.{bytes_eq}
 use Rattle.pst_cli.specs.declared.job.Job.{Job}
-use Rattle.pst_cli.specs.declared.job.Job.TheVariants.{Run, Replay, Check}
+use Rattle.pst_cli.specs.declared.job.Job.TheVariants.{Run, Replay, Check, Code}
 use Rattle.pst_cli.specs.declared.status.Status.{Status}
 use Rattle.pst_cli.specs.declared.status.Status.TheVariants as status
 
@@ -11,7 +11,8 @@ job_named word =
     if bytes_eq word (codes "run") then Some Run
     else (if bytes_eq word (codes "replay") then Some Replay
     else (if bytes_eq word (codes "check") then Some Check
-    else None))
+    else (if bytes_eq word (codes "code") then Some Code
+    else None)))
 
 -- one word, which names a job
 abbrev pub job_of : List (List ℕ) → Option Job

@@ -3,7 +3,7 @@
 use Rattle.std.specs.Prelude.{◌≡◌, ℕ, ◌<◌, ◌≤◌, ◌⊎◌, List, [], length, take, drop, Option, Some, None, IsSome}
 use Rattle.pst_io.specs.Text.{whole_lines}
 use Rattle.pst_cli.specs.declared.job.Job.{Job}
-use Rattle.pst_cli.specs.declared.job.Job.TheVariants.{Run, Replay, Check}
+use Rattle.pst_cli.specs.declared.job.Job.TheVariants.{Run, Replay, Check, Code}
 use Rattle.pst_cli.specs.declared.status.Status.{Status}
 use Rattle.pst_cli.specs.declared.status.Status.TheVariants.{Done, ReadFault, WriteFault, Usage, Refused, TooLong, Memory}
 use Rattle.pst_cli.specs.Input.{Parts, cut, parts_of}
@@ -24,12 +24,14 @@ abbrev pub IsWithin : Job → List ℕ → Type 0
 IsWithin Run input = length input ≤ most
 IsWithin Replay input = length input ≤ most
 IsWithin Check input = IsReadable input
+IsWithin Code input = IsReadable input
 
 -- The input was read: to its end by a job that answers its script.
 abbrev pub IsOver : Job → Option (List ℕ) → Type 0
 IsOver Run left = left ≡ Some []
 IsOver Replay left = left ≡ Some []
 IsOver Check left = Unit {0}
+IsOver Code left = Unit {0}
 
 -- of the output of these parts of an input, so much is written
 abbrev pub Writes : (Verdict → Type 0) → (List (List ℕ) → List ℕ → Type 0) → Job → Parts → List ℕ → Type 0
@@ -41,6 +43,7 @@ CutOff None job out = out ≡ []
 CutOff (Some parts) Run out = Writes IsAccepted IsAll Run parts out
 CutOff (Some parts) Replay out = Writes IsAccepted IsAll Replay parts out
 CutOff (Some parts) Check out = ⊥
+CutOff (Some parts) Code out = ⊥
 
 -- the row of a status, for a job, an input, what the source has left of it, and what was written
 abbrev pub Row : Status → Job → List ℕ → Option (List ℕ) → List ℕ → Type 0

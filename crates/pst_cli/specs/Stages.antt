@@ -13,6 +13,7 @@ use Rattle.pst_cli.specs.declared.stop.Stop.{Stop}
 use Rattle.pst_cli.specs.declared.stop.Stop.TheVariants as stop
 use Rattle.pst_cli.specs.declared.judge.NoProgram.{NoProgram}
 use Rattle.pst_cli.specs.declared.judge.NoProgram.TheVariants as no
+use Rattle.pst_cli.specs.declared.page.Page.{Page}
 use Rattle.pst_cli.specs.declared.status.Status.{Status}
 use Rattle.pst_cli.specs.declared.status.Status.TheVariants.{Done, ReadFault, WriteFault, Usage, Refused, TooLong, Memory}
 use Rattle.pst_cli.specs.Pieces.{IsAll, IsCutInPiece, IsCutBetween}
@@ -74,11 +75,11 @@ Serves Memory a left b left' text out = (out ≡ []) ⊎ ((lines : List (List �
 Serves Usage a left b left' text out = ⊥
 
 -- what comes of the text of a program that is printed
-abbrev pub Prints : Status → List ℕ → List ℕ → Type 0
-Prints Done text out = Outputs IsAccepted IsAll text printed out
-Prints Refused text out = Outputs IsRefused IsAll text printed out
-Prints WriteFault text out = Outputs IsEither IsCutInPiece text printed out
-Prints Memory text out = out ≡ []
-Prints ReadFault text out = ⊥
-Prints TooLong text out = ⊥
-Prints Usage text out = ⊥
+abbrev pub Prints : Status → Page → List ℕ → List ℕ → Type 0
+Prints Done page text out = Outputs IsAccepted IsAll text (printed page) out
+Prints Refused page text out = Outputs IsRefused IsAll text (printed page) out
+Prints WriteFault page text out = Outputs IsEither IsCutInPiece text (printed page) out
+Prints Memory page text out = out ≡ []
+Prints ReadFault page text out = ⊥
+Prints TooLong page text out = ⊥
+Prints Usage page text out = ⊥

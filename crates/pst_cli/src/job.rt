@@ -12,6 +12,8 @@ pub enum Job {
     Replay,
     /// To print the canonical text of the program.
     Check,
+    /// To print the listing of its code.
+    Code,
 }
 
 /// The job that a word names.
@@ -24,6 +26,8 @@ fn job_named(word: &[u8]) -> Option<Job>
         Some(Job::Replay)
     } else if word == b"check".as_slice() {
         Some(Job::Check)
+    } else if word == b"code".as_slice() {
+        Some(Job::Code)
     } else {
         None
     }

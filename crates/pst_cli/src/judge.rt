@@ -2,19 +2,16 @@
 
 ghost use Rattle.std.specs.Prelude.{◌≡◌, ◌+◌, ◌<◌, ◌^◌, List, length, IfOk, MatchResult};
 ghost use Rattle.pst_tree.specs.Syntax.{Item};
-ghost use Rattle.pst_types.specs.Declarations.{NamedProgram};
 ghost use Rattle.pst_tree.specs.View.{items_of};
 ghost use Rattle.pst_program.specs.View.{routines_of};
 ghost use Rattle.pst_program.specs.Typed.{IsTyped};
 ghost use Rattle.pst_types.specs.ProcedureView.{program_of};
-ghost use Rattle.pst_notation.specs.Canonical.{canonical};
 ghost use Rattle.pst_cli.specs.Verdict.{HasTree, Judged, Accepted};
 ghost use Rattle.pst_cli.specs.Stages.{IsNoProgram};
 
 use crate::fault::{Fault, FaultKind};
-use pst_base::{NoMemory, Text};
+use pst_base::NoMemory;
 use pst_lex::{LexFault, tokens};
-use pst_notation::print_program;
 use pst_parse::{ParseFault, parse};
 use pst_program::Program;
 use pst_tree::Tree;
@@ -104,8 +101,11 @@ fn read_tree(alloc: Global, text: &[u8]) -> Result<Tree, NoProgram>
     Ok(parse(alloc, &tokens)?)
 }
 
-/// The tree of a text and its typed program.
-fn judge(alloc: Global, text: &[u8]) -> Result<(Tree, Program), NoProgram>
+/// The tree of a text of fewer than 4,294,967,295 bytes, and its typed program.
+///
+/// # Errors
+/// The first fault of the text, or want of memory.
+pub(crate) fn judge(alloc: Global, text: &[u8]) -> Result<(Tree, Program), NoProgram>
     requires { length text.now + 1 < 2 ^ 32 }
     ensures verdict { MatchResult result (λ x. Judged text.now (Accepted (items_of x.0) (program_of x.1))) (λ why. IsNoProgram text.now why) }
     ensures typed { IfOk result (λ x. IsTyped (routines_of x.1)) }
@@ -126,16 +126,4 @@ pub(crate) fn program_of(alloc: Global, text: Vec<u8>) -> Result<Program, NoProg
 {
     let (_tree, program) = judge(alloc, &text)?;
     Ok(program)
-}
-
-/// The canonical text of the program of a text of fewer than 4,294,967,295 bytes.
-///
-/// # Errors
-/// The first fault of the text, or want of memory.
-pub(crate) fn canonical_of(alloc: Global, text: Vec<u8>) -> Result<Text, NoProgram>
-    requires { length text.items + 1 < 2 ^ 32 }
-    ensures { MatchResult result (λ out. (items : List Item) × (p : NamedProgram) × Judged text.items (Accepted items p) × (out ≡ canonical items)) (λ why. IsNoProgram text.items why) }
-{
-    let (tree, _program) = judge(alloc, &text)?;
-    Ok(print_program(alloc, &tree)?)
 }

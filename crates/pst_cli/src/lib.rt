@@ -6,6 +6,7 @@ mod fault;
 mod job;
 mod judge;
 mod laws;
+mod page;
 mod program;
 mod serve;
 mod session;

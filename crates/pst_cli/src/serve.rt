@@ -10,7 +10,8 @@ ghost use Rattle.pst_cli.specs.Stages.{Refuses, Serves, Prints};
 use crate::Status;
 use crate::answer::say;
 use crate::fault::{Fault, fault_text};
-use crate::judge::{NoProgram, canonical_of, program_of};
+use crate::judge::{NoProgram, program_of};
+use crate::page::{Page, page_of};
 use crate::session::answer_script;
 use crate::status::status_of;
 use pst_io::{Lines, Sink, Source};
@@ -64,17 +65,17 @@ pub(crate) fn serve<S: Source, K: Sink>(
     }
 }
 
-/// Writes the canonical text of a program, or the line of its fault.
-pub(crate) fn print<K: Sink>(alloc: Global, text: Vec<u8>, sink: &mut K) -> Status
+/// Writes a page of a program, or the line of its fault.
+pub(crate) fn print<K: Sink>(alloc: Global, page: Page, text: Vec<u8>, sink: &mut K) -> Status
     requires { length text.items + 1 < 2 ^ 32 }
-    ensures printed { (out : List ℕ) × Appends (K.taken sink.old) (K.taken sink.new) out × Prints result text.items out }
+    ensures printed { (out : List ℕ) × Appends (K.taken sink.old) (K.taken sink.new) out × Prints result page text.items out }
     ensures later { K.faults sink.old ≤ K.faults sink.new }
     ensures write { result ≡ Status.WriteFault → Rose (K.faults sink.old) (K.faults sink.new) }
 {
-    match canonical_of(alloc, text) {
+    match page_of(alloc, page, text) {
         Err(NoProgram::Memory) => Status::Memory,
         Err(NoProgram::Fault(fault)) => refuse(alloc, sink, fault),
-        Ok(canonical) => match say(sink, canonical.as_slice()) {
+        Ok(printed) => match say(sink, printed.as_slice()) {
             Ok(()) => Status::Done,
             Err(stop) => status_of(stop),
         },

@@ -9,6 +9,7 @@ ghost use Rattle.pst_cli.specs.Rows.{Row, RowOf, IsServable, IsComplete};
 
 use crate::Status;
 use crate::job::{Job, job_of};
+use crate::page::Page;
 use crate::program::read_text;
 use crate::serve::{print, serve};
 use crate::status::status_of;
@@ -17,9 +18,9 @@ use std::alloc::Global;
 
 /// Does everything that the program does.
 ///
-/// The words are `run`, `replay` or `check`. First the input up to its separator line, or to its end, is read, and the
-/// program is judged: a refused one is answered by the line of its fault alone. For `check` the canonical text is
-/// written then. For `run` and `replay` each line of the script is read, carried out and answered before the next one
+/// The words are `run`, `replay`, `check` or `code`. First the input up to its separator line, or to its end, is read, and the
+/// program is judged: a refused one is answered by the line of its fault alone. For `check` its canonical text is
+/// written then, and for `code` the listing of its code. For `run` and `replay` each line of the script is read, carried out and answered before the next one
 /// is read, and each reply is written as one piece.
 pub fn persist<S: Source, K: Sink>(
     alloc: Global,
@@ -70,7 +71,8 @@ fn carry_out<S: Source, K: Sink>(
     match read_text(alloc, lines, source) {
         Err(stop) => status_of(stop),
         Ok(text) => match job {
-            Job::Check => print(alloc, text, sink),
+            Job::Check => print(alloc, Page::Canonical, text, sink),
+            Job::Code => print(alloc, Page::Listing, text, sink),
             Job::Run => serve(alloc, text, lines, source, sink),
             Job::Replay => serve(alloc, text, lines, source, sink),
         },

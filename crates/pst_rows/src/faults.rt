@@ -7,7 +7,7 @@ use std::alloc::{AllocError, Global};
 use std::test::Fail;
 
 /// The words that read a program.
-const WORDS: [&str; 3] = ["run", "replay", "check"];
+const WORDS: [&str; 4] = ["run", "replay", "check", "code"];
 
 #[test]
 fn programs_with_one_fault_are_refused(rt: HostRuntime) -> Result<(), Fail> {
@@ -115,9 +115,39 @@ fn parentheses_have_a_depth(rt: HostRuntime) -> Result<(), Fail> {
     Ok(())
 }
 
+/// A program with so many roots, each on a line of its own.
+fn roots(alloc: Global, count: u32) -> Result<String, AllocError> {
+    let mut text = String::new(alloc);
+    for k in 0..count {
+        text.push_str("root a")?;
+        text.push_str(&k.to_string(alloc)?)?;
+        text.push_str(": int;\n")?;
+    }
+    Ok(text)
+}
+
+#[test]
+fn roots_are_counted(rt: HostRuntime) -> Result<(), Fail> {
+    let alloc = rt.alloc();
+    let most = roots(alloc, 32)?;
+    let too_many = roots(alloc, 33)?;
+    for word in WORDS {
+        let accepted = run(alloc, &[word], &most)?;
+        assert_eq!(rt; accepted.status, Status::Done, "{word}");
+        let refused = run(alloc, &[word], &too_many)?;
+        assert_eq!(rt; refused.status, Status::Refused, "{word}");
+        assert_eq!(rt;
+            refused.written.as_str(),
+            "refused too-many at 33\n",
+            "{word}"
+        );
+    }
+    Ok(())
+}
+
 #[test]
 fn other_words_are_refused(rt: HostRuntime) -> Result<(), Fail> {
-    let rows: [&[&str]; 9] = [
+    let rows: [&[&str]; 12] = [
         &[],
         &["bench", "07"],
         &["run", "now"],
@@ -125,6 +155,9 @@ fn other_words_are_refused(rt: HostRuntime) -> Result<(), Fail> {
         &[""],
         &["run "],
         &["check", "check"],
+        &["code", "check"],
+        &["code", ""],
+        &["codes"],
         &["replay", ""],
         &["running"],
     ];

@@ -6,6 +6,8 @@ mod faults;
 #[cfg(test)]
 mod limits;
 #[cfg(test)]
+mod listings;
+#[cfg(test)]
 mod printing;
 #[cfg(test)]
 mod runs;

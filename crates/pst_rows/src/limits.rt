@@ -17,7 +17,7 @@ fn padded(alloc: Global, word: &str, front: &str, length: usize) -> Result<Ended
 
 #[test]
 fn the_greatest_input_is_read(rt: HostRuntime) -> Result<(), Fail> {
-    for word in ["run", "replay", "check"] {
+    for word in ["run", "replay", "check", "code"] {
         let ended = padded(rt.alloc(), word, "%%\n", GREATEST)?;
         assert_eq!(rt; ended.status, Status::Done, "{word}");
         assert_eq!(rt; ended.written.as_str(), "", "{word}");
@@ -31,6 +31,7 @@ fn one_byte_more_is_too_long(rt: HostRuntime) -> Result<(), Fail> {
         ("run", "%%\n", Status::TooLong, ""),
         ("replay", "%%\n", Status::TooLong, ""),
         ("check", "", Status::TooLong, ""),
+        ("code", "", Status::TooLong, ""),
         ("run", "%%\nversions\n", Status::TooLong, "0\n"),
         (
             "check",
@@ -38,6 +39,7 @@ fn one_byte_more_is_too_long(rt: HostRuntime) -> Result<(), Fail> {
             Status::Done,
             "root a: int;\n",
         ),
+        ("code", "root a: int;\n%%\n", Status::Done, ""),
         (
             "run",
             "record N 0 { }\n%%\n",

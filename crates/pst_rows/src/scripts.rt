@@ -8,7 +8,7 @@ use std::ops::Range;
 use std::test::Fail;
 
 #[test]
-fn scripts_are_answered(rt: HostRuntime) -> Result<(), Fail> {
+fn versions_are_made_and_read(rt: HostRuntime) -> Result<(), Fail> {
     let rows = [
         ("no script", samples::list(), "", ""),
         (
@@ -29,6 +29,44 @@ fn scripts_are_answered(rt: HostRuntime) -> Result<(), Fail> {
             "run 0 add 1\nrun 1 add 2\nquery 1 sum\nquery 2 sum\nrun 1 add 9\nquery 2 sum\nquery 3 sum\nstats\n",
             "version 1\nversion 2\n| 1\nok\n| 3\nok\nversion 3\n| 3\nok\n| 10\nok\nrecords 4 pointers 6 values 3 bound 46\n",
         ),
+        (
+            "a pointer swings in three versions",
+            samples::swing(),
+            "run 0 start\nrun 1 swing\nrun 1 turn\nquery 1 see\nquery 2 see\nquery 3 see\nrun 2 turn\nquery 4 see\n\
+             query 2 see\nstats\n",
+            "version 1\nversion 2\nversion 3\n| 1\n| 2\n| 1\nok\n| 1\n| 2\n| 1\nok\n| 1\n| 2\n| 2\nok\nversion 4\n\
+             | 1\n| 2\n| 2\nok\n| 1\n| 2\n| 1\nok\nrecords 3 pointers 8 values 2 bound 55\n",
+        ),
+        (
+            "one version written three times",
+            samples::cell(),
+            "run 0 make\nrun 1 set 10\nrun 1 set 20\nrun 1 set 30\nquery 1 see\nquery 2 see\nquery 3 see\nquery 4 see\n\
+             stats\n",
+            "version 1\nversion 2\nversion 3\nversion 4\n| 0\nok\n| 10\nok\n| 20\nok\n| 30\nok\n\
+             records 2 pointers 1 values 3 bound 14\n",
+        ),
+        (
+            "a tree",
+            samples::tree(),
+            "run 0 put 5\nrun 1 put 2\nrun 2 put 9\nrun 1 put 7\nquery 3 all\nquery 4 all\nquery 1 all\n\
+             query 1 below 0\nstats\n",
+            "version 1\nversion 2\nversion 3\nversion 4\n| 2\n| 5\n| 9\nok\n| 5\n| 7\nok\n| 5\nok\nrefused arguments\n\
+             records 5 pointers 4 values 4 bound 37\n",
+        ),
+    ];
+    for (name, program, script, replies) in rows {
+        for word in ["run", "replay"] {
+            let ended = answered(rt.alloc(), word, program, script)?;
+            assert_eq!(rt; ended.status, Status::Done, "{name}, {word}");
+            assert_eq!(rt; ended.written.as_str(), replies, "{name}, {word}");
+        }
+    }
+    Ok(())
+}
+
+#[test]
+fn traps_and_refusals_are_answered(rt: HostRuntime) -> Result<(), Fail> {
+    let rows = [
         (
             "a trap publishes nothing",
             samples::list(),
@@ -60,30 +98,6 @@ fn scripts_are_answered(rt: HostRuntime) -> Result<(), Fail> {
              query 0 up -9223372036854775808\nquery 0 up -0\n",
             "| -9223372036854775808\n| 0\ntrap overflow at 6\ntrap divide at 9\ntrap overflow at 12\nrefused number\n\
              | -9223372036854775807\nok\nrefused line\n",
-        ),
-        (
-            "a pointer swings in three versions",
-            samples::swing(),
-            "run 0 start\nrun 1 swing\nrun 1 turn\nquery 1 see\nquery 2 see\nquery 3 see\nrun 2 turn\nquery 4 see\n\
-             query 2 see\nstats\n",
-            "version 1\nversion 2\nversion 3\n| 1\n| 2\n| 1\nok\n| 1\n| 2\n| 1\nok\n| 1\n| 2\n| 2\nok\nversion 4\n\
-             | 1\n| 2\n| 2\nok\n| 1\n| 2\n| 1\nok\nrecords 3 pointers 8 values 2 bound 55\n",
-        ),
-        (
-            "one version written three times",
-            samples::cell(),
-            "run 0 make\nrun 1 set 10\nrun 1 set 20\nrun 1 set 30\nquery 1 see\nquery 2 see\nquery 3 see\nquery 4 see\n\
-             stats\n",
-            "version 1\nversion 2\nversion 3\nversion 4\n| 0\nok\n| 10\nok\n| 20\nok\n| 30\nok\n\
-             records 2 pointers 1 values 3 bound 14\n",
-        ),
-        (
-            "a tree",
-            samples::tree(),
-            "run 0 put 5\nrun 1 put 2\nrun 2 put 9\nrun 1 put 7\nquery 3 all\nquery 4 all\nquery 1 all\n\
-             query 1 below 0\nstats\n",
-            "version 1\nversion 2\nversion 3\nversion 4\n| 2\n| 5\n| 9\nok\n| 5\n| 7\nok\n| 5\nok\nrefused arguments\n\
-             records 5 pointers 4 values 4 bound 37\n",
         ),
         (
             "the head of a list",

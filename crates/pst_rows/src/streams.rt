@@ -123,7 +123,7 @@ fn a_read_that_fails_in_the_program_leaves_nothing(rt: HostRuntime) -> Result<()
             failing_reads: failing,
             ..pieces(read_at_most, 1000)
         };
-        for word in ["run", "replay", "check"] {
+        for word in ["run", "replay", "check", "code"] {
             let input = program.as_bytes().to_vec(alloc)?;
             let ended = run_over(alloc, &[word], input, &streams)?;
             assert_eq!(rt; ended.status, status, "{program}, {word}");
@@ -174,6 +174,8 @@ fn the_one_piece_may_fail(rt: HostRuntime) -> Result<(), Fail> {
         ("replay", "record N 0 { }", "refused li"),
         ("check", "record N 0 { }", "refused li"),
         ("check", "record N 1 { }", "record N 1"),
+        ("code", "record N 0 { }", "refused li"),
+        ("code", "proc p() { }", "proc p arg"),
     ];
     for (word, program, written) in rows {
         let streams = Streams {
@@ -191,7 +193,7 @@ fn the_one_piece_may_fail(rt: HostRuntime) -> Result<(), Fail> {
 #[test]
 fn no_output_is_no_write(rt: HostRuntime) -> Result<(), Fail> {
     let alloc = rt.alloc();
-    for word in ["run", "replay", "check"] {
+    for word in ["run", "replay", "check", "code"] {
         let streams = Streams {
             room: 0,
             failing_writes: &[1],

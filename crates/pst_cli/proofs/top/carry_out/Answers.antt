@@ -1,4 +1,5 @@
 use Rattle.std.proofs.Common.{ap, Err}
+use Rattle.pst_cli.specs.declared.page.Page.TheVariants.{Canonical, Listing}
 use Rattle.pst_cli.proofs.RowLemmas.{text_stopped, text_served, text_replayed, text_printed}
 use Rattle.pst_cli.proofs.top.carry_out.Goals as goal
 
@@ -12,7 +13,13 @@ returns-in-Err-clause-table g c =
 pub returns-in-Check-clause-table : goal.returns-in-Check-clause-table
 returns-in-Check-clause-table g c =
     let r = c.in-Ok.ensures in
-    rw c.in-Check.is (text_printed c.print.result c.args.lines.now.input c.read_text.new.lines.input _ _ _ _ c.in-Ok.text.items (ap (λ s. s.input) c.requires) r.text r.open.seen r.within c.print.ensures.printed)
+    rw c.in-Check.is (text_printed c.print.result Canonical c.args.lines.now.input c.read_text.new.lines.input _ _ _ _ c.in-Ok.text.items (ap (λ s. s.input) c.requires) r.text r.open.seen r.within c.print.ensures.printed)
+
+pub returns-in-Code-clause-table : goal.returns-in-Code-clause-table
+returns-in-Code-clause-table g c =
+    let r = c.in-Ok.ensures in
+    rw c.in-Code.is (text_printed c.print-in-Code.result Listing c.args.lines.now.input c.read_text.new.lines.input _ _ _ _ c.in-Ok.text.items (ap (λ s. s.input) c.requires) r.text r.open.seen r.within
+    c.print-in-Code.ensures.printed)
 
 pub returns-in-Run-clause-table : goal.returns-in-Run-clause-table
 returns-in-Run-clause-table g c =
