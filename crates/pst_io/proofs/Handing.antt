@@ -6,7 +6,7 @@ use Rattle.std.proofs.KnownBytes.{Consumes-nil, Consumes-trans, Consumes-kept}
 use Rattle.std.proofs.lemmas.List.{drop_all, length-take-le}
 use Rattle.std.proofs.Math.Seq.{take-append_seam, take-length}
 use Rattle.pst_io.specs.Text.{lines_of, whole_lines, IsFirstFeed}
-use Rattle.pst_io.specs.Input.{InputState, Hands, Gives, Reads, AreNextLines, NeedsNoRead, IsCutOff, bytes_read, skipped}
+use Rattle.pst_io.specs.Input.{InputState, Hands, Gives, Reads, AreNextLines, NeedsNoRead, skipped}
 use Rattle.pst_io.proofs.TextLemmas.{lines_of-feed, whole_lines-feed, lines_of-unfed, split_at_feed, front_clear}
 
 -- nothing was read, and nothing handed out
@@ -84,17 +84,6 @@ gives_then a left b left' c left'' lines lines' p q =
       still = λ ended. q.still (p.still ended);
     }
 
--- so many bytes were read
-pub bytes_read-hands : (a : InputState) (left : Option (List ℕ)) (b : InputState) (left' : Option (List ℕ)) (text : List ℕ) (p : Hands a left b left' text) → bytes_read b ≡ bytes_read a + length p.bytes
-bytes_read-hands a left b left' text p = omega (arith, p.counted, ap length p.kept, length-append a.held p.bytes, length-append text b.held)
-
--- where a read was due and did not come, the lines that were handed out are all the whole ones
-pub all_whole : (a : InputState) (left : Option (List ℕ)) (b : InputState) (left' : Option (List ℕ)) (lines : List (List ℕ)) (p : Gives a left b left' lines) → IsCutOff b
-    → whole_lines (a.held ++ p.hands.bytes) ≡ lines
-all_whole a left b left' lines p cut =
-    let (clear, going) = cut in
-    ap whole_lines (sym (append-nil (a.held ++ p.hands.bytes))) ∙ p.whole going [] ∙ ap (λ l. lines ++ l) (ap whole_lines (append-nil b.held) ∙ clear) ∙ append-nil lines
-
 -- ---- one line
 
 kept_feed : (held bytes held' : List ℕ) (i : ℕ) → held ++ bytes ≡ held' → IsFirstFeed i held' → held ++ bytes ≡ (take i held' ++ 10 ∷ []) ++ drop (i + 1) held'
@@ -149,12 +138,6 @@ gives_rest a left b left' n p all some clear ended end =
       whole = λ going more. absurd (cc);
       still = p.gives.still;
     }
-
--- nothing was pending where nothing was found until the end
-pub nothing_left : (left left' : Option (List ℕ)) (held bytes : List ℕ) → Consumes left left' bytes → held ++ bytes ≡ [] → IsAtEnd left' → IsAtEnd (prepend_known held left)
-nothing_left None left' held bytes took kept end = tt
-nothing_left (Some x) None held bytes took kept end = absurd took
-nothing_left (Some x) (Some y) held bytes took kept end = ap (λ l. held ++ l) (took ∙ ap (λ l. bytes ++ l) end ∙ append-nil bytes) ∙ kept
 
 -- where a read is due after something was read, one was due before
 pub was_due : (a : InputState) (left : Option (List ℕ)) (b : InputState) (left' : Option (List ℕ)) → Hands a left b left' [] → (IsTrue a.ended → IsTrue b.ended)

@@ -20,15 +20,15 @@ pub record SinkState : Type 0 where
   pub faults : ℕ
 
 -- one more, up to the last number
-abbrev pub counted : ℕ → ℕ
-counted n = min (n + 1) (2 ^ 64 - 1)
+abbrev pub one_more : ℕ → ℕ
+one_more n = min (n + 1) (2 ^ 64 - 1)
 
 -- after a read with this result
 abbrev pub after_read : SourceState → Result ℕ Failed → SourceState
-after_read s (Ok n) = record s { left = drop n s.left; calls = counted s.calls }
-after_read s (Err e) = record s { calls = counted s.calls; faults = counted s.faults }
+after_read s (Ok n) = record s { left = drop n s.left; calls = one_more s.calls }
+after_read s (Err e) = record s { calls = one_more s.calls; faults = one_more s.faults }
 
 -- after a write of this piece with this result
 abbrev pub after_write : SinkState → List ℕ → Result ℕ Failed → SinkState
-after_write s piece (Ok n) = record s { taken = s.taken ++ take n piece; calls = counted s.calls }
-after_write s piece (Err e) = record s { calls = counted s.calls; faults = counted s.faults }
+after_write s piece (Ok n) = record s { taken = s.taken ++ take n piece; calls = one_more s.calls }
+after_write s piece (Err e) = record s { calls = one_more s.calls; faults = one_more s.faults }

@@ -1,4 +1,4 @@
-// An input of which at most `MOST` bytes are read, piece by piece, into a buffer that is kept.
+// An input of which at most `MOST_INPUT` bytes are read, piece by piece, into a buffer that is kept.
 ghost use Rattle.std.specs.Prelude.{◌≡◌, ◌<◌, ◌≤◌, ◌+◌, ◌⊎◌, ℕ, max, [], ◌∷◌, length, true, false, IfErr, IfOk, IfSome, IfNone, IsOk, OnOk, OnErr, Ok, Err, IsTrue};
 ghost use Rattle.std.specs.Io.KnownBytes.{Consumes, IsAtEnd, Keeps};
 ghost use Rattle.pst_io.specs.Causes.{HasCause, Rose};
@@ -7,7 +7,7 @@ ghost use Rattle.pst_io.specs.Input.{InputState, Hands, Reads, ReadsPast, EndsWh
 
 use crate::fault::LinesFault;
 use crate::feed::find_feed;
-use crate::room::{MOST, PIECE, make_room, move_to_front};
+use crate::room::{MOST_INPUT, MOST_READ, make_room, move_to_front};
 use crate::traits::{Failed, Source};
 use std::alloc::Global;
 use std::marker::Model;
@@ -24,6 +24,7 @@ pub struct Input {
 
 impl Model for Input {
     ghost use Rattle.std.specs.Prelude.{◌≤◌, ◌+◌, ◌-◌, drop, take, vec_len};
+    ghost use Rattle.pst_io.specs.declared.room.TheConstants.{MOST_INPUT};
     ghost use Rattle.pst_io.specs.Input.{InputState};
 
     ghost Value = { InputState };
@@ -34,7 +35,7 @@ impl Model for Input {
       ended = s.ended;
     } };
 
-    ghost invariant = { λ s. (s.start ≤ s.end) × (s.end ≤ vec_len s.buffer) × (vec_len s.buffer ≤ 67108864) × (s.handed + (s.end - s.start) ≤ 67108864) };
+    ghost invariant = { λ s. (s.start ≤ s.end) × (s.end ≤ vec_len s.buffer) × (vec_len s.buffer ≤ MOST_INPUT) × (s.handed + (s.end - s.start) ≤ MOST_INPUT) };
 }
 
 impl Input {
@@ -52,7 +53,7 @@ impl Input {
 
     pub fn held(&self) -> &[u8]
         ensures held { result.now ≡ self.now.held }
-        ensures within { bytes_read self.now ≤ MOST }
+        ensures within { bytes_read self.now ≤ MOST_INPUT }
     {
         &self.buffer[self.start..self.end]
     }
@@ -70,18 +71,18 @@ impl Input {
         requires { self.old.ended ≡ false }
         ensures reads { OnOk result (Hands self.old (S.left source.old) self.new (S.left source.new) []) }
         ensures more { OnOk result ((length self.old.held < length self.new.held) ⊎ IsTrue self.new.ended) }
-        ensures piece { length self.new.held ≤ length self.old.held + PIECE }
+        ensures piece { length self.new.held ≤ length self.old.held + MOST_READ }
         ensures seen { OnOk result (EndsWhereSeen self.new (S.left source.new)) }
-        ensures within { bytes_read self.new ≤ MOST }
+        ensures within { bytes_read self.new ≤ MOST_INPUT }
 
         ensures later { S.faults source.old ≤ S.faults source.new }
         ensures failed { result ≡ Err LinesFault.Failed → Rose (S.faults source.old) (S.faults source.new) }
-        ensures too_long { result ≡ Err LinesFault.TooLong → (bytes_read self.old ≡ MOST)
+        ensures too_long { result ≡ Err LinesFault.TooLong → (bytes_read self.old ≡ MOST_INPUT)
             × ((more : ℕ) × Consumes (S.left source.old) (S.left source.new) (more ∷ [])) }
         ensures kept { OnErr result (self.new ≡ self.old) }
         ensures none_read { IfErr result (λ fault. (fault ≡ LinesFault.TooLong → ⊥) → Keeps (S.left source.old) (S.left source.new)) }
     {
-        if self.handed + (self.end - self.start) == MOST {
+        if self.handed + (self.end - self.start) == MOST_INPUT {
             if has_more(source)? {
                 return Err(LinesFault::TooLong);
             }
@@ -92,8 +93,8 @@ impl Input {
         self.end -= self.start;
         self.start = 0;
         make_room(&mut self.buffer, self.end)?;
-        let room = (self.buffer.len() - self.end).min(MOST - self.handed - self.end);
-        let stop = self.end + room.min(PIECE);
+        let room = (self.buffer.len() - self.end).min(MOST_INPUT - self.handed - self.end);
+        let stop = self.end + room.min(MOST_READ);
         let count = source.read(&mut self.buffer[self.end..stop])?;
         self.end += count;
         self.ended = count == 0;
@@ -104,14 +105,14 @@ impl Input {
     pub fn seek_feed<S: Source>(&mut self, source: &mut S) -> Result<Option<usize>, LinesFault>
         requires { EndsWhereSeen self.old (S.left source.old) }
         ensures reads { (result ≡ Err LinesFault.TooLong → ⊥) → Reads self.old (S.left source.old) self.new (S.left source.new) }
-        ensures past { result ≡ Err LinesFault.TooLong → ReadsPast self.old (S.left source.old) self.new (S.left source.new) MOST }
+        ensures past { result ≡ Err LinesFault.TooLong → ReadsPast self.old (S.left source.old) self.new (S.left source.new) MOST_INPUT }
         ensures found { IfOk result (λ found. IfSome found (λ i. IsFirstFeed i self.new.held)) }
-        ensures ahead { IfOk result (λ found. IfSome found (λ i. length self.new.held ≤ max (length self.old.held) (i + PIECE))) }
+        ensures ahead { IfOk result (λ found. IfSome found (λ i. length self.new.held ≤ max (length self.old.held) (i + MOST_READ))) }
         ensures end { IfOk result (λ found. IfNone found ((whole_lines self.new.held ≡ []) × IsTrue self.new.ended)) }
         ensures cut_off { OnErr result (IsCutOff self.new) }
         ensures seen { OnOk result (EndsWhereSeen self.new (S.left source.new)) }
         ensures no_read { NeedsNoRead self.old → IsOk result × (source.new ≡ source.old) }
-        ensures within { bytes_read self.new ≤ MOST }
+        ensures within { bytes_read self.new ≤ MOST_INPUT }
 
         ensures later { S.faults source.old ≤ S.faults source.new }
         ensures failed { result ≡ Err LinesFault.Failed → Rose (S.faults source.old) (S.faults source.new) }

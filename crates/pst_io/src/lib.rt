@@ -1,4 +1,13 @@
 //! A source and a sink of bytes, over memory and over the standard streams, and a reader that hands out the lines of a source.
+//!
+//! Model: a source has the bytes left, where it tells them, and a count of faults; a sink the bytes taken and a count of
+//! faults. `Lines` holds at most one read beyond the line that it handed out.
+//!
+//! Contract: `put` writes a piece whole, or a proper prefix with a fault that the sink counted. `Lines::next` hands out exactly
+//! the next line, and answers the end, too long an input and a fault exactly where they come.
+//!
+//!     let mut lines = Lines::new(alloc)?;
+//!     let ended = lines.next(&mut source, &mut line)?;
 #![tactic(auto)]
 
 mod fault;
@@ -17,5 +26,6 @@ pub use fault::LinesFault;
 pub use lines::Lines;
 pub use memory_sink::MemSink;
 pub use memory_source::MemSource;
+pub use room::{MOST_INPUT, MOST_READ};
 pub use standard::{StdSink, StdSource};
 pub use traits::{Failed, Sink, Source, put};

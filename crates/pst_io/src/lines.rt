@@ -8,15 +8,15 @@ ghost use Rattle.std.specs.Io.KnownBytes.{IsAtEnd};
 
 use crate::fault::LinesFault;
 use crate::input::Input;
-use crate::room::{MOST, PIECE};
+use crate::room::{MOST_INPUT, MOST_READ};
 use crate::traits::Source;
 use std::alloc::Global;
 use std::marker::Model;
 
 /// Hands out the lines of a source one by one, as they are read.
 ///
-/// A line ends at a line feed, and bytes after the last line feed are a line too. At most 67,108,864
-/// bytes are read, and one more to see whether the input is longer, at most 65,536 a read. It keeps
+/// A line ends at a line feed, and bytes after the last line feed are a line too. At most [`MOST_INPUT`]
+/// bytes are read, and one more to see whether the input is longer, at most [`MOST_READ`] a read. It keeps
 /// the line that is ready, and of what is behind it at most one read.
 #[derive(Drop)]
 pub struct Lines {
@@ -83,14 +83,15 @@ impl Lines {
         // What stands after a fault.
         ensures cut_off { OnErr result (IsCutOff self.new.input) }
         ensures reads { IfErr result (λ fault. (fault ≡ LinesFault.TooLong → ⊥) → Reads self.old.input (S.left source.old) self.new.input (S.left source.new)) }
-        ensures too_long { result ≡ Err LinesFault.TooLong → ReadsPast self.old.input (S.left source.old) self.new.input (S.left source.new) MOST }
+        ensures too_long { result ≡ Err LinesFault.TooLong → ReadsPast self.old.input (S.left source.old) self.new.input (S.left source.new) MOST_INPUT }
         ensures fault { result ≡ Err LinesFault.Failed → Rose (S.faults source.old) (S.faults source.new) }
         ensures failed { self.new.failed ≡ is_err result }
 
-        // How far it reads.
+        // How far it reads: one read asks for at most `MOST_READ` bytes, and none is made where a whole line is held.
+        // So less than one read is held behind the line that is handed out, or no more than was held before.
         ensures no_read { NeedsNoRead self.old.input → IsOk result × (source.new ≡ source.old) }
-        ensures ahead { result ≡ Ok true → length self.new.input.held ≤ max (length self.old.input.held) (PIECE - 1) }
-        ensures within { bytes_read self.new.input ≤ MOST }
+        ensures ahead { result ≡ Ok true → length self.new.input.held ≤ max (length self.old.input.held) (MOST_READ - 1) }
+        ensures within { bytes_read self.new.input ≤ MOST_INPUT }
 
         ensures ready { IsTrue self.new.ready ↔ (result ≡ Ok true) }
         ensures open { OnOk result (IsOpen self.new (S.left source.new)) }

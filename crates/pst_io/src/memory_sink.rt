@@ -3,7 +3,7 @@ ghost use Rattle.std.specs.Prelude.{◌≡◌, ◌≤◌, ◌<◌, ◌-◌, ◌�
 ghost use Rattle.std.specs.Io.{WritesAtMost};
 ghost use Rattle.std.specs.Io.KnownBytes.{WriteAppends};
 ghost use Rattle.pst_io.specs.Causes.{HasCause};
-ghost use Rattle.pst_io.specs.Memory.{counted, after_write};
+ghost use Rattle.pst_io.specs.Memory.{one_more, after_write};
 
 use crate::traits::{Failed, Sink};
 use std::alloc::{AllocError, Global};
@@ -90,7 +90,7 @@ impl Sink for MemSink {
         ensures bytes { WriteAppends (Some self.old.taken) (Some self.new.taken) result piece.now }
         ensures cause { HasCause self.old.faults self.new.faults result }
 
-        ensures fails { IsErr result ↔ (Contains self.old.failing (counted self.old.calls)
+        ensures fails { IsErr result ↔ (Contains self.old.failing (one_more self.old.calls)
             ⊎ ((0 < length piece.now) × (self.old.room ≤ length self.old.taken))) }
         ensures count { IfOk result (λ n. n ≡
             min (length piece.now) (min self.old.most (self.old.room - length self.old.taken))) }

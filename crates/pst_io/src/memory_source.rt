@@ -3,7 +3,7 @@ ghost use Rattle.std.specs.Prelude.{◌≡◌, ◌≤◌, ◌↔◌, [], ◌∷�
 ghost use Rattle.std.specs.Io.{ReadsAtMost};
 ghost use Rattle.std.specs.Io.KnownBytes.{ReadConsumes};
 ghost use Rattle.pst_io.specs.Causes.{HasCause};
-ghost use Rattle.pst_io.specs.Memory.{counted, after_read};
+ghost use Rattle.pst_io.specs.Memory.{one_more, after_read};
 
 use crate::traits::{Failed, Source};
 use std::marker::Model;
@@ -71,7 +71,7 @@ impl Source for MemSource {
         ensures bytes { ReadConsumes (Some self.old.left) (Some self.new.left) result buf.new }
         ensures cause { HasCause self.old.faults self.new.faults result }
 
-        ensures fails { IsErr result ↔ Contains self.old.failing (counted self.old.calls) }
+        ensures fails { IsErr result ↔ Contains self.old.failing (one_more self.old.calls) }
         ensures count { IfOk result (λ n. n ≡ min (length buf.old) (min self.old.most (length self.old.left))) }
         ensures state { self.new ≡ after_read self.old result }
     {

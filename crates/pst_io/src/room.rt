@@ -3,11 +3,11 @@ ghost use Rattle.std.specs.Prelude.{◌≡◌, ◌<◌, ◌≤◌, ◌-◌, drop
 
 use std::alloc::AllocError;
 
-/// The most bytes that are read of one source: 64 MiB.
-pub const MOST: usize = 67_108_864;
+/// The most bytes of one source that are read and handed out as lines: 64 MiB.
+pub const MOST_INPUT: usize = 67_108_864;
 
-/// The most bytes that one read asks for: 64 KiB.
-pub const PIECE: usize = 65_536;
+/// The most bytes that one read asks a source for: 64 KiB.
+pub const MOST_READ: usize = 65_536;
 
 // Moves the bytes between two places to the front.
 pub fn move_to_front(buffer: &mut Vec<u8>, start: usize, end: usize)
@@ -24,15 +24,15 @@ pub fn move_to_front(buffer: &mut Vec<u8>, start: usize, end: usize)
 // Makes room behind the first bytes, so many that a line of n bytes costs a copy of at most n in all.
 pub fn make_room(buffer: &mut Vec<u8>, end: usize) -> Result<(), AllocError>
     requires within { end ≤ vec_len buffer.old }
-    requires below { end < MOST }
-    requires most { vec_len buffer.old ≤ MOST }
+    requires below { end < MOST_INPUT }
+    requires most { vec_len buffer.old ≤ MOST_INPUT }
     ensures room { OnOk result (end < vec_len buffer.new) }
     ensures front { OnOk result (take end buffer.new.items ≡ take end buffer.old.items) }
-    ensures within { vec_len buffer.new ≤ MOST }
+    ensures within { vec_len buffer.new ≤ MOST_INPUT }
     ensures err { OnErr result (buffer.new.items ≡ buffer.old.items) }
 {
     if end == buffer.len() {
-        buffer.resize(PIECE.max(2 * end).min(MOST), 0)?;
+        buffer.resize(MOST_READ.max(2 * end).min(MOST_INPUT), 0)?;
     }
     Ok(())
 }

@@ -184,17 +184,17 @@ fn long_lines(alloc: Global, len: usize, end: &[u8]) -> Result<Report, Fail> {
 }
 
 #[test]
-fn an_input_of_64_mebibytes_is_read(rt: HostRuntime) -> Result<(), Fail> {
-    let report = long_lines(rt.alloc(), 67_108_863, b"\n")?;
-    assert_eq!(rt; report.lengths.as_slice(), [2, 67_108_860].as_slice());
-    assert_eq!(rt; report.fault, None);
-    Ok(())
-}
-
-#[test]
-fn an_input_of_one_byte_more_is_too_long(rt: HostRuntime) -> Result<(), Fail> {
-    let report = long_lines(rt.alloc(), 67_108_863, b"\ny")?;
-    assert_eq!(rt; report.lengths.as_slice(), [2, 67_108_860].as_slice());
-    assert_eq!(rt; report.fault, Some(LinesFault::TooLong));
+fn an_input_of_64_mebibytes_is_read_and_one_byte_more_is_too_long(
+    rt: HostRuntime,
+) -> Result<(), Fail> {
+    let rows: [(&[u8], Option<LinesFault>); 2] = [
+        (b"\n", None),
+        (b"\ny", Some(LinesFault::TooLong)),
+    ];
+    for (end, fault) in rows {
+        let report = long_lines(rt.alloc(), 67_108_863, end)?;
+        assert_eq!(rt; report.lengths.as_slice(), [2, 67_108_860].as_slice());
+        assert_eq!(rt; report.fault, fault);
+    }
     Ok(())
 }

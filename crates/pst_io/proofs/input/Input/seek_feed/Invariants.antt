@@ -1,5 +1,6 @@
 use Rattle.std.proofs.Common.{◌≡◌, ◌≤◌, ◌+◌, ◌-◌, [], length, take, IsTrue, cond}
 use Rattle.std.specs.Prelude.{max}
+use Rattle.pst_io.specs.declared.room.TheConstants.{MOST_INPUT, MOST_READ}
 use Rattle.pst_io.specs.Text.{whole_lines}
 use Rattle.pst_io.specs.Input.{Hands, EndsWhereSeen, NeedsNoRead}
 use Rattle.pst_io.proofs.input.Input.seek_feed.Given as goal
@@ -9,7 +10,7 @@ abbrev pub invariant-reading : goal.invariant-reading
 invariant-reading g l = record {
   searched : l.searched ≤ length l.self.held;
   clear : whole_lines (take l.searched l.self.held) ≡ [];
-  ahead : length l.self.held ≤ max (length l.fn.self.held) (l.searched + 65536);
+  ahead : length l.self.held ≤ max (length l.fn.self.held) (l.searched + MOST_READ);
   hands : Hands l.fn.self (g.S.Source.left l.fn.source) l.self (g.S.Source.left l.source) [];
   still : IsTrue l.fn.self.ended → IsTrue l.self.ended;
   seen : EndsWhereSeen l.self (g.S.Source.left l.source);
@@ -19,4 +20,4 @@ invariant-reading g l = record {
 
 -- each turn reads a byte, or is the last but one
 abbrev pub decreases-reading : goal.decreases-reading
-decreases-reading g l = (67108864 - length l.self.held) + cond l.self.ended 0 1
+decreases-reading g l = (MOST_INPUT - length l.self.held) + cond l.self.ended 0 1
