@@ -1,5 +1,5 @@
 -- How deep a program is: the limits that a tree of the parser keeps.
-use Rattle.std.specs.Prelude.{ℕ, ◌≤◌, max, List, [], ◌∷◌, Option, Some, None}
+use Rattle.std.specs.Prelude.{ℕ, ◌≤◌, max, List, [], ◌∷◌, Some, None}
 use Rattle.std.proofs.Common.{suc}
 use Rattle.pst_tree.specs.Syntax.{Expr, Number, Null, Name, Parens, Field, Negate, Not, Binary, Phrase, New, Call, Write, Print, If, Either, While, Return, Phrases, Empty, Then, Item, Record, Root, Procedure}
 

@@ -1,5 +1,5 @@
 -- The tree for definitions that the program's tree is.
-use Rattle.std.specs.Prelude.{ℕ, List, [], ◌∷◌, map, Option, Some, None}
+use Rattle.std.specs.Prelude.{List, [], ◌∷◌, map}
 use Rattle.std.specs.Option.{option_map}
 use Rattle.pst_tree.specs.declared.expression.Expression.{Expression}
 use Rattle.pst_tree.specs.declared.expression.Expression.TheVariants as expression

@@ -1,4 +1,8 @@
 //! A program's text as a tree.
+//!
+//! The types are what the parser gives: declarations, statements and expressions as they were written, parentheses kept,
+//! with the line of each. The definitions beside them are the same tree without boxes, names as lists of bytes, and how
+//! deep a tree is: the height of an expression and the nesting of blocks are said here, once, for the parser and typing.
 #![tactic(auto)]
 
 mod declaration;
