@@ -1,12 +1,12 @@
 -- What the parts of the lexer answer at the front of a text.
-use Rattle.std.specs.Prelude.{◌≡◌, ◌==◌, ℕ, ◌+◌, ◌^◌, ◌≤◌, ◌<◌, Bool, true, false, List, [], ◌∷◌, length, Option, Some, None, Result, Ok, Err, take, drop, slice_index, All, ◌⊎◌, IsSomeAnd}
+use Rattle.std.specs.Prelude.{◌≡◌, ◌==◌, ℕ, ◌+◌, ◌^◌, ◌≤◌, ◌<◌, Bool, true, false, List, [], ◌∷◌, length, Option, Some, None, Result, Ok, Err, take, drop, slice_index, ◌⊎◌, IsSomeAnd}
 use Rattle.std.specs.Fmt.{decimal}
 use Rattle.pst_lex.specs.declared.types.TokenKind.{TokenKind}
 use Rattle.pst_lex.specs.declared.faults.LexFault.{LexFault}
 use Rattle.pst_lex.specs.declared.faults.LexFault.TheVariants as fault
 use Rattle.pst_lex.specs.declared.types.Token.{Token}
 use Rattle.pst_lex.specs.Bytes.{is_symbol, NoPair, EndsWord, gap_step, gap, feeds}
-use Rattle.pst_lex.specs.Words.{word_of, keywords, keyword_of, symbol_of, mark_text}
+use Rattle.pst_lex.specs.Words.{word_of, symbol_of, mark_text}
 use Rattle.pst_lex.specs.Lexing.{LexedTo, IsToken, IsFault}
 
 -- the digits write this number
@@ -19,11 +19,6 @@ abbrev pub leading_zero : List ℕ → Bool
 leading_zero [] = false
 leading_zero (b ∷ []) = false
 leading_zero (b ∷ c ∷ w) = b == 48
-
--- the position of the keyword that is spelled so
-abbrev pub IsKeyword : Option ℕ → List ℕ → Type 0
-IsKeyword (Some n) w = IsSomeAnd (keyword_of n) (λ m. w ≡ mark_text m)
-IsKeyword None w = All (λ m. w ≡ mark_text m → ⊥) keywords
 
 -- the position of the symbol that one byte is
 abbrev pub IsSingle : Option ℕ → ℕ → Type 0

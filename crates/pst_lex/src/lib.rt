@@ -1,4 +1,13 @@
 //! The tokens of a program text: names, numbers, keywords and symbols, each with its place and its line.
+//!
+//! The model is a relation between a text and a list of tokens: each token is as long as it can be, blanks and comments
+//! stand between tokens, and its line is 1 and the line feeds before it. [`tokens`] gives the tokens of a text exactly
+//! where it has some, and else its first fault; laws say that a text has one of the two, and only one.
+//!
+//! ```text
+//! let read = tokens(alloc, b"x = 7;")?;       // four tokens, all on line 1
+//! tokens(alloc, b"x = 07;")                   // Err(LexFault::Number { line: 1 })
+//! ```
 #![tactic(auto)]
 
 mod bytes;

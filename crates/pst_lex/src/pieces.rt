@@ -4,12 +4,12 @@ ghost use Rattle.std.specs.Prelude.{◌≡◌, ◌+◌, ◌≤◌, ◌<◌, leng
 ghost use Rattle.std.specs.List.{list_all};
 ghost use Rattle.std.specs.Prelude.{true, false};
 ghost use Rattle.pst_lex.specs.Bytes.{gap_step, is_word as is_word_byte, EndsWord, StartsWithDigit, StartsWithLetter};
-ghost use Rattle.pst_lex.specs.Pieces.{IsKeyword, IsNameKind, IsPair, IsSingle, leading_zero, Takes, Writes};
+ghost use Rattle.pst_lex.specs.Pieces.{IsNameKind, IsPair, IsSingle, leading_zero, Takes, Writes};
 
 use crate::bytes::{is_digit, is_letter, is_word};
 use crate::faults::LexFault;
 use crate::types::TokenKind;
-use pst_base::Text;
+use pst_base::{Text, keyword_number};
 use std::alloc::Global;
 
 /// The greatest length of a name, in bytes.
@@ -27,35 +27,6 @@ fn word_length(text: &[u8]) -> usize
         n += 1;
     }
     n
-}
-
-/// The position of the keyword that is spelled so.
-#[tactic(auto, using(std::proofs::lemmas::Slice::Eq::text_from_reads))]
-fn keyword_position(word: &[u8]) -> Option<u8>
-    ensures { IsKeyword result word.now }
-{
-    match word {
-        b"record" => Some(0),
-        b"val" => Some(1),
-        b"ptr" => Some(2),
-        b"root" => Some(3),
-        b"proc" => Some(4),
-        b"query" => Some(5),
-        b"var" => Some(6),
-        b"new" => Some(7),
-        b"call" => Some(8),
-        b"print" => Some(9),
-        b"if" => Some(10),
-        b"else" => Some(11),
-        b"while" => Some(12),
-        b"return" => Some(13),
-        b"null" => Some(14),
-        b"and" => Some(15),
-        b"or" => Some(16),
-        b"not" => Some(17),
-        b"int" => Some(18),
-        _ => None,
-    }
 }
 
 /// Whether a zero stands in front of more.
@@ -94,7 +65,7 @@ fn name_kind(alloc: Global, word: &[u8]) -> Result<TokenKind, LexFault>
     requires short { length word.now ≤ 32 }
     ensures { IsNameKind result word.now }
 {
-    match keyword_position(word) {
+    match keyword_number(word) {
         Some(position) => Ok(TokenKind::Keyword(position)),
         None => Ok(TokenKind::Name(Text::from_vec(word.to_vec(alloc)?))),
     }

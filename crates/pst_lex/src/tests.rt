@@ -7,6 +7,79 @@ use std::test::Fail;
 /// A text that is read in a table has fewer bytes.
 const SMALL: usize = 100_000;
 
+/// Texts, and where the first fault of each stands.
+const FAULTS: [(&[u8], LexFault); 22] = [
+    (b"query q() { print 007; }", LexFault::Number { line: 1 }),
+    (b"\xc8", LexFault::Byte { line: 1 }),
+    (
+        b"root aaaaaaaaaaaaaaaaaaaaaaaaaaaaaaaaa: int;",
+        LexFault::NameLength { line: 1 },
+    ),
+    (b"x = 5x;", LexFault::Number { line: 1 }),
+    (b"x = 5_;", LexFault::Number { line: 1 }),
+    (b"\n00", LexFault::Number { line: 2 }),
+    (b"9223372036854775808", LexFault::Number { line: 1 }),
+    (b"-9223372036854775808", LexFault::Number { line: 1 }),
+    (
+        b"1234567890123456789012345678901234567890",
+        LexFault::Number { line: 1 },
+    ),
+    (
+        b"0abcdefghijabcdefghijabcdefghijabcdefghij",
+        LexFault::Number { line: 1 },
+    ),
+    (b"a\r\r\n\n!", LexFault::Byte { line: 3 }),
+    (b"a ! = b", LexFault::Byte { line: 1 }),
+    (b"a & b", LexFault::Byte { line: 1 }),
+    (b"\"", LexFault::Byte { line: 1 }),
+    (b"[", LexFault::Byte { line: 1 }),
+    (b"|", LexFault::Byte { line: 1 }),
+    (b"# a\n# \x80 007\n007", LexFault::Byte { line: 2 }),
+    (b"a # \x7f", LexFault::Byte { line: 1 }),
+    (b"a\x0cb", LexFault::Byte { line: 1 }),
+    (b"a\n007 $", LexFault::Number { line: 2 }),
+    (b"a\n$ 007", LexFault::Byte { line: 2 }),
+    (b"a\x00", LexFault::Byte { line: 1 }),
+];
+
+/// Texts with their tokens, as they are shown, and the line of the end.
+const TOKENS: [(&[u8], &str, u32); 14] = [
+    (b"", "", 1),
+    (b" \t\r\n", "", 2),
+    (
+        b"proc p() {\n",
+        "1:0-4 k4; 1:5-6 p; 1:6-7 s2; 1:7-8 s3; 1:9-10 s0; ",
+        2,
+    ),
+    (b"# a comment ! & ~", "", 1),
+    (b"a#b\nc", "1:0-1 a; 2:4-5 c; ", 2),
+    (b"===", "1:0-2 s9; 1:2-3 s8; ", 1),
+    (b"<==", "1:0-2 s12; 1:2-3 s8; ", 1),
+    (b"=<", "1:0-1 s8; 1:1-2 s11; ", 1),
+    (b"!=>=>%", "1:0-2 s10; 1:2-4 s14; 1:4-5 s13; 1:5-6 s19; ", 1),
+    (b"5.x", "1:0-1 5; 1:1-2 s7; 1:2-3 x; ", 1),
+    (
+        b"9223372036854775807 0",
+        "1:0-19 9223372036854775807; 1:20-21 0; ",
+        1,
+    ),
+    (
+        b"int ints _ Int",
+        "1:0-3 k18; 1:4-8 ints; 1:9-10 _; 1:11-14 Int; ",
+        1,
+    ),
+    (
+        b"a1234567890123456789012345678901:",
+        "1:0-32 a1234567890123456789012345678901; 1:32-33 s5; ",
+        1,
+    ),
+    (
+        b"}),;+-*/",
+        "1:0-1 s1; 1:1-2 s3; 1:2-3 s6; 1:3-4 s4; 1:4-5 s15; 1:5-6 s16; 1:6-7 s17; 1:7-8 s18; ",
+        1,
+    ),
+];
+
 /// The line of a token, its first byte and the one behind its last, and what it is: a name by its bytes, a number, or the
 /// position of a keyword (`k`) or symbol (`s`).
 fn shown(alloc: Global, token: &Token) -> Result<String, AllocError> {
@@ -26,40 +99,7 @@ fn shown(alloc: Global, token: &Token) -> Result<String, AllocError> {
 
 #[test]
 fn faults_stand_where_the_first_one_is(rt: HostRuntime) -> Result<(), Fail> {
-    let texts: [(&[u8], LexFault); 22] = [
-        (b"query q() { print 007; }", LexFault::Number { line: 1 }),
-        (b"\xc8", LexFault::Byte { line: 1 }),
-        (
-            b"root aaaaaaaaaaaaaaaaaaaaaaaaaaaaaaaaa: int;",
-            LexFault::NameLength { line: 1 },
-        ),
-        (b"x = 5x;", LexFault::Number { line: 1 }),
-        (b"x = 5_;", LexFault::Number { line: 1 }),
-        (b"\n00", LexFault::Number { line: 2 }),
-        (b"9223372036854775808", LexFault::Number { line: 1 }),
-        (b"-9223372036854775808", LexFault::Number { line: 1 }),
-        (
-            b"1234567890123456789012345678901234567890",
-            LexFault::Number { line: 1 },
-        ),
-        (
-            b"0abcdefghijabcdefghijabcdefghijabcdefghij",
-            LexFault::Number { line: 1 },
-        ),
-        (b"a\r\r\n\n!", LexFault::Byte { line: 3 }),
-        (b"a ! = b", LexFault::Byte { line: 1 }),
-        (b"a & b", LexFault::Byte { line: 1 }),
-        (b"\"", LexFault::Byte { line: 1 }),
-        (b"[", LexFault::Byte { line: 1 }),
-        (b"|", LexFault::Byte { line: 1 }),
-        (b"# a\n# \x80 007\n007", LexFault::Byte { line: 2 }),
-        (b"a # \x7f", LexFault::Byte { line: 1 }),
-        (b"a\x0cb", LexFault::Byte { line: 1 }),
-        (b"a\n007 $", LexFault::Number { line: 2 }),
-        (b"a\n$ 007", LexFault::Byte { line: 2 }),
-        (b"a\x00", LexFault::Byte { line: 1 }),
-    ];
-    for (number, (text, fault)) in texts.iter().enumerate() {
+    for (number, (text, fault)) in FAULTS.iter().enumerate() {
         assert!(rt; text.len() < SMALL);
         let answer = tokens(rt.alloc(), text).err();
         assert_eq!(rt; answer, Some(*fault), "text {number}");
@@ -69,43 +109,7 @@ fn faults_stand_where_the_first_one_is(rt: HostRuntime) -> Result<(), Fail> {
 
 #[test]
 fn tokens_are_as_long_as_they_can_be(rt: HostRuntime) -> Result<(), Fail> {
-    let texts: [(&[u8], &str, u32); 14] = [
-        (b"", "", 1),
-        (b" \t\r\n", "", 2),
-        (
-            b"proc p() {\n",
-            "1:0-4 k4; 1:5-6 p; 1:6-7 s2; 1:7-8 s3; 1:9-10 s0; ",
-            2,
-        ),
-        (b"# a comment ! & ~", "", 1),
-        (b"a#b\nc", "1:0-1 a; 2:4-5 c; ", 2),
-        (b"===", "1:0-2 s9; 1:2-3 s8; ", 1),
-        (b"<==", "1:0-2 s12; 1:2-3 s8; ", 1),
-        (b"=<", "1:0-1 s8; 1:1-2 s11; ", 1),
-        (b"!=>=>%", "1:0-2 s10; 1:2-4 s14; 1:4-5 s13; 1:5-6 s19; ", 1),
-        (b"5.x", "1:0-1 5; 1:1-2 s7; 1:2-3 x; ", 1),
-        (
-            b"9223372036854775807 0",
-            "1:0-19 9223372036854775807; 1:20-21 0; ",
-            1,
-        ),
-        (
-            b"int ints _ Int",
-            "1:0-3 k18; 1:4-8 ints; 1:9-10 _; 1:11-14 Int; ",
-            1,
-        ),
-        (
-            b"a1234567890123456789012345678901:",
-            "1:0-32 a1234567890123456789012345678901; 1:32-33 s5; ",
-            1,
-        ),
-        (
-            b"}),;+-*/",
-            "1:0-1 s1; 1:1-2 s3; 1:2-3 s6; 1:3-4 s4; 1:4-5 s15; 1:5-6 s16; 1:6-7 s17; 1:7-8 s18; ",
-            1,
-        ),
-    ];
-    for (text, wanted, end) in texts {
+    for (text, wanted, end) in TOKENS {
         assert!(rt; text.len() < SMALL);
         let read = tokens(rt.alloc(), text)?;
         let mut all = String::new(rt.alloc());
@@ -114,22 +118,6 @@ fn tokens_are_as_long_as_they_can_be(rt: HostRuntime) -> Result<(), Fail> {
         }
         assert_eq!(rt; all.as_str(), wanted);
         assert_eq!(rt; read.end, end);
-    }
-    Ok(())
-}
-
-#[test]
-fn keywords_have_their_positions(rt: HostRuntime) -> Result<(), Fail> {
-    let text =
-        b"record val ptr root proc query var new call print if else while return null and or not int";
-    let read = tokens(rt.alloc(), text)?;
-    assert_eq!(rt; read.list.as_slice().len(), 19);
-    for (position, token) in read.list.as_slice().iter().enumerate() {
-        let index = match &token.kind {
-            TokenKind::Keyword(index) => usize::from(*index),
-            _ => 99,
-        };
-        assert_eq!(rt; index, position);
     }
     Ok(())
 }

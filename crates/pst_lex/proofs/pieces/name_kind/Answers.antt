@@ -1,7 +1,10 @@
 use Rattle.std.proofs.Common.{◌∙◌, sym, subst}
 use Rattle.pst_lex.specs.Lexing.{IsName}
-use Rattle.pst_lex.proofs.Marks.{name_token}
+use Rattle.pst_lex.proofs.Marks.{keyword_token, name_token}
 use Rattle.pst_lex.proofs.pieces.name_kind.Goals as goal
+
+pub returns-in-Some : goal.returns-in-Some
+returns-in-Some c = λ rest ends. keyword_token c.in-Some.position c.args.word.now rest c.requires.starts ends c.in-Some.ensures
 
 pub returns-in_ok-to_vec-in-None : goal.returns-in_ok-to_vec-in-None
 returns-in_ok-to_vec-in-None c = λ rest ends.
