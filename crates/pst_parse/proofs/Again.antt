@@ -9,7 +9,8 @@ use Rattle.pst_parse.specs.declared.lexeme.Label.{Label}
 use Rattle.pst_parse.specs.declared.lexeme.Sign.TheVariants as sign
 use Rattle.pst_parse.specs.Lexemes as token
 use Rattle.pst_parse.specs.Lexemes.{Lexeme, Operator, Plain, Leading, Unknown}
-use Rattle.pst_parse.specs.Forms.{level, loosest_left, rank, height, IsFormed, IsPlace}
+use Rattle.pst_tree.specs.Depth.{height}
+use Rattle.pst_parse.specs.Forms.{level, loosest_left, rank, IsFormed, IsPlace}
 use Rattle.pst_parse.specs.Spelling.{Expr, Number, Null, Name, Parens, Field, Negate, Not, Binary, expr, spelled}
 use Rattle.pst_parse.specs.Reader.{Read, Got, within}
 use Rattle.pst_parse.specs.Reading.{more, operand, nothing, read, deeper, going}

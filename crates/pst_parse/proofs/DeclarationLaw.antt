@@ -8,7 +8,8 @@ use Rattle.pst_parse.specs.declared.lexeme.Sign.TheVariants as sign
 use Rattle.pst_parse.specs.declared.lexeme.Lead.TheVariants as lead
 use Rattle.pst_parse.specs.Lexemes as token
 use Rattle.pst_parse.specs.Lexemes.{Lexeme, Plain, Leading}
-use Rattle.pst_parse.specs.Forms.{IsFormedItem, item_height, item_nesting}
+use Rattle.pst_tree.specs.Depth.{item_height, item_nesting}
+use Rattle.pst_parse.specs.Forms.{IsFormedItem}
 use Rattle.pst_parse.specs.Spelling.{each, listed, Empty, phrases, spelled_block, TypeText, Int, type_word as plain_type, spelled_type, FieldText, Val, Ptr, field as plain_field, spelled_field, Parameter, parameter as plain_parameter, spelled_parameter, Local, local as plain_local, spelled_local, spelled_result, head, Item, Record, Root, Procedure, item as plain_item, spelled_item}
 use Rattle.pst_parse.specs.Reader.{Read, Got, Bad, Fault, Unexpected, TooDeep, and_then, after, label, number, type_word, many}
 use Rattle.pst_parse.specs.Reader as reader

@@ -12,7 +12,8 @@ use Rattle.pst_parse.specs.declared.lexeme.Lead.{Lead}
 use Rattle.pst_parse.specs.Lexemes.{Lexeme, Name, Number, Operator, Plain, Leading, Unknown, as_read}
 use Rattle.pst_parse.specs.declared.lexeme.Lexeme as code
 use Rattle.pst_parse.specs.declared.lexeme.Lexeme.TheVariants as seen
-use Rattle.pst_parse.specs.Forms.{level, rank, height}
+use Rattle.pst_tree.specs.Depth.{height}
+use Rattle.pst_parse.specs.Forms.{level, rank}
 use Rattle.pst_parse.specs.Reader.{Read, Got, Bad, Unexpected, TooDeep, and_then, after, label, within}
 use Rattle.pst_parse.specs.Reading.{goes_on, more, operand, read, deeper, going}
 use Rattle.pst_parse.proofs.Again.{test_true, test_false}

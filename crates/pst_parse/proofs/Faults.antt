@@ -3,7 +3,8 @@ use Rattle.std.specs.Prelude.{◌≡◌, ℕ, ◌≤◌, ◌+◌, max, List, [],
 use Rattle.std.proofs.Common.{refl, sym, ap, ◌∙◌, subst, arith, append-nil, append_assoc}
 use Rattle.pst_tree.specs.Syntax as tree
 use Rattle.pst_parse.specs.Lexemes.{Lexeme}
-use Rattle.pst_parse.specs.Forms.{Each, greatest, IsFormedItem, item_height, item_nesting, IsProgram, IsShallow}
+use Rattle.pst_tree.specs.Depth.{greatest, item_height, item_nesting}
+use Rattle.pst_parse.specs.Forms.{Each, IsFormedItem, IsProgram, IsShallow}
 use Rattle.pst_parse.specs.Spelling.{each, Item, item as plain_item, spelled_item, program, spelled_program}
 use Rattle.pst_parse.specs.Grammar as grammar
 use Rattle.pst_parse.specs.Grammar.{Spells, IsUnexpected, IsTooDeep}

@@ -5,7 +5,7 @@ use Rattle.pst_parse.specs.declared.lexeme.Sign.TheVariants as sign
 use Rattle.pst_parse.specs.declared.stop.Stop.{Stop}
 use Rattle.pst_parse.specs.declared.stop.Stop.TheVariants as stop
 use Rattle.pst_parse.specs.Lexemes.{Lexeme, Plain}
-use Rattle.pst_parse.specs.Reader.{Read, Got, Bad, and_then, is, expect, after, many, others, listed}
+use Rattle.pst_parse.specs.Reader.{Read, Got, Bad, and_then, is, expect, after, many}
 use Rattle.pst_parse.specs.View.{Stops, Lacks, begins}
 use Rattle.pst_parse.proofs.Many.{Shortens, many-start, many-stop, many-end}
 
@@ -64,14 +64,6 @@ comma_fault part xs ts next stop.Memory short at bad = tt
 pub comma_stop : {A : Type 0} (part : List Lexeme → Read A) (xs : List A) (ts : List Lexeme) → Lacks sign.Comma ts → closing part xs ts ≡ after sign.CloseParen (Got xs) ts
 comma_stop part xs [] none = rw (many-end (is sign.Comma) (after sign.Comma part)) (ap (λ l. after sign.CloseParen (Got l) []) (append-nil xs))
 comma_stop part xs (t ∷ ts) none = rw (many-stop (is sign.Comma) (after sign.Comma part) t ts none) (ap (λ l. after sign.CloseParen (Got l) (t ∷ ts)) (append-nil xs))
-
-pub listed_first : {A : Type 0} (part : List Lexeme → Read A) (ts : List Lexeme) → Lacks sign.CloseParen ts → listed part ts ≡ and_then (part ts) (others part)
-listed_first part [] none = refl
-listed_first part (Plain sign.CloseParen ∷ ts) none = cc
-listed_first part (t ∷ ts) none = refl
-
-pub listed_none : {A : Type 0} (part : List Lexeme → Read A) (ts rest : List Lexeme) → ts ≡ Plain sign.CloseParen ∷ rest → listed part ts ≡ Got [] rest
-listed_none part ts rest at = rw at refl
 
 -- ---- the steps of the code, where `whole` is what reading from the start gives
 

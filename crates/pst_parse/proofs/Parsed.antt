@@ -9,7 +9,7 @@ use Rattle.pst_tree.specs.Syntax as tree
 use Rattle.pst_parse.specs.Lexemes.{Lexeme, lexeme, lexemes}
 use Rattle.pst_parse.specs.Forms.{IsShallow}
 use Rattle.pst_parse.specs.Spelling.{Item, program}
-use Rattle.pst_parse.specs.Grammar.{Spells, IsUnexpected, IsTooDeep, StandsOn, line_at}
+use Rattle.pst_parse.specs.Grammar.{Spells, IsUnexpected, IsTooDeep, IsFirstFaultOn, line_at}
 use Rattle.pst_parse.specs.Reader.{Got, Bad, Fault, Unexpected, TooDeep}
 use Rattle.pst_parse.specs.Declarations.{reading_program}
 use Rattle.pst_parse.proofs.Faults.{only, unexpected, deep}
@@ -24,7 +24,7 @@ place_short list s u at = omega (arith, place_length list s u at)
 
 -- a place in what the parser sees is one in the tokens
 place : (Is : List Lexeme → List Lexeme → Type 0) (tokens : Tokens) (s : List Token) → (u : List Lexeme) × (lexemes tokens.list ≡ u ++ lexemes s) × Is u (lexemes s) →
-    StandsOn Is tokens (line_at tokens.end (drop (length tokens.list - length s) tokens.list))
+    IsFirstFaultOn Is tokens (line_at tokens.end (drop (length tokens.list - length s) tokens.list))
 place Is tokens s (u, at, is) =
     let long : length tokens.list ≡ length u + length s = place_length tokens.list s u at in
     let n : length tokens.list - length s ≡ length u = omega arith in
@@ -40,12 +40,12 @@ place Is tokens s (u, at, is) =
     )
 
 pub unexpected_on : (h d : ℕ) (tokens : Tokens) (s : List Token) (line : ℕ) → reading_program h d (lexemes tokens.list) ≡ Bad Unexpected (lexemes s) →
-    line ≡ line_at tokens.end (drop (length tokens.list - length s) tokens.list) → StandsOn (IsUnexpected h d) tokens line
-unexpected_on h d tokens s line e on = subst (StandsOn (IsUnexpected h d) tokens) (sym on) (place (IsUnexpected h d) tokens s (unexpected h d (lexemes tokens.list) (lexemes s) e))
+    line ≡ line_at tokens.end (drop (length tokens.list - length s) tokens.list) → IsFirstFaultOn (IsUnexpected h d) tokens line
+unexpected_on h d tokens s line e on = subst (IsFirstFaultOn (IsUnexpected h d) tokens) (sym on) (place (IsUnexpected h d) tokens s (unexpected h d (lexemes tokens.list) (lexemes s) e))
 
 pub deep_on : (h d : ℕ) (tokens : Tokens) (s : List Token) (line : ℕ) → reading_program h d (lexemes tokens.list) ≡ Bad TooDeep (lexemes s) →
-    line ≡ line_at tokens.end (drop (length tokens.list - length s) tokens.list) → StandsOn (IsTooDeep h d) tokens line
-deep_on h d tokens s line e on = subst (StandsOn (IsTooDeep h d) tokens) (sym on) (place (IsTooDeep h d) tokens s (deep h d (lexemes tokens.list) (lexemes s) e))
+    line ≡ line_at tokens.end (drop (length tokens.list - length s) tokens.list) → IsFirstFaultOn (IsTooDeep h d) tokens line
+deep_on h d tokens s line e on = subst (IsFirstFaultOn (IsTooDeep h d) tokens) (sym on) (place (IsTooDeep h d) tokens s (deep h d (lexemes tokens.list) (lexemes s) e))
 
 pub unexpected_short : (h d : ℕ) (list s : List Token) → reading_program h d (lexemes list) ≡ Bad Unexpected (lexemes s) → length s ≤ length list
 unexpected_short h d list s e = let (u, at, is) = unexpected h d (lexemes list) (lexemes s) e in place_short list s u at

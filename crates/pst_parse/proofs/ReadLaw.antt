@@ -8,10 +8,11 @@ use Rattle.pst_tree.specs.Syntax as tree
 use Rattle.pst_parse.specs.declared.lexeme.Sign.TheVariants as sign
 use Rattle.pst_parse.specs.Lexemes as token
 use Rattle.pst_parse.specs.Lexemes.{Lexeme, Operator, Plain, Leading, Unknown}
-use Rattle.pst_parse.specs.Forms.{level, loosest_left, rank, height, IsFormed, IsPlace}
+use Rattle.pst_tree.specs.Depth.{height}
+use Rattle.pst_parse.specs.Forms.{level, loosest_left, rank, IsFormed, IsPlace}
 use Rattle.pst_parse.specs.Spelling.{Expr, Number, Null, Name, Parens, Field, Negate, Not, Binary, expr, spelled, place_line}
 use Rattle.pst_parse.specs.Reader.{Read, and_then, after, label}
-use Rattle.pst_parse.specs.Reading.{goes_on, more, operand, nothing, read, deeper}
+use Rattle.pst_parse.specs.Reading.{goes_on, more, operand, nothing, read}
 use Rattle.pst_parse.proofs.Laws.{Construct, Begins, Lawful, Good, cond_law, step_law, wrong_law, end_law, stop_law, done_law, after_good, label_good, within_law, bind_law, some_label}
 
 -- a formed tree for an operand of rank n, and one of height at most b
@@ -182,11 +183,6 @@ unfolding read
 read_law zero n ts small = operand_law (λ m. nothing) 0 n ts small (λ m le pos us. absurd (omega arith))
 read_law (suc c) n ts small = operand_law (read c) (suc c) n ts small
     (λ m le pos us. let e : suc c - 1 ≡ c = omega arith in subst (λ k. Lawful (expression m k) (λ x. x) (read c m) us (read c m us)) (sym e) (read_law c m us le))
-
-pub deeper_law : (b : ℕ) → NextLaw (deeper b) b
-deeper_law zero m le pos us = absurd (omega arith)
-deeper_law (suc c) m le pos us =
-    let e : suc c - 1 ≡ c = omega arith in subst (λ k. Lawful (expression m k) (λ x. x) (read c m) us (read c m us)) (sym e) (read_law c m us le)
 
 -- an expression can come, and its reading keeps the law
 pub read_good : (b : ℕ) → Good (expression 0 b) (λ x. x) (read b 0)

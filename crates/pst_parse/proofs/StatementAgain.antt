@@ -9,7 +9,8 @@ use Rattle.pst_parse.specs.declared.lexeme.Sign.TheVariants as sign
 use Rattle.pst_parse.specs.declared.lexeme.Lead.TheVariants as lead
 use Rattle.pst_parse.specs.Lexemes as token
 use Rattle.pst_parse.specs.Lexemes.{Lexeme, Plain, Leading, Operator}
-use Rattle.pst_parse.specs.Forms.{height, IsFormed, IsPlace, Each, greatest}
+use Rattle.pst_tree.specs.Depth.{height, greatest}
+use Rattle.pst_parse.specs.Forms.{IsFormed, IsPlace, Each}
 use Rattle.pst_parse.specs.Spelling.{Expr, Number, Null, Name, Parens, Field, Negate, Not, Binary, expr, spelled, each, Statement, New, Call, Result, Write, Print, If, Either, While, Return, Block, Empty, Then, place_line, line_of, phrase, phrases, spelled_call, spelled_statement, spelled_block}
 use Rattle.pst_parse.specs.Spelling as spelling
 use Rattle.pst_parse.specs.Reader.{Read, Got, and_then, is, after, within}

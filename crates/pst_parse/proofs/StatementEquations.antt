@@ -74,15 +74,6 @@ choice_none i e b (t ∷ ts) none = refl
 pub choice_else : (i : List Lexeme → Read Phrases) (e : Expr) (b : Phrases) (ts rest : List Lexeme) → ts ≡ Plain sign.Else ∷ rest → choice i e b ts ≡ and_then (braced i rest) (λ c. Got (tree.Either e b c))
 choice_else i e b ts rest at = rw at refl
 
-pub led-other : (h d : ℕ) (l : Lead) (place ts : List Lexeme) → (l ≡ lead.Print → ⊥) → (l ≡ lead.Call → ⊥) → (l ≡ lead.Return → ⊥) → (l ≡ lead.If → ⊥) → (l ≡ lead.While → ⊥) →
-    led (inner h d) h d l place ts ≡ Bad Unexpected place
-led-other h d lead.Print place ts a b c e f = absurd (a refl)
-led-other h d lead.Call place ts a b c e f = absurd (b refl)
-led-other h d lead.Return place ts a b c e f = absurd (c refl)
-led-other h d lead.If place ts a b c e f = absurd (e refl)
-led-other h d lead.While place ts a b c e f = absurd (f refl)
-led-other h d l place ts a b c e f = refl
-
 -- ---- the code's block
 
 row_is_list : {m : _} (row : Row_of-Statement m) → row_of row ≡ block_of (map stated_of (items-the_row-Statement m row))

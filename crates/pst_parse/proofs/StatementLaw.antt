@@ -9,7 +9,8 @@ use Rattle.pst_parse.specs.declared.lexeme.Lead.{Lead}
 use Rattle.pst_parse.specs.declared.lexeme.Lead.TheVariants as lead
 use Rattle.pst_parse.specs.Lexemes as token
 use Rattle.pst_parse.specs.Lexemes.{Lexeme, Plain, Leading}
-use Rattle.pst_parse.specs.Forms.{height, IsFormed, IsPlace, Each, greatest, IsFormedPhrase, AreFormed, phrase_height, phrases_height, phrase_nesting, phrases_nesting}
+use Rattle.pst_tree.specs.Depth.{height, greatest, phrase_height, phrases_height, phrase_nesting, phrases_nesting}
+use Rattle.pst_parse.specs.Forms.{IsFormed, IsPlace, Each, IsFormedPhrase, AreFormed}
 use Rattle.pst_parse.specs.Spelling.{Expr, Null, Name, Field, expr, spelled, each, listed, Statement, New, Call, Result, Write, Print, If, Either, While, Return, Block, Empty, Then, place_line, line_of, phrase, phrases, spelled_call, spelled_statement, spelled_block}
 use Rattle.pst_parse.specs.Spelling as spelling
 use Rattle.pst_parse.specs.Reader.{Read, Got, Bad, Unexpected, TooDeep, and_then, after, many}

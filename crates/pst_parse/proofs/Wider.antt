@@ -10,7 +10,8 @@ use Rattle.pst_parse.specs.declared.lexeme.Sign.TheVariants as sign
 use Rattle.pst_parse.specs.declared.lexeme.Lead.{Lead}
 use Rattle.pst_parse.specs.declared.lexeme.Lead.TheVariants as lead
 use Rattle.pst_parse.specs.Lexemes.{Lexeme, Name, Number, Operator, Plain, Leading}
-use Rattle.pst_parse.specs.Forms.{level, rank, height}
+use Rattle.pst_tree.specs.Depth.{height}
+use Rattle.pst_parse.specs.Forms.{level, rank}
 use Rattle.pst_parse.specs.Reader.{Read, Got, Bad, Unexpected, TooDeep, and_then, is, expect, after, label, within, many_upto, many, others, listed}
 use Rattle.pst_parse.specs.Reading.{goes_on, more, operand, nothing, read, deeper, going}
 use Rattle.pst_parse.specs.Statements.{ended, arguments, call, made, written, set, valued, assigned, returned, braced, choice, led, statement, starts, block, reading_statement, reading_block}

@@ -1,8 +1,8 @@
--- Which trees are of the grammar, and how deep they are.
-use Rattle.std.specs.Prelude.{ℕ, ◌≤◌, ◌<◌, max, List, [], ◌∷◌, Some, None}
-use Rattle.std.proofs.Common.{suc}
+-- Which trees are of the grammar, within limits of depth.
+use Rattle.std.specs.Prelude.{ℕ, ◌≤◌, ◌<◌, List, [], ◌∷◌, Some, None}
 use Rattle.pst_base.specs.declared.names.Op.{Op}
 use Rattle.pst_base.specs.declared.names.Op.TheVariants.{Add, Sub, Mul, Div, Rem, Equal, NotEqual, Less, LessEqual, Greater, GreaterEqual, And, Or}
+use Rattle.pst_tree.specs.Depth.{greatest, item_height, item_nesting}
 use Rattle.pst_tree.specs.Syntax.{Expr, Number, Null, Name, Parens, Field, Negate, Not, Binary, Phrase, New, Call, Write, Print, If, Either, While, Return, Phrases, Empty, Then, Item, Record, Root, Procedure}
 
 -- how tightly an operator binds: or, and, comparisons, sums, terms
@@ -59,17 +59,6 @@ IsFormed (Negate e) = (6 ≤ rank e) × IsFormed e
 IsFormed (Not e) = (2 ≤ rank e) × IsFormed e
 IsFormed (Binary op l r) = (loosest_left op ≤ rank l) × (level op < rank r) × IsFormed l × IsFormed r
 
--- how many forms stand above the deepest one: the depth is one more
-abbrev pub height : Expr → ℕ
-height (Number n) = 0
-height Null = 0
-height (Name x) = 0
-height (Parens e) = suc (height e)
-height (Field e x) = suc (height e)
-height (Negate e) = suc (height e)
-height (Not e) = suc (height e)
-height (Binary op l r) = suc (max (height l) (height r))
-
 -- a name, or a field of a place
 abbrev pub IsPlace : Expr → Type 0
 IsPlace (Name x) = Unit {0}
@@ -80,11 +69,6 @@ IsPlace e = ⊥
 abbrev pub Each : {A : Type 0} → (A → Type 0) → List A → Type 0
 Each P [] = Unit {0}
 Each P (a ∷ l) = P a × Each P l
-
--- the greatest number that a list gives
-abbrev pub greatest : {A : Type 0} → (A → ℕ) → List A → ℕ
-greatest f [] = 0
-greatest f (a ∷ l) = max (f a) (greatest f l)
 
 abbrev mutual
   pub IsFormedPhrase : Phrase → Type 0
@@ -102,53 +86,10 @@ abbrev mutual
   AreFormed Empty = Unit {0}
   AreFormed (Then line s b) = IsFormedPhrase s × AreFormed b
 
--- the height of the highest expression or place
-abbrev mutual
-  pub phrase_height : Phrase → ℕ
-  phrase_height (New x ty) = 0
-  phrase_height (Call x p es) = greatest height es
-  phrase_height (Write place e) = max (height place) (height e)
-  phrase_height (Print e) = height e
-  phrase_height (If e b) = max (height e) (phrases_height b)
-  phrase_height (Either e b c) = max (height e) (max (phrases_height b) (phrases_height c))
-  phrase_height (While e b) = max (height e) (phrases_height b)
-  phrase_height (Return None) = 0
-  phrase_height (Return (Some e)) = height e
-
-  pub phrases_height : Phrases → ℕ
-  phrases_height Empty = 0
-  phrases_height (Then line s b) = max (phrase_height s) (phrases_height b)
-
--- how many blocks stand in one another
-abbrev mutual
-  pub phrase_nesting : Phrase → ℕ
-  phrase_nesting (New x ty) = 0
-  phrase_nesting (Call x p es) = 0
-  phrase_nesting (Write place e) = 0
-  phrase_nesting (Print e) = 0
-  phrase_nesting (If e b) = suc (phrases_nesting b)
-  phrase_nesting (Either e b c) = suc (max (phrases_nesting b) (phrases_nesting c))
-  phrase_nesting (While e b) = suc (phrases_nesting b)
-  phrase_nesting (Return e) = 0
-
-  pub phrases_nesting : Phrases → ℕ
-  phrases_nesting Empty = 0
-  phrases_nesting (Then line s b) = max (phrase_nesting s) (phrases_nesting b)
-
 abbrev pub IsFormedItem : Item → Type 0
 IsFormedItem (Record line x limit fields) = Unit {0}
 IsFormedItem (Root line x kind) = Unit {0}
 IsFormedItem (Procedure p) = AreFormed p.body
-
-abbrev pub item_height : Item → ℕ
-item_height (Record line x limit fields) = 0
-item_height (Root line x kind) = 0
-item_height (Procedure p) = phrases_height p.body
-
-abbrev pub item_nesting : Item → ℕ
-item_nesting (Record line x limit fields) = 0
-item_nesting (Root line x kind) = 0
-item_nesting (Procedure p) = phrases_nesting p.body
 
 -- a program of the grammar, the limits of depth set aside
 abbrev pub IsProgram : List Item → Type 0

@@ -37,8 +37,8 @@ line_at end [] = end
 line_at end (t ∷ ts) = t.line
 
 -- a fault that stands so, on that line
-abbrev pub StandsOn : (List Lexeme → List Lexeme → Type 0) → Tokens → ℕ → Type 0
-StandsOn Is tokens line =
+abbrev pub IsFirstFaultOn : (List Lexeme → List Lexeme → Type 0) → Tokens → ℕ → Type 0
+IsFirstFaultOn Is tokens line =
     (before rest : List Token) × (tokens.list ≡ before ++ rest) × Is (lexemes before) (lexemes rest) × (line ≡ line_at tokens.end rest)
 
 -- a tree that was found is that of a program within the limits, whose tokens these are
@@ -53,12 +53,12 @@ FindsOnly h d answer tokens =
 
 -- `Unexpected` has the line of that first fault
 abbrev pub FaultsUnexpected : ℕ → ℕ → Result Tree ParseFault → Tokens → Type 0
-FaultsUnexpected h d (Err (fault.Unexpected line)) tokens = StandsOn (IsUnexpected h d) tokens line
+FaultsUnexpected h d (Err (fault.Unexpected line)) tokens = IsFirstFaultOn (IsUnexpected h d) tokens line
 FaultsUnexpected h d answer tokens = Unit {0}
 
 -- `TooDeep` has the line of that first fault
 abbrev pub FaultsTooDeep : ℕ → ℕ → Result Tree ParseFault → Tokens → Type 0
-FaultsTooDeep h d (Err (fault.TooDeep line)) tokens = StandsOn (IsTooDeep h d) tokens line
+FaultsTooDeep h d (Err (fault.TooDeep line)) tokens = IsFirstFaultOn (IsTooDeep h d) tokens line
 FaultsTooDeep h d answer tokens = Unit {0}
 
 -- tokens are those of at most one program, whatever its depth

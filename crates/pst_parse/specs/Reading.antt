@@ -7,7 +7,8 @@ use Rattle.pst_tree.specs.Syntax as tree
 use Rattle.pst_tree.specs.Syntax.{Expr}
 use Rattle.pst_parse.specs.declared.lexeme.Sign.TheVariants as sign
 use Rattle.pst_parse.specs.Lexemes.{Lexeme, Name, Number, Operator, Plain}
-use Rattle.pst_parse.specs.Forms.{level, loosest_left, rank, height}
+use Rattle.pst_tree.specs.Depth.{height}
+use Rattle.pst_parse.specs.Forms.{level, loosest_left, rank}
 use Rattle.pst_parse.specs.Reader.{Read, Got, Bad, Unexpected, TooDeep, and_then, after, label, within}
 
 -- whether an operator goes on with the form on its left, where an operand of rank n is wanted

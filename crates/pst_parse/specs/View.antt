@@ -15,7 +15,7 @@ use Rattle.pst_parse.specs.declared.stop.Stop.{Stop}
 use Rattle.pst_parse.specs.declared.stop.Stop.TheVariants as stop
 use Rattle.pst_parse.specs.declared.lexeme.Sign.{Sign}
 use Rattle.pst_parse.specs.Lexemes.{Lexeme, lexemes}
-use Rattle.pst_parse.specs.Forms.{height}
+use Rattle.pst_tree.specs.Depth.{height}
 use Rattle.pst_parse.specs.Reader.{Read, Got, Bad, Unexpected, TooDeep, is}
 
 -- the fault that stopped the code is the reading's, unless memory ran out

@@ -3,7 +3,8 @@
 ghost use Rattle.std.specs.Prelude.{◌≡◌, ◌+◌, ◌≤◌, ◌<◌, ◌∷◌, length, IfOk, IsTrue};
 ghost use Rattle.pst_tree.specs.View.{expr_of};
 ghost use Rattle.pst_parse.specs.Lexemes.{lexemes, Plain, Operator};
-ghost use Rattle.pst_parse.specs.Forms.{height as height_of, level, loosest_left, rank};
+ghost use Rattle.pst_tree.specs.Depth.{height as height_of};
+ghost use Rattle.pst_parse.specs.Forms.{level, loosest_left, rank};
 ghost use Rattle.pst_parse.specs.Reading.{read, going, goes_on};
 ghost use Rattle.pst_parse.specs.View.{GivesTree};
 

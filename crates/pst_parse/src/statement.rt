@@ -1,6 +1,6 @@
 //! Reading statements and blocks.
 
-ghost use Rattle.std.specs.Prelude.{◌≡◌, ◌≤◌, ◌<◌, length, IfOk, MatchOption, Option, Some, None};
+ghost use Rattle.std.specs.Prelude.{◌≡◌, ◌≤◌, ◌<◌, ◌++◌, [], ◌∷◌, length, IfOk, OnOk, MatchOption, Option, Some, None};
 ghost use Rattle.pst_tree.specs.View.{expr_of, phrase_of, phrases_of};
 ghost use Rattle.pst_parse.specs.Lexemes.{lexemes};
 ghost use Rattle.pst_parse.specs.Reader.{within};
@@ -15,7 +15,7 @@ use crate::token::{after, expect, name};
 use pst_base::Text;
 use pst_lex::Token;
 use pst_tree::{Block, Expression, Expressions, Form, Statement};
-use std::alloc::Global;
+use std::alloc::{AllocError, Global};
 
 /// An expression and a `;`.
 fn ended<'a>(
@@ -203,6 +203,17 @@ fn is_statement(tokens: &[Token]) -> bool
     }
 }
 
+/// Puts a statement behind the others. There is room for one alone where it is the first, since most blocks are short.
+fn put<T: Drop>(items: &mut Vec<T>, item: T) -> Result<(), AllocError>
+    ensures { OnOk result (items.new.items ≡ items.old.items ++ item ∷ []) }
+{
+    if items.is_empty() {
+        items.reserve_exact(1)?;
+    }
+    items.push(item)?;
+    Ok(())
+}
+
 /// As many statements as stand there, one after another.
 #[cycle(statement)]
 #[tactic(auto, using(crate::proofs::StatementEquations::statement_equations))]
@@ -219,7 +230,7 @@ pub fn block<'a>(
     let mut rest = tokens;
     while is_statement(rest) {
         let (statement, behind) = statement(alloc, rest, height, nesting)?;
-        items.push(statement)?;
+        put(&mut items, statement)?;
         rest = behind;
     }
     Ok((Block { items }, rest))

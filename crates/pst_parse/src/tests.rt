@@ -10,6 +10,64 @@ use std::test::Fail;
 /// A text that is read in a test has fewer bytes.
 const SMALL: usize = 100_000;
 
+/// Texts, and the line of the token at which no program goes on.
+const UNEXPECTED: [(&[u8], u32); 30] = [
+    (b"query q( { }", 1),
+    (b"proc p() {\n", 2),
+    (b"proc\np\n(\n)\n{\nx\n)", 7),
+    (b"proc p() {\nx.f =\nnew T; }", 3),
+    (b"proc p() {\nx.f =\ncall p(); }", 3),
+    (b"proc p() {\nprint 1;\nvar x: int; }", 3),
+    (b"proc p() {\nelse { } }", 2),
+    (b"proc p() {\nif a { } print 1;\nelse { } }", 3),
+    (b"proc p() {\nprint 1 == 2\n== 3; }", 3),
+    (b"proc p() {\nprint a < b\n== c; }", 3),
+    (b"proc p() {\nprint -\nnot a; }", 3),
+    (b"proc p() {\nprint a +\nnot a; }", 3),
+    (b"proc p() {\nprint a == \nnot a; }", 3),
+    (b"proc p() {\nprint 1\nprint 2; }", 3),
+    (b"proc p() {\nx = 1\n}", 3),
+    (b"proc p() {\nreturn 1\n}", 3),
+    (b"proc p() {\ncall p(1\n2); }", 3),
+    (b"proc p() {\ncall p(1,\n); }", 3),
+    (b"proc p() {\n(a) = 1; }", 2),
+    (b"proc p() {\n1 = 1; }", 2),
+    (b"proc p() {\nnull = 1; }", 2),
+    (b"proc p() {\n{ } }", 2),
+    (b"proc p() {\na.\n1 = 1; }", 3),
+    (b"record N 2 { val key:\nN; }", 2),
+    (b"record N 2 { ptr next:\nint; }", 2),
+    (b"record N 2 { val key: int }\nroot a: N;", 1),
+    (b"record N\n{ }", 2),
+    (b"proc p(a: int,\n) { }", 2),
+    (b"proc p():\n{ }", 2),
+    (b"root a: int;\nprint 1;", 2),
+];
+
+/// Texts of a head, a piece so many times and a tail, and the line of the token that forces a depth above the limits.
+const DEEP: [(&str, &str, u8, &str, Option<u32>); 20] = [
+    ("query q() { print ", "(", 63, "1", None),
+    ("query q() {\nprint\n", "(\n", 64, "1", Some(66)),
+    ("query q() {\nprint\n", "(\n", 70, "1", Some(66)),
+    ("query q() {\nprint\n", "-\n", 63, "1; }", None),
+    ("query q() {\nprint\n", "-\n", 64, "1; }", Some(66)),
+    ("query q() {\nprint\n", "not\n", 63, "a; }", None),
+    ("query q() {\nprint\n", "not\n", 64, "a; }", Some(66)),
+    ("query q() {\nprint a", "\n.x", 63, "; }", None),
+    ("query q() {\nprint a", "\n.x", 64, "; }", Some(66)),
+    ("query q() {\nprint 1", "\n+ 1", 63, "; }", None),
+    ("query q() {\nprint 1", "\n+ 1", 64, "; }", Some(66)),
+    ("query q() {\nprint a", "\nand a", 64, "; }", Some(66)),
+    ("proc p() {\na", "\n.x", 63, "= 1; }", None),
+    ("proc p() {\na", "\n.x", 64, "= 1; }", Some(66)),
+    ("proc p() {", "\nif a {", 15, "", None),
+    ("proc p() {", "\nif a {", 16, "", Some(17)),
+    ("proc p() {", "\nif a {", 17, "", Some(17)),
+    ("proc p() {", "\nwhile a {", 15, "", None),
+    ("proc p() {", "\nwhile a {", 16, "", Some(17)),
+    ("proc p() {", "\nif a { } else {", 16, "", Some(17)),
+];
+
 /// The first fault of a text whose tokens are right.
 fn fault_of(alloc: Global, text: &[u8]) -> Result<Option<ParseFault>, LexFault> {
     if text.len() >= SMALL {
@@ -38,39 +96,7 @@ fn repeated(
 
 #[test]
 fn faults_stand_where_no_program_goes_on(rt: HostRuntime) -> Result<(), Fail> {
-    let texts: [(&[u8], u32); 30] = [
-        (b"query q( { }", 1),
-        (b"proc p() {\n", 2),
-        (b"proc\np\n(\n)\n{\nx\n)", 7),
-        (b"proc p() {\nx.f =\nnew T; }", 3),
-        (b"proc p() {\nx.f =\ncall p(); }", 3),
-        (b"proc p() {\nprint 1;\nvar x: int; }", 3),
-        (b"proc p() {\nelse { } }", 2),
-        (b"proc p() {\nif a { } print 1;\nelse { } }", 3),
-        (b"proc p() {\nprint 1 == 2\n== 3; }", 3),
-        (b"proc p() {\nprint a < b\n== c; }", 3),
-        (b"proc p() {\nprint -\nnot a; }", 3),
-        (b"proc p() {\nprint a +\nnot a; }", 3),
-        (b"proc p() {\nprint a == \nnot a; }", 3),
-        (b"proc p() {\nprint 1\nprint 2; }", 3),
-        (b"proc p() {\nx = 1\n}", 3),
-        (b"proc p() {\nreturn 1\n}", 3),
-        (b"proc p() {\ncall p(1\n2); }", 3),
-        (b"proc p() {\ncall p(1,\n); }", 3),
-        (b"proc p() {\n(a) = 1; }", 2),
-        (b"proc p() {\n1 = 1; }", 2),
-        (b"proc p() {\nnull = 1; }", 2),
-        (b"proc p() {\n{ } }", 2),
-        (b"proc p() {\na.\n1 = 1; }", 3),
-        (b"record N 2 { val key:\nN; }", 2),
-        (b"record N 2 { ptr next:\nint; }", 2),
-        (b"record N 2 { val key: int }\nroot a: N;", 1),
-        (b"record N\n{ }", 2),
-        (b"proc p(a: int,\n) { }", 2),
-        (b"proc p():\n{ }", 2),
-        (b"root a: int;\nprint 1;", 2),
-    ];
-    for (number, (text, line)) in texts.iter().enumerate() {
+    for (number, (text, line)) in UNEXPECTED.iter().enumerate() {
         let fault = fault_of(rt.alloc(), text)?;
         assert_eq!(rt;
             fault,
@@ -83,29 +109,7 @@ fn faults_stand_where_no_program_goes_on(rt: HostRuntime) -> Result<(), Fail> {
 
 #[test]
 fn too_deep_stands_at_the_token_that_forces_the_depth(rt: HostRuntime) -> Result<(), Fail> {
-    let texts: [(&str, &str, u8, &str, Option<u32>); 20] = [
-        ("query q() { print ", "(", 63, "1", None),
-        ("query q() {\nprint\n", "(\n", 64, "1", Some(66)),
-        ("query q() {\nprint\n", "(\n", 70, "1", Some(66)),
-        ("query q() {\nprint\n", "-\n", 63, "1; }", None),
-        ("query q() {\nprint\n", "-\n", 64, "1; }", Some(66)),
-        ("query q() {\nprint\n", "not\n", 63, "a; }", None),
-        ("query q() {\nprint\n", "not\n", 64, "a; }", Some(66)),
-        ("query q() {\nprint a", "\n.x", 63, "; }", None),
-        ("query q() {\nprint a", "\n.x", 64, "; }", Some(66)),
-        ("query q() {\nprint 1", "\n+ 1", 63, "; }", None),
-        ("query q() {\nprint 1", "\n+ 1", 64, "; }", Some(66)),
-        ("query q() {\nprint a", "\nand a", 64, "; }", Some(66)),
-        ("proc p() {\na", "\n.x", 63, "= 1; }", None),
-        ("proc p() {\na", "\n.x", 64, "= 1; }", Some(66)),
-        ("proc p() {", "\nif a {", 15, "", None),
-        ("proc p() {", "\nif a {", 16, "", Some(17)),
-        ("proc p() {", "\nif a {", 17, "", Some(17)),
-        ("proc p() {", "\nwhile a {", 15, "", None),
-        ("proc p() {", "\nwhile a {", 16, "", Some(17)),
-        ("proc p() {", "\nif a { } else {", 16, "", Some(17)),
-    ];
-    for (number, (head, piece, times, tail, line)) in texts.iter().enumerate() {
+    for (number, (head, piece, times, tail, line)) in DEEP.iter().enumerate() {
         let text = repeated(rt.alloc(), head, piece, *times, tail)?;
         let fault = fault_of(rt.alloc(), text.as_bytes())?;
         let deep = match fault {

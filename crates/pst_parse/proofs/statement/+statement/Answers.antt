@@ -18,7 +18,7 @@ block-returns-in_err-statement-clause-given t c =
 pub block-loop-alloc-preserved : goal.block-loop-alloc-preserved
 block-loop-alloc-preserved t c = (
   omega (arith, c.in_ok-statement.ensures.shorter, c.loop-alloc.invariant.0),
-  loop_more starts (reading_statement c.args.height c.args.nesting) stated_of _ _ c.in_ok-statement.statement _ _ _ (statement_short c.args.height c.args.nesting) c.in_ok-push.ensures.items
+  loop_more starts (reading_statement c.args.height c.args.nesting) stated_of _ _ c.in_ok-statement.statement _ _ _ (statement_short c.args.height c.args.nesting) c.in_ok-put.ensures
       c.loop-alloc-test.ensures c.in_ok-statement.ensures.given c.loop-alloc.invariant.1,
 )
 
