@@ -2,7 +2,8 @@
 use Rattle.std.specs.Prelude.{◌≡◌, ℕ, ◌≤◌, max, List, [], ◌∷◌}
 use Rattle.std.proofs.Common.{suc, refl, sym, ap, ◌∙◌, subst}
 use Rattle.pst_tree.specs.Syntax.{Phrase, New, Call, Write, Print, If, Either, While, Return, Phrases, Empty, Then, Item, Record, Root, Procedure}
-use Rattle.pst_parse.specs.Forms.{height, greatest, IsFormedPhrase, AreFormed, phrase_height, phrases_height, phrase_nesting, phrases_nesting, IsFormedItem, item_height, item_nesting, IsProgram, IsShallow}
+use Rattle.pst_tree.specs.Depth.{height, greatest, phrase_height, phrases_height, phrase_nesting, phrases_nesting, item_height, item_nesting}
+use Rattle.pst_parse.specs.Forms.{IsFormedPhrase, AreFormed, IsFormedItem, IsProgram, IsShallow}
 use Rattle.pst_notation.specs.Lines.{phrase_lineless, block_lineless, item_lineless, lineless}
 
 mutual

@@ -1,5 +1,5 @@
 -- The canonical text of a program: one way to write each.
-use Rattle.std.specs.Prelude.{ℕ, ◌+◌, Bool, true, false, List, [], ◌∷◌, ◌++◌, replicate, codes, Option, Some, None}
+use Rattle.std.specs.Prelude.{ℕ, ℤ, ◌+◌, Bool, true, false, List, [], ◌∷◌, ◌++◌, replicate, codes, Option, Some, None}
 use Rattle.std.specs.List.{flat_map}
 use Rattle.std.specs.Fmt.{signed_decimal}
 use Rattle.pst_base.specs.declared.names.Op.{Op}
@@ -109,13 +109,21 @@ abbrev pub sort_text : (query : Bool) → List ℕ
 sort_text true = codes "query "
 sort_text false = codes "proc "
 
+-- the head line of a procedure
+abbrev pub head_text : (query : Bool) → List ℕ → List LocalText → Option TypeWord → List ℕ
+head_text query x parameters result =
+    line 0 (sort_text query ++ x ++ codes "(" ++ listed parameter_text parameters ++ codes ")" ++ gives_text result ++ codes " {")
+
 abbrev pub procedure_text : ProcedureText → List ℕ
 procedure_text p =
-    line 0 (sort_text p.query ++ p.name ++ codes "(" ++ listed parameter_text p.parameters ++ codes ")" ++ gives_text p.result ++ codes " {")
-    ++ flat_map local_text p.locals ++ phrases_text 2 p.body ++ line 0 (codes "}")
+    head_text p.query p.name p.parameters p.result ++ flat_map local_text p.locals ++ phrases_text 2 p.body ++ line 0 (codes "}")
+
+-- the line of a record type
+abbrev pub record_text : List ℕ → (limit : ℤ) → List FieldText → List ℕ
+record_text x limit fields = line 0 (codes "record " ++ x ++ codes " " ++ signed_decimal limit ++ codes " { " ++ flat_map field_text fields ++ codes "}")
 
 abbrev pub item_text : Item → List ℕ
-item_text (Record _ x limit fields) = line 0 (codes "record " ++ x ++ codes " " ++ signed_decimal limit ++ codes " { " ++ flat_map field_text fields ++ codes "}")
+item_text (Record _ x limit fields) = record_text x limit fields
 item_text (Root _ x kind) = line 0 (codes "root " ++ typed_text x kind ++ codes ";")
 item_text (Procedure p) = procedure_text p
 

@@ -3,9 +3,8 @@
 ghost use Rattle.std.specs.Prelude.{◌≡◌, ◌++◌, OnOk, IfOk, map, codes};
 ghost use Rattle.std.specs.Option.{option_map};
 ghost use Rattle.std.specs.List.{flat_map};
-ghost use Rattle.std.specs.Fmt.{signed_decimal};
 ghost use Rattle.pst_tree.specs.View.{type_word_of, field_of, local_of, item_of, items_of, phrases_of};
-ghost use Rattle.pst_notation.specs.Canonical.{line, type_text, typed_text, field_text, parameter_text, local_text, gives_text, sort_text, item_text, canonical, listed, behind_comma, phrases_text};
+ghost use Rattle.pst_notation.specs.Canonical.{line, type_text, typed_text, field_text, parameter_text, local_text, gives_text, sort_text, head_text, record_text, item_text, canonical, listed, behind_comma, phrases_text};
 
 use crate::expressions::put_number;
 use crate::statements::{put_block, put_line};
@@ -68,7 +67,7 @@ fn put_fields(out: &mut Vec<u8>, fields: &[Field]) -> Result<(), NoMemory>
 
 /// Puts the line of a record type.
 fn put_record(out: &mut Vec<u8>, name: &Text, limit: i64, fields: &[Field]) -> Result<(), NoMemory>
-    ensures { OnOk result (out.new.items ≡ out.old.items ++ line 0 (codes "record " ++ name.now ++ codes " " ++ signed_decimal limit ++ codes " { " ++ flat_map field_text (map field_of fields.now) ++ codes "}")) }
+    ensures { OnOk result (out.new.items ≡ out.old.items ++ record_text name.now limit (map field_of fields.now)) }
 {
     out.extend_from_slice(b"record ")?;
     out.extend_from_slice(name.as_slice())?;
@@ -181,7 +180,7 @@ fn put_head(
     parameters: &[Local],
     result_kind: &Option<TypeName>,
 ) -> Result<(), NoMemory>
-    ensures { OnOk result (out.new.items ≡ out.old.items ++ line 0 (sort_text query ++ name.now ++ codes "(" ++ listed parameter_text (map local_of parameters.now) ++ codes ")" ++ gives_text (option_map type_word_of result_kind.now) ++ codes " {")) }
+    ensures { OnOk result (out.new.items ≡ out.old.items ++ head_text query name.now (map local_of parameters.now) (option_map type_word_of result_kind.now)) }
 {
     put_title(out, query, name)?;
     put_parameters(out, parameters)?;

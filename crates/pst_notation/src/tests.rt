@@ -13,6 +13,31 @@ use std::test::Fail;
 /// A text that is read in a table has fewer bytes.
 const SMALL: usize = 100_000;
 
+/// Programs, and their canonical texts.
+const PROGRAMS: [(&[u8], &[u8]); 6] = [
+    (b" # nothing\n", b""),
+    (
+        b"record N 2{val key:int;ptr next:N;}root first:N;query q(){print first.key+1;}",
+        b"record N 2 { val key: int; ptr next: N; }\nroot first: N;\nquery q() {\n  print first.key + 1;\n}\n",
+    ),
+    (
+        b"record E 1 {} proc empty() { } proc single(a:int,b:E):E{ return b ; }",
+        b"record E 1 { }\nproc empty() {\n}\nproc single(a: int, b: E): E {\n  return b;\n}\n",
+    ),
+    (
+        b"proc p() { var x : int ; if not a.b<=- -c { } else { call p ( 1,x.y , - ( 2*3 ) ); x=call f(); }\n\n while null!=x{x . y=new_x;return;}}",
+        b"proc p() {\n  var x: int;\n  if not a.b <= --c {\n  } else {\n    call p(1, x.y, -(2 * 3));\n    x = call f();\n  }\n  while null != x {\n    x.y = new_x;\n    return;\n  }\n}\n",
+    ),
+    (
+        b"query least() {\n  var a: int;\n  a = -9223372036854775807 - 1;\n  print a;\n  print a % -1;\n  print a / -1;\n}\n",
+        b"query least() {\n  var a: int;\n  a = -9223372036854775807 - 1;\n  print a;\n  print a % -1;\n  print a / -1;\n}\n",
+    ),
+    (
+        b"query below(p: T) {\n  if p != null {\n    call below(p.left);\n    print p.key;\n    call below(p.right);\n  }\n}\n",
+        b"query below(p: T) {\n  if p != null {\n    call below(p.left);\n    print p.key;\n    call below(p.right);\n  }\n}\n",
+    ),
+];
+
 /// The canonical text of a program.
 fn reprinted(alloc: Global, text: &[u8]) -> Result<Text, Fail> {
     if text.len() >= SMALL {
@@ -26,34 +51,11 @@ fn reprinted(alloc: Global, text: &[u8]) -> Result<Text, Fail> {
 
 #[test]
 fn programs_print_in_canonical_form(rt: HostRuntime) -> Result<(), Fail> {
-    let programs: [(&[u8], &[u8]); 6] = [
-        (b" # nothing\n", b""),
-        (
-            b"record N 2{val key:int;ptr next:N;}root first:N;query q(){print first.key+1;}",
-            b"record N 2 { val key: int; ptr next: N; }\nroot first: N;\nquery q() {\n  print first.key + 1;\n}\n",
-        ),
-        (
-            b"record E 1 {} proc empty() { } proc single(a:int,b:E):E{ return b ; }",
-            b"record E 1 { }\nproc empty() {\n}\nproc single(a: int, b: E): E {\n  return b;\n}\n",
-        ),
-        (
-            b"proc p() { var x : int ; if not a.b<=- -c { } else { call p ( 1,x.y , - ( 2*3 ) ); x=call f(); }\n\n while null!=x{x . y=new_x;return;}}",
-            b"proc p() {\n  var x: int;\n  if not a.b <= --c {\n  } else {\n    call p(1, x.y, -(2 * 3));\n    x = call f();\n  }\n  while null != x {\n    x.y = new_x;\n    return;\n  }\n}\n",
-        ),
-        (
-            b"query least() {\n  var a: int;\n  a = -9223372036854775807 - 1;\n  print a;\n  print a % -1;\n  print a / -1;\n}\n",
-            b"query least() {\n  var a: int;\n  a = -9223372036854775807 - 1;\n  print a;\n  print a % -1;\n  print a / -1;\n}\n",
-        ),
-        (
-            b"query below(p: T) {\n  if p != null {\n    call below(p.left);\n    print p.key;\n    call below(p.right);\n  }\n}\n",
-            b"query below(p: T) {\n  if p != null {\n    call below(p.left);\n    print p.key;\n    call below(p.right);\n  }\n}\n",
-        ),
-    ];
-    for (number, (text, canonical)) in programs.iter().enumerate() {
+    for (number, (text, canonical)) in PROGRAMS.iter().enumerate() {
         let once = reprinted(rt.alloc(), text)?;
-        assert!(rt; once.is(canonical), "program {number}");
+        assert_eq!(rt; once.as_slice(), *canonical, "program {number}");
         let twice = reprinted(rt.alloc(), once.as_slice())?;
-        assert!(rt; twice.is(canonical), "program {number} again");
+        assert_eq!(rt; twice.as_slice(), *canonical, "program {number} again");
     }
     Ok(())
 }
@@ -87,6 +89,9 @@ fn tree_that_was_not_read_prints_too(rt: HostRuntime) -> Result<(), Fail> {
     let tree = procedure_of(rt.alloc(), statement)?;
     canonical_text_reads_as_its_tree(&tree);
     let text = print_program(rt.alloc(), &tree)?;
-    assert!(rt; text.is(b"proc p(): int {\n  return -9223372036854775808;\n}\n"));
+    assert_eq!(rt;
+        text.as_slice(),
+        b"proc p(): int {\n  return -9223372036854775808;\n}\n".as_slice()
+    );
     Ok(())
 }
