@@ -1,15 +1,14 @@
 -- Look-ups by name.
-use Rattle.std.proofs.Common.{◌≡◌, ℕ, ◌+◌, Bool, List, [], ◌∷◌, map, Some, cond, refl, sym, ap, ◌∙◌, bytes_eq}
+use Rattle.std.proofs.Common.{◌≡◌, ℕ, ◌+◌, List, [], ◌∷◌, map, Some, cond, refl, sym, ap, ◌∙◌, bytes_eq}
 use Rattle.std.specs.List.{position_from}
-use Rattle.std.specs.Prelude.{position}
 use Rattle.std.proofs.lemmas.Iterator.Adapters.{position_from-zero}
-use Rattle.pst_program.specs.declared.program.TypedProc.{TypedProc}
-use Rattle.pst_program.specs.View.{procedure_of}
+use Rattle.pst_program.specs.Procedures.{Signature, number_named}
 
-shown_from : (x : List ℕ) (i : ℕ) (ps : List TypedProc) → position_from (λ p. bytes_eq p.name x) i (map procedure_of ps) ≡ position_from (λ p. bytes_eq p.name x) i ps
-shown_from x i [] = refl
-shown_from x i (p ∷ ps) = ap (cond (bytes_eq p.name x) (Some i)) (shown_from x (i + 1) ps)
+mapped_from : {A B : Type 0} (signature : B → Signature) (f : A → B) (name : List ℕ) (i : ℕ) (xs : List A) → position_from (λ p. bytes_eq (signature p).name name) i (map f xs) ≡ position_from (λ x. bytes_eq (signature (f x)).name name) i xs
+mapped_from signature f name i [] = refl
+mapped_from signature f name i (x ∷ xs) = ap (cond (bytes_eq (signature (f x)).name name) (Some i)) (mapped_from signature f name (i + 1) xs)
 
--- the procedures for definitions have the names of the program's
-pub position_shown : (x : List ℕ) (ps : List TypedProc) → position (λ p. bytes_eq p.name x) (map procedure_of ps) ≡ position (λ p. bytes_eq p.name x) ps
-position_shown x ps = position_from-zero (λ p. bytes_eq p.name x) (map procedure_of ps) ∙ shown_from x 0 ps ∙ sym (position_from-zero (λ p. bytes_eq p.name x) ps)
+-- procedures made from others have the names that they are made with
+pub number_named-map : {A B : Type 0} (signature : B → Signature) (f : A → B) (xs : List A) (name : List ℕ) → number_named signature (map f xs) name ≡ number_named (λ x. signature (f x)) xs name
+number_named-map signature f xs name =
+    position_from-zero (λ p. bytes_eq (signature p).name name) (map f xs) ∙ mapped_from signature f name 0 xs ∙ sym (position_from-zero (λ x. bytes_eq (signature (f x)).name name) xs)

@@ -1,5 +1,5 @@
 -- What the outcome of a run keeps.
-use Rattle.std.proofs.Common.{◌≡◌, ◌≢◌, inl, inr, ℕ, ◌+◌, ◌-◌, ◌<◌, ◌≤◌, min, Bool, true, false, map, Option, Some, None, refl, sym, ap, ◌∙◌, subst, arith, slice_get}
+use Rattle.std.proofs.Common.{suc, ◌≡◌, ◌≢◌, inl, inr, ℕ, ◌+◌, ◌-◌, ◌<◌, ◌≤◌, min, Bool, true, false, List, [], ◌∷◌, ◌++◌, map, Option, Some, None, refl, sym, ap, ◌∙◌, subst, arith, slice_get}
 use Rattle.std.specs.Prelude.{nat_le}
 use Rattle.std.specs.Option.{option_map}
 use Rattle.std.specs.FinMap.{get}
@@ -13,25 +13,29 @@ use Rattle.pst_program.specs.declared.meaning.Ended.TheVariants.{Stopped}
 use Rattle.pst_program.specs.declared.meaning.Value.TheVariants.{Number as ANumber}
 use Rattle.pst_program.specs.Syntax.{Procedure, Routines}
 use Rattle.pst_program.specs.Meaning.{World, Ending, Normal, Returned, Trapped, Spent, run_body, call, exec}
-use Rattle.pst_program.specs.Outcome.{Task, first_world, outcome_of, outcome}
+use Rattle.pst_program.specs.Outcome.{TaskCall, Task, first_world, next_call, in_order, one_call, outcome_of, outcome}
 use Rattle.pst_program.specs.Typed.{IsTyped}
-use Rattle.pst_program.specs.Sound.{IsFresh, CountsBelow, CountsWithin, world_in}
-use Rattle.pst_program.specs.Laws.{IsOlder, Ends, CountsFew, CountsGrow, StaysOver, NamesByRun, RecordsStay, HeapsStay, QueriesRead, ExpressionsAreSound, StatementsAreSound, CallsAreSound, FirstLocals, ChargesFall, TurnsSuffice}
+use Rattle.pst_program.specs.Sound.{NamesAreFree, CountsBelow, CountsWithin, world_in}
+use Rattle.pst_program.specs.Laws.{IsOlder, Ends, CountsFew, CountsGrow, StaysOver, StaysTrapped, IsQueryCall, NamesByRun, RecordsStay, HeapsStay, QueriesRead, ExpressionsAreSound, StatementsAreSound, CallsAreSound, FirstLocals, ChargesFall, TurnsSuffice}
 use Rattle.pst_program.proofs.Follows.{IsClosed, block_keeps, body_keeps, call_keeps}
 use Rattle.pst_program.proofs.Fewer.{Paid, paid_closed, Counted, counted_quiet, counted_closed, Lower, lower_closed, Numbered, numbered_closed, turns_enough}
 use Rattle.pst_program.proofs.Growth.{Growing, growing_closed, Sound, sound_closed}
-use Rattle.pst_program.proofs.More.{More, body_more, call_more}
+use Rattle.pst_program.proofs.More.{More, ahead, body_more, call_more}
+use Rattle.pst_program.proofs.InOrder.{in_order_keeps, in_order_more, in_order-append, next_counts, next_trapped}
 use Rattle.pst_program.proofs.Soundness.{value_typed}
 use Rattle.pst_program.proofs.Locals.{block_typed, call_sound, first_typed}
 use Rattle.pst_program.proofs.Queries.{body_reads, call_reads}
 
--- how the body of a task ends with so many charges
+-- how the calls of a task end with so many charges
 abbrev runs : Routines → Task → (charges : ℕ) → Heap → Ending
-runs r task charges heap = run_body r.shape (call r 255) (slice_get r.procedures task.procedure) (map ANumber task.arguments) (first_world task.run charges heap)
+runs r task charges heap = in_order (one_call r) task.calls (first_world task.run charges heap)
+
+one_keeps : (r : Routines) (R : World → World → Type 0) → IsClosed r.shape R → (c : TaskCall) (w : World) → R w (world_in (one_call r c w))
+one_keeps r R closed c w = body_keeps r.shape R closed (call r 255) (call_keeps r R closed 255) (slice_get r.procedures c.procedure) (map ANumber c.arguments) w
 
 -- what is closed holds between the first world of a run and its last
 run_keeps : (r : Routines) (R : World → World → Type 0) → IsClosed r.shape R → (task : Task) (charges : ℕ) (heap : Heap) → R (first_world task.run charges heap) (world_in (runs r task charges heap))
-run_keeps r R c task charges heap = body_keeps r.shape R c (call r 255) (call_keeps r R c 255) (slice_get r.procedures task.procedure) (map ANumber task.arguments) (first_world task.run charges heap)
+run_keeps r R c task charges heap = in_order_keeps R c.quiet (one_call r) (one_keeps r R c) task.calls (first_world task.run charges heap)
 
 outcome_heap : (whole : Bool) (o : Ending) → (outcome_of whole o).heap ≡ (world_in o).heap
 outcome_heap whole (Normal env w) = refl
@@ -70,22 +74,30 @@ more_counted d (Returned v w) p m = subst (λ (p : Ending). CountsBelow w.counts
 more_counted d (Trapped t line w) p m = subst (λ (p : Ending). CountsBelow w.counts (world_in p).counts) (sym m) (counted_quiet.same w)
 more_counted d (Spent line w) p m = m
 
+one_more : (r : Routines) (d : ℕ) (c : TaskCall) (w : World) → More d (one_call r c w) (one_call r c (ahead d w))
+one_more r d c w =
+    body_more d r.shape (call r 255) (call_keeps r Lower (lower_closed r.shape) 255) (call_keeps r Counted (counted_closed r.shape) 255) (call_more d r 255) (slice_get r.procedures c.procedure) (map ANumber c.arguments) w
+
 -- the same run with more charges
 runs_more : (r : Routines) (task : Task) (c n : ℕ) (heap : Heap) → c ≤ n → More (n - c) (runs r task c heap) (runs r task n heap)
 runs_more r task c n heap le =
     let whole : c + (n - c) ≡ n = omega arith in
     subst (λ (x : ℕ). More (n - c) (runs r task c heap) (runs r task x heap)) whole
-    (body_more (n - c) r.shape (call r 255) (call_keeps r Lower (lower_closed r.shape) 255) (call_keeps r Counted (counted_closed r.shape) 255) (call_more (n - c) r 255)
-    (slice_get r.procedures task.procedure) (map ANumber task.arguments) (first_world task.run c heap))
+    (in_order_more (n - c) (one_call r) (one_more r (n - c)) (one_keeps r Counted (counted_closed r.shape)) task.calls (first_world task.run c heap))
 
 pub grow : (r : Routines) → CountsGrow r
-grow r task k n heap le =
+grow r task more k n heap le =
     let a : ℕ = min k task.budget in
     let b : ℕ = min n task.budget in
     let less : min k task.budget ≤ min n task.budget = omega arith in
+    let all : Ending = in_order (one_call r) (task.calls ++ more) (first_world task.run b heap) in
     let below : CountsBelow (world_in (runs r task a heap)).counts (world_in (runs r task b heap)).counts = more_counted (b - a) (runs r task a heap) (runs r task b heap) (runs_more r task a b heap less) in
-    subst (λ (c : Counts). CountsBelow c (outcome r task n heap).counts) (sym (outcome_counts (nat_le task.budget k) (runs r task a heap)))
-    (subst (λ (c : Counts). CountsBelow (world_in (runs r task a heap)).counts c) (sym (outcome_counts (nat_le task.budget n) (runs r task b heap))) below)
+    let on : CountsBelow (world_in (runs r task b heap)).counts (world_in (next_call (runs r task b heap) (in_order (one_call r) more))).counts =
+    next_counts (runs r task b heap) (in_order (one_call r) more) (in_order_keeps Counted counted_quiet (one_call r) (one_keeps r Counted (counted_closed r.shape)) more) in
+    let joined : CountsBelow (world_in (runs r task a heap)).counts (world_in (next_call (runs r task b heap) (in_order (one_call r) more))).counts = counted_quiet.joined (world_in (runs r task a heap)) (world_in (runs r task b heap)) (world_in (next_call (runs r task b heap) (in_order (one_call r) more))) below on in
+    let whole : CountsBelow (world_in (runs r task a heap)).counts (world_in all).counts = subst (λ (o : Ending). CountsBelow (world_in (runs r task a heap)).counts (world_in o).counts) (sym (in_order-append (one_call r) task.calls more (first_world task.run b heap))) joined in
+    subst (λ (c : Counts). CountsBelow c (outcome_of (nat_le task.budget n) all).counts) (sym (outcome_counts (nat_le task.budget k) (runs r task a heap)))
+    (subst (λ (c : Counts). CountsBelow (world_in (runs r task a heap)).counts c) (sym (outcome_counts (nat_le task.budget n) all)) whole)
 
 -- ---- over
 
@@ -108,6 +120,11 @@ over r task k n heap le ended =
           over_from (min n task.budget - min k task.budget) (nat_le task.budget n) (runs r task (min k task.budget) heap) (runs r task (min n task.budget) heap) (runs_more r task (min k task.budget) (min n task.budget) heap less) e
     ] refl ended
 
+pub trapped : (r : Routines) → StaysTrapped r
+trapped r task more k heap t e =
+    let w = first_world task.run (min k task.budget) heap in
+    ap (outcome_of (nat_le task.budget k)) (in_order-append (one_call r) task.calls more w ∙ next_trapped (nat_le task.budget k) (in_order (one_call r) task.calls w) (in_order (one_call r) more) t e)
+
 -- ---- records
 
 typed_from_get : (h : Heap) (n : Name) (v : Rec) → get h n ≡ Some v → type_in h n ≡ Some v.ty
@@ -127,7 +144,7 @@ older_fresh_from h run k None older e = refl
 older_fresh_from h run k (Some v) older e = absurd (let below : run.0 < run.0 = older (record { run = run; ordinal = k }) v e in omega arith)
 
 -- where all records are of earlier runs, the names of this run are free
-pub older_fresh : (h : Heap) (run : RunNo) → IsOlder h run.0 → IsFresh h run 0
+pub older_fresh : (h : Heap) (run : RunNo) → IsOlder h run.0 → NamesAreFree h run 0
 older_fresh h run older k le =
     let named : Name = record { run = run; ordinal = k } in
     older_fresh_from h run k (get h named) older refl
@@ -167,12 +184,25 @@ well r task granted heap w fresh =
 
 -- ---- of a well-typed program
 
+one_reads : (r : Routines) → IsTyped r → (c : TaskCall) → IsQueryCall r c → (w : World) → (world_in (one_call r c w)).heap ≡ w.heap
+one_reads r t c q w =
+    subst (λ (o : Option Procedure). (world_in (run_body r.shape (call r 255) o (map ANumber c.arguments) w)).heap ≡ w.heap) (sym q.found)
+    (body_reads r (call r 255) (call_reads r t 255) q.procedure q.query (t.procedures c.procedure q.procedure q.found).body (map ANumber c.arguments) w)
+
+next_reads : (go : World → Ending) (w : World) → ((v : World) → (world_in (go v)).heap ≡ v.heap) → (o : Ending) → (world_in o).heap ≡ w.heap → (world_in (next_call o go)).heap ≡ w.heap
+next_reads go w rest (Normal env v) e = rest v ∙ e
+next_reads go w rest (Returned x v) e = rest v ∙ e
+next_reads go w rest (Trapped kind line v) e = e
+next_reads go w rest (Spent line v) e = e
+
+all_read : (r : Routines) → IsTyped r → (calls : List TaskCall) → ((i : ℕ) (c : TaskCall) → slice_get calls i ≡ Some c → IsQueryCall r c) → (w : World) → (world_in (in_order (one_call r) calls w)).heap ≡ w.heap
+all_read r t [] are w = refl
+all_read r t (c ∷ calls) are w = next_reads (in_order (one_call r) calls) w (all_read r t calls (λ i d e. are (suc i) d e)) (one_call r c w) (one_reads r t c (are 0 c refl) w)
+
 pub reads : (r : Routines) → IsTyped r → QueriesRead r
-reads r t task p at query granted heap =
+reads r t task are granted heap =
     let c : ℕ = min granted task.budget in
-    outcome_heap (nat_le task.budget granted) (runs r task c heap)
-    ∙ subst (λ (o : Option Procedure). (world_in (run_body r.shape (call r 255) o (map ANumber task.arguments) (first_world task.run c heap))).heap ≡ heap) (sym at)
-    (body_reads r (call r 255) (call_reads r t 255) p query (t.procedures task.procedure p at).body (map ANumber task.arguments) (first_world task.run c heap))
+    outcome_heap (nat_le task.budget granted) (runs r task c heap) ∙ all_read r t task.calls are (first_world task.run c heap)
 
 pub expressions : (r : Routines) → ExpressionsAreSound r
 expressions r kinds e sort env heap w are is = value_typed heap r.shape kinds e sort env w are is

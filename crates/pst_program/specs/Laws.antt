@@ -1,5 +1,5 @@
 -- What the outcome of a run keeps, whatever the program.
-use Rattle.std.specs.Prelude.{◌≡◌, ◌≢◌, ◌⊎◌, ℕ, ◌+◌, ◌<◌, ◌≤◌, min, List, Some, None, slice_get, true}
+use Rattle.std.specs.Prelude.{◌≡◌, ◌≢◌, ◌⊎◌, ℕ, ◌+◌, ◌<◌, ◌≤◌, ◌++◌, min, List, Some, None, slice_get, true}
 use Rattle.std.specs.FinMap.{get}
 use Rattle.pst_base.specs.declared.names.Kind.{Kind}
 use Rattle.pst_base.specs.declared.names.Name.{Name}
@@ -8,15 +8,16 @@ use Rattle.pst_base.specs.declared.names.TrapKind.TheVariants.{Null as NullTrap,
 use Rattle.pst_base.specs.declared.shape.TypeShape.{TypeShape}
 use Rattle.pst_base.specs.Shape.{IsTarget, type_at, field_kind}
 use Rattle.pst_base.specs.Heap.{Heap, Rec, IsWellFormed, type_in, kind_in}
-use Rattle.pst_program.specs.declared.meaning.Ended.TheVariants.{Stopped}
+use Rattle.pst_base.specs.declared.names.Trap.{Trap}
+use Rattle.pst_program.specs.declared.meaning.Ended.TheVariants.{Stopped, Trapped as EndedEarly}
 use Rattle.pst_program.specs.declared.meaning.Value.{Value}
 use Rattle.pst_program.specs.declared.meaning.Value.TheVariants.{Number as ANumber, Truth as ATruth, Null as ANull, Record as ARecord}
 use Rattle.pst_program.specs.Syntax.{Expr, Actions, Procedure, Routines}
 use Rattle.pst_program.specs.Value.{Env, Gives, content, load, value}
 use Rattle.pst_program.specs.Meaning.{World, Normal, Trapped, Does, choose, value_written, pointer_written, is_full, is_target, write, turns, first_env, exec, call}
-use Rattle.pst_program.specs.Outcome.{Task, Outcome, outcome}
+use Rattle.pst_program.specs.Outcome.{TaskCall, Task, Outcome, outcome}
 use Rattle.pst_program.specs.Typed.{Sort, sort_of, IsTypedBlock, parameters_of}
-use Rattle.pst_program.specs.Sound.{IsFresh, IsSoundWorld, Grown, IsOf, AreOf, AnswerIsOf, EndingIsOf, CallIsOf, CountsBelow, CountsWithin, world_in}
+use Rattle.pst_program.specs.Sound.{NamesAreFree, IsSoundWorld, Grown, IsOf, AreOf, AnswerIsOf, EndingIsOf, CallIsOf, CountsBelow, CountsWithin, world_in}
 
 -- no record of the heap was made by this run or a later one
 abbrev pub IsOlder : Heap → (run : ℕ) → Type 0
@@ -30,13 +31,17 @@ Ends r = (task : Task) (granted : ℕ) (heap : Heap) → task.budget ≤ granted
 abbrev pub CountsFew : Routines → Type 0
 CountsFew r = (task : Task) (granted : ℕ) (heap : Heap) → CountsWithin (outcome r task granted heap).counts (min granted task.budget)
 
--- more charges count no less
+-- more charges and more calls count no less
 abbrev pub CountsGrow : Routines → Type 0
-CountsGrow r = (task : Task) (k n : ℕ) (heap : Heap) → k ≤ n → CountsBelow (outcome r task k heap).counts (outcome r task n heap).counts
+CountsGrow r = (task : Task) (more : List TaskCall) (k n : ℕ) (heap : Heap) → k ≤ n → CountsBelow (outcome r task k heap).counts (outcome r (record task { calls = task.calls ++ more }) n heap).counts
 
 -- more charges change nothing of a run that ended
 abbrev pub StaysOver : Routines → Type 0
 StaysOver r = (task : Task) (k n : ℕ) (heap : Heap) → k ≤ n → (outcome r task k heap).end ≢ Stopped → outcome r task n heap ≡ outcome r task k heap
+
+-- more calls change nothing of a run that has trapped
+abbrev pub StaysTrapped : Routines → Type 0
+StaysTrapped r = (task : Task) (more : List TaskCall) (k : ℕ) (heap : Heap) (t : Trap) → (outcome r task k heap).end ≡ EndedEarly t → outcome r (record task { calls = task.calls ++ more }) k heap ≡ outcome r task k heap
 
 -- new records bear the run's number
 abbrev pub NamesByRun : Routines → Type 0
@@ -48,11 +53,11 @@ pub record Adds (task : Task) (heap : Heap) (o : Outcome) : Type 0 where
   pub added : (n : Name) (ty : TypeNo) → type_in o.heap n ≡ Some ty → (type_in heap n ≡ Some ty) ⊎ ((n.run ≡ task.run) × (n.ordinal < o.counts.records))
 
 abbrev pub RecordsStay : Routines → Type 0
-RecordsStay r = (task : Task) (granted : ℕ) (heap : Heap) → IsFresh heap task.run 0 → Adds task heap (outcome r task granted heap)
+RecordsStay r = (task : Task) (granted : ℕ) (heap : Heap) → NamesAreFree heap task.run 0 → Adds task heap (outcome r task granted heap)
 
 -- a well-formed heap stays well formed
 abbrev pub HeapsStay : Routines → Type 0
-HeapsStay r = (task : Task) (granted : ℕ) (heap : Heap) → IsWellFormed r.shape heap → IsFresh heap task.run 0 → IsWellFormed r.shape (outcome r task granted heap).heap
+HeapsStay r = (task : Task) (granted : ℕ) (heap : Heap) → IsWellFormed r.shape heap → NamesAreFree heap task.run 0 → IsWellFormed r.shape (outcome r task granted heap).heap
 
 -- no statement raises the charges left
 abbrev pub ChargesFall : Routines → Type 0
@@ -64,9 +69,15 @@ TurnsSuffice r = (d m n : ℕ) (e : Expr) (body : Actions) (line : ℕ) (env : E
 
 -- ---- of a well-typed program
 
--- a query writes nothing
+-- the call is one of a query
+pub record IsQueryCall (r : Routines) (c : TaskCall) : Type 0 where
+  pub procedure : Procedure
+  pub found : slice_get r.procedures c.procedure ≡ Some procedure
+  pub query : procedure.query ≡ true
+
+-- queries write nothing
 abbrev pub QueriesRead : Routines → Type 0
-QueriesRead r = (task : Task) (p : Procedure) → slice_get r.procedures task.procedure ≡ Some p → p.query ≡ true → (granted : ℕ) (heap : Heap) → (outcome r task granted heap).heap ≡ heap
+QueriesRead r = (task : Task) → ((i : ℕ) (c : TaskCall) → slice_get task.calls i ≡ Some c → IsQueryCall r c) → (granted : ℕ) (heap : Heap) → (outcome r task granted heap).heap ≡ heap
 
 -- each expression gives a value of its sort or traps
 abbrev pub ExpressionsAreSound : Routines → Type 0
