@@ -10,10 +10,11 @@ use Rattle.pst_tree.specs.Syntax as tree
 use Rattle.pst_tree.specs.Depth as depth
 use Rattle.pst_program.specs.Syntax as program
 use Rattle.pst_program.specs.Typed as typed
+use Rattle.pst_program.specs.Procedures.{NamesDiffer}
 use Rattle.pst_types.specs.declared.fault.TypeFault.{TypeFault}
 use Rattle.pst_types.specs.declared.fault.TypeFault.TheVariants as fault
 use Rattle.pst_types.specs.Answers.{through}
-use Rattle.pst_types.specs.Names.{Member, Members, Scope, nothing_declared, Local, Place, RecordType, Signature, named, kind_of, is_known}
+use Rattle.pst_types.specs.Names.{Member, Members, Scope, nothing_declared, Local, Setting, RecordType, Signature, named, kind_of, is_known}
 use Rattle.pst_types.specs.Statements.{block}
 use Rattle.pst_types.specs.Declarations.{noted, with_target, targets_of, shape_of, variable, is_result_known, procedure, NamedProgram, declared, root_alone, checked}
 use Rattle.std.specs.Prelude.{IfOk}
@@ -26,7 +27,7 @@ use Rattle.pst_types.specs.Laws.{routines_in, AcceptedIsTyped}
 use Rattle.pst_types.proofs.Few.{passed, first_passed, same_ok, through_few}
 use Rattle.pst_types.proofs.Laid.{IsLaid, AllKnown}
 use Rattle.pst_types.proofs.Sorts.{Sound, HasShape, known_target}
-use Rattle.pst_types.proofs.Acts.{KnownEach, KnownResult, Callee, Standing, good_block}
+use Rattle.pst_types.proofs.Acts.{KnownEach, KnownResult, Callee, IsSettingOf, good_block}
 use Rattle.pst_types.proofs.Deep.{block_depth}
 use Rattle.pst_types.proofs.Locals.{kinds_in, grew, kind_fits, kinds_fit, first_kinds}
 use Rattle.pst_types.proofs.Whole.{Entry, entry_at, entry_named, entries_length, routine_at, routine_named, routines_length, one_index, Together, start, together}
@@ -194,8 +195,8 @@ is_procedure scope p g text q e high deep =
     let two = grew scope (length m.parameters + 64) text.locals m.parameters m.variables m.second in
     let sound = is_sound scope p g in
     let final : program.Procedure = record { name = text.name; query = text.query; arguments = length m.parameters; result = option_map (kind_of scope) text.result; kinds = kinds_in scope m.variables; body = m.body } in
-    let place : Place = record { scope = scope; query = text.query; result = text.result; locals = m.variables } in
-    let stands : Standing (routines_in p) final place = record {
+    let setting : Setting = record { scope = scope; query = text.query; result = text.result; locals = m.variables } in
+    let stands : IsSettingOf (routines_in p) final setting = record {
       sound = sound;
       have = two.good (one.good (λ x l h. cc));
       query = refl;
@@ -209,7 +210,7 @@ is_procedure scope p g text q e high deep =
     let few_all = through_few scope (length m.parameters + 64) text.locals m.parameters m.variables within m.second in
     let count : length (kinds_in scope m.variables) ≡ length m.variables = length-map m.variables (λ (v : List ℕ × Local). kind_of scope v.1.kind) in
     let longer : length m.variables ≡ length m.parameters + length two.more = ap length two.is ∙ length-append m.parameters two.more in
-    let shallow = block_depth place text.body m.body m.judged in
+    let shallow = block_depth setting text.body m.body m.judged in
     let shallow_depth = shallow.depth in
     let shallow_nesting = shallow.nesting in
     let whole : typed.IsTypedProcedure (routines_in p) final = record {
@@ -218,7 +219,7 @@ is_procedure scope p g text q e high deep =
       few_locals = omega (arith, count, few_all);
       kinds = kinds_fit scope p.shape m.variables sound (two.known (one.known tt));
       result = result_fits scope p.shape text.result sound m.result;
-      body = good_block (routines_in p) final place stands text.body m.body m.judged;
+      body = good_block (routines_in p) final setting stands text.body m.body m.judged;
       shallow = record { expressions = omega (arith, shallow_depth, high); blocks = omega (arith, shallow_nesting, deep) };
     } in
     subst (λ (r : program.Procedure). typed.IsTypedProcedure (routines_in p) r) (sym m.is) whole
@@ -231,7 +232,7 @@ procedures_are scope p g i q e =
 name_is : (scope : Scope) (text : tree.ProcedureText) (q : program.Procedure) → procedure scope text ≡ Ok q → q.name ≡ text.name
 name_is scope text q e = ap (λ (r : program.Procedure). r.name) (made scope text q e).is
 
-names_differ : (scope : Scope) (p : NamedProgram) → Together scope scope p → typed.NamesDiffer p.procedures
+names_differ : (scope : Scope) (p : NamedProgram) → Together scope scope p → NamesDiffer typed.signature p.procedures
 names_differ scope p g = λ i j q r e f same.
     let a = routine_at scope 0 i scope.procedures p.procedures q g.routines e in
     let b = routine_at scope 0 j scope.procedures p.procedures r g.routines f in

@@ -12,7 +12,7 @@ use Rattle.pst_program.specs.declared.block.TypedForm.{TypedForm}
 use Rattle.std.proofs.Math.Seq.{drop-length}
 use Rattle.pst_types.specs.declared.fault.TypeFault.{TypeFault}
 use Rattle.pst_types.specs.Answers.{and_then}
-use Rattle.pst_types.specs.Names.{Place}
+use Rattle.pst_types.specs.Names.{Setting}
 use Rattle.pst_types.specs.Statements.{statement, block}
 use Rattle.pst_types.proofs.Through.{at_index}
 
@@ -58,19 +58,19 @@ behind_more done s (Ok rest) = ap Ok (sym (before_more done s rest))
 behind_more done s (Err f) = refl
 
 -- one more statement is judged
-pub block_on : (place : Place) (xs : List Statement) (i : ℕ) (x : Statement) (done after : List TypedStatement) (form : TypedForm) (all : Result program.Actions TypeFault) → i < length xs → x ≡ get_or xs i x →
-    statement place x.line (tree_view.phrase_of x.form) ≡ Ok (typed_view.action_of form) → after ≡ done ++ record { line = x.line; form = form } ∷ [] →
-    behind (typed_view.statements_of done) (block place (tree_view.statements_of (drop i xs))) ≡ all → behind (typed_view.statements_of after) (block place (tree_view.statements_of (drop (i + 1) xs))) ≡ all
-block_on place xs i x done after form all below is judged more so_far =
-    let rest = block place (tree_view.statements_of (drop (i + 1) xs)) in
+pub block_on : (setting : Setting) (xs : List Statement) (i : ℕ) (x : Statement) (done after : List TypedStatement) (form : TypedForm) (all : Result program.Actions TypeFault) → i < length xs → x ≡ get_or xs i x →
+    statement setting x.line (tree_view.phrase_of x.form) ≡ Ok (typed_view.action_of form) → after ≡ done ++ record { line = x.line; form = form } ∷ [] →
+    behind (typed_view.statements_of done) (block setting (tree_view.statements_of (drop i xs))) ≡ all → behind (typed_view.statements_of after) (block setting (tree_view.statements_of (drop (i + 1) xs))) ≡ all
+block_on setting xs i x done after form all below is judged more so_far =
+    let rest = block setting (tree_view.statements_of (drop (i + 1) xs)) in
     ap (λ l. behind (typed_view.statements_of l) rest) more ∙ sym (behind_more done (record { line = x.line; form = form }) rest)
     ∙ sym (ap (λ r. behind (typed_view.statements_of done) (and_then r (λ action. and_then rest (λ actions. Ok (program.Then x.line action actions))))) judged)
-    ∙ sym (ap (λ l. behind (typed_view.statements_of done) (block place (tree_view.statements_of l))) (at_index xs i x below is)) ∙ so_far
+    ∙ sym (ap (λ l. behind (typed_view.statements_of done) (block setting (tree_view.statements_of l))) (at_index xs i x below is)) ∙ so_far
 
-pub block_starts : (place : Place) (b : code.Block) (xs : List Statement) (none : List TypedStatement) → none ≡ [] → xs ≡ (code.out-Block b).items.items →
-    behind (typed_view.statements_of none) (block place (tree_view.statements_of xs)) ≡ block place (tree_view.phrases_of b)
-block_starts place b xs none empty is =
-    ap (λ l. behind (typed_view.statements_of l) (block place (tree_view.statements_of xs))) empty ∙ behind_none _ ∙ ap (block place) (ap tree_view.statements_of is ∙ sym (written_list b))
+pub block_starts : (setting : Setting) (b : code.Block) (xs : List Statement) (none : List TypedStatement) → none ≡ [] → xs ≡ (code.out-Block b).items.items →
+    behind (typed_view.statements_of none) (block setting (tree_view.statements_of xs)) ≡ block setting (tree_view.phrases_of b)
+block_starts setting b xs none empty is =
+    ap (λ l. behind (typed_view.statements_of l) (block setting (tree_view.statements_of xs))) empty ∙ behind_none _ ∙ ap (block setting) (ap tree_view.statements_of is ∙ sym (written_list b))
 
 made_row : {m : _} (row : typed.Row_of-TypedStatement m) → typed_view.row_of row ≡ typed_view.statements_of (typed.items-the_row-TypedStatement m row)
 made_row typed.end_of-TypedStatement = refl
@@ -79,9 +79,9 @@ made_row (typed.more_of-TypedStatement line form rest) = ap (program.Then line (
 made_list : (b : typed.TypedBlock) → typed_view.actions_of b ≡ typed_view.statements_of (typed.out-TypedBlock b).items.items
 made_list (typed.TypedBlock' shape row) = made_row row ∙ sym (ap typed_view.statements_of (ap (λ o. o.items.items) (typed.outs-TypedBlock' shape row) ∙ typed.items_shown-the_row-TypedStatement-0 shape row))
 
-pub block_ends : (place : Place) (b : code.Block) (xs : List Statement) (i : ℕ) (made : typed.TypedBlock) (done : List TypedStatement) → i ≡ length xs → (typed.out-TypedBlock made).items.items ≡ done →
-    behind (typed_view.statements_of done) (block place (tree_view.statements_of (drop i xs))) ≡ block place (tree_view.phrases_of b) → block place (tree_view.phrases_of b) ≡ Ok (typed_view.actions_of made)
-block_ends place b xs i made done end holds so_far =
+pub block_ends : (setting : Setting) (b : code.Block) (xs : List Statement) (i : ℕ) (made : typed.TypedBlock) (done : List TypedStatement) → i ≡ length xs → (typed.out-TypedBlock made).items.items ≡ done →
+    behind (typed_view.statements_of done) (block setting (tree_view.statements_of (drop i xs))) ≡ block setting (tree_view.phrases_of b) → block setting (tree_view.phrases_of b) ≡ Ok (typed_view.actions_of made)
+block_ends setting b xs i made done end holds so_far =
     let past : drop i xs ≡ [] = ap (λ k. drop k xs) end ∙ drop-length xs in
-    sym so_far ∙ ap (λ l. behind (typed_view.statements_of done) (block place (tree_view.statements_of l))) past
+    sym so_far ∙ ap (λ l. behind (typed_view.statements_of done) (block setting (tree_view.statements_of l))) past
     ∙ ap Ok (before_all done ∙ ap typed_view.statements_of (sym holds) ∙ sym (made_list made))

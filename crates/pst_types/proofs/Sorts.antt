@@ -16,7 +16,7 @@ use Rattle.pst_program.specs.Typed as typed
 use Rattle.pst_program.specs.Meaning.{is_target}
 use Rattle.pst_types.specs.declared.fault.TypeFault.{TypeFault}
 use Rattle.pst_types.specs.Answers.{found}
-use Rattle.pst_types.specs.Names.{Scope, Slot, Local, Place, RecordType, Variable, IsLocal, IsRoot, named, is_named, slot_in, number_of, kind_of, is_known, field_named, local_or, variable}
+use Rattle.pst_types.specs.Names.{Scope, Slot, Local, Setting, RecordType, Variable, IsLocal, IsRoot, named, is_named, slot_in, number_of, kind_of, is_known, field_named, local_or, variable}
 use Rattle.pst_types.specs.Declarations.{shape_of}
 use Rattle.pst_types.specs.Expressions.{Sort, Int, Truth, Pointer, same_sort, sort_of, Judged, Bare, Known, in_parens, null_of, operand, Object, object, named_value, loaded, operation, null_beside, can_equal, equality, combined, judged, fits, fitted, of_sort}
 use Rattle.pst_types.proofs.Few.{passed, first_passed, same_ok}
@@ -124,30 +124,30 @@ compared_same k = ap (λ b. typed.given b typed.Truth) (same_kind_refl k)
 
 -- ---- expressions
 
-module _ (types : List TypeShape) (place : Place) (ks : List Kind) where
+module _ (types : List TypeShape) (setting : Setting) (ks : List Kind) where
   -- each parameter and local has its kind
   abbrev pub LocalsHave : Type 0
-  LocalsHave = (x : List ℕ) (l : Local) → named x place.locals ≡ Some l → (slice_get ks l.number ≡ Some (kind_of place.scope l.kind)) × (is_known place.scope l.kind ≡ true)
+  LocalsHave = (x : List ℕ) (l : Local) → named x setting.locals ≡ Some l → (slice_get ks l.number ≡ Some (kind_of setting.scope l.kind)) × (is_known setting.scope l.kind ≡ true)
 
   -- an expression has the sort, and its type is declared
   pub record IsGood (v : program.Expr) (sort : Sort) : Type 0 where
-    pub is : typed.sort_of types ks v ≡ Some (sort_for place.scope sort)
-    pub known : KnownSort place.scope sort
+    pub is : typed.sort_of types ks v ≡ Some (sort_for setting.scope sort)
+    pub known : KnownSort setting.scope sort
 
   abbrev pub GoodJudged : Judged → Type 0
   GoodJudged Bare = Unit {0}
   GoodJudged (Known v sort) = IsGood v sort
 
   abbrev pub GoodVariable : Variable → Type 0
-  GoodVariable (IsLocal l) = (slice_get ks l.number ≡ Some (kind_of place.scope l.kind)) × (is_known place.scope l.kind ≡ true)
-  GoodVariable (IsRoot s) = (typed.root_kind types s.slot ≡ Some (kind_of place.scope s.kind)) × (is_known place.scope s.kind ≡ true)
+  GoodVariable (IsLocal l) = (slice_get ks l.number ≡ Some (kind_of setting.scope l.kind)) × (is_known setting.scope l.kind ≡ true)
+  GoodVariable (IsRoot s) = (typed.root_kind types s.slot ≡ Some (kind_of setting.scope s.kind)) × (is_known setting.scope s.kind ≡ true)
 
-  kind_given : (kind : tree.TypeWord) (o : Option Kind) → o ≡ Some (kind_of place.scope kind) → option_map typed.Of o ≡ Some (sort_for place.scope (sort_of kind))
-  kind_given kind o e = ap (option_map typed.Of) e ∙ ap Some (sym (sort_for_kind place.scope kind))
+  kind_given : (kind : tree.TypeWord) (o : Option Kind) → o ≡ Some (kind_of setting.scope kind) → option_map typed.Of o ≡ Some (sort_for setting.scope (sort_of kind))
+  kind_given kind o e = ap (option_map typed.Of) e ∙ ap Some (sym (sort_for_kind setting.scope kind))
 
   good_value : (v : Variable) → GoodVariable v → GoodJudged (named_value v)
-  good_value (IsLocal l) g = record { is = kind_given l.kind (slice_get ks l.number) g.0; known = known_sort place.scope l.kind g.1 }
-  good_value (IsRoot s) g = record { is = kind_given s.kind (typed.root_kind types s.slot) g.0; known = known_sort place.scope s.kind g.1 }
+  good_value (IsLocal l) g = record { is = kind_given l.kind (slice_get ks l.number) g.0; known = known_sort setting.scope l.kind g.1 }
+  good_value (IsRoot s) g = record { is = kind_given s.kind (typed.root_kind types s.slot) g.0; known = known_sort setting.scope s.kind g.1 }
 
   good_parens : (j : Judged) → GoodJudged j → GoodJudged (in_parens j)
   good_parens Bare g = tt
@@ -163,15 +163,15 @@ module _ (types : List TypeShape) (place : Place) (ks : List Kind) where
   good_null ty (tree.Not e) t = ap (λ b. typed.given b (typed.Of (kinds.Pointer ty))) t
   good_null ty (tree.Binary op a b) t = ap (λ b. typed.given b (typed.Of (kinds.Pointer ty))) t
 
-  pub good_operand : (line : ℕ) (sort : Sort) (j : Judged) (v : program.Expr) → GoodJudged j → operand line sort j ≡ Ok v → typed.sort_of types ks v ≡ Some (sort_for place.scope sort)
+  pub good_operand : (line : ℕ) (sort : Sort) (j : Judged) (v : program.Expr) → GoodJudged j → operand line sort j ≡ Ok v → typed.sort_of types ks v ≡ Some (sort_for setting.scope sort)
   good_operand line sort Bare v g e = cc
   good_operand line sort (Known w other) v g e =
       let p = passed (same_sort other sort) _ _ v e in
-      of_ok (λ (x : program.Expr). typed.sort_of types ks x ≡ Some (sort_for place.scope sort)) w v (g.is ∙ ap Some (same_sort_is place.scope other sort p.0)) p.1
+      of_ok (λ (x : program.Expr). typed.sort_of types ks x ≡ Some (sort_for setting.scope sort)) w v (g.is ∙ ap Some (same_sort_is setting.scope other sort p.0)) p.1
 
   -- an object is a pointer to records of a declared type
   pub record GoodObject (o : Object) : Type 0 where
-    pub is : typed.sort_of types ks o.pointer ≡ Some (typed.Of (kinds.Pointer (number_of place.scope o.type)))
+    pub is : typed.sort_of types ks o.pointer ≡ Some (typed.Of (kinds.Pointer (number_of setting.scope o.type)))
 
   pub good_object : (line : ℕ) (j : Judged) (o : Object) → GoodJudged j → object line j ≡ Ok o → GoodObject o
   good_object line Bare o g e = cc
@@ -179,42 +179,42 @@ module _ (types : List TypeShape) (place : Place) (ks : List Kind) where
   good_object line (Known v Truth) o g e = cc
   good_object line (Known v (Pointer t)) o g e = of_ok GoodObject (record { pointer = v; type = t }) o (record { is = g.is }) e
 
-  module _ (sound : Sound place.scope types) where
-    pub good_variable : (x : List ℕ) (v : Variable) → LocalsHave → variable place x ≡ Some v → GoodVariable v
-    good_variable x v have e = by_parts (named x place.locals) (slot_in place.scope.roots x) refl refl e
+  module _ (sound : Sound setting.scope types) where
+    pub good_variable : (x : List ℕ) (v : Variable) → LocalsHave → variable setting x ≡ Some v → GoodVariable v
+    good_variable x v have e = by_parts (named x setting.locals) (slot_in setting.scope.roots x) refl refl e
       where
-        by_parts : (o : Option Local) (r : Option Slot) → named x place.locals ≡ o → slot_in place.scope.roots x ≡ r → local_or o r ≡ Some v → GoodVariable v
+        by_parts : (o : Option Local) (r : Option Slot) → named x setting.locals ≡ o → slot_in setting.scope.roots x ≡ r → local_or o r ≡ Some v → GoodVariable v
         by_parts (Some l) r is_l is_r e = let same : IsLocal l ≡ v = cc in subst (λ (w : Variable). GoodVariable w) same (have x l is_l)
         by_parts None (Some s) is_l is_r e =
             let same : IsRoot s ≡ v = cc in
-            let few : length place.scope.roots.list < 100 = omega (arith, sound.root_few) in
-            let at : typed.root_kind types s.slot ≡ Some (kind_of place.scope s.kind) = ap (λ t. shape.field_kind t s.slot) sound.root_is ∙ slot_fits place.scope place.scope.roots 1 x s sound.root_laid few is_r in
-            subst (λ (w : Variable). GoodVariable w) same (at, slot_known place.scope place.scope.roots x s sound.root_known is_r)
+            let few : length setting.scope.roots.list < 100 = omega (arith, sound.root_few) in
+            let at : typed.root_kind types s.slot ≡ Some (kind_of setting.scope s.kind) = ap (λ t. shape.field_kind t s.slot) sound.root_is ∙ slot_fits setting.scope setting.scope.roots 1 x s sound.root_laid few is_r in
+            subst (λ (w : Variable). GoodVariable w) same (at, slot_known setting.scope setting.scope.roots x s sound.root_known is_r)
         by_parts None None is_l is_r e = cc
 
     -- a field of a declared type
-    pub good_field : (t f : List ℕ) (s : Slot) → field_named place.scope t f ≡ Some s → (shape.field_kind (shape.type_at types (number_of place.scope t)) s.slot ≡ Some (kind_of place.scope s.kind)) × (is_known place.scope s.kind ≡ true)
+    pub good_field : (t f : List ℕ) (s : Slot) → field_named setting.scope t f ≡ Some s → (shape.field_kind (shape.type_at types (number_of setting.scope t)) s.slot ≡ Some (kind_of setting.scope s.kind)) × (is_known setting.scope s.kind ≡ true)
     good_field t f s e =
-        let p = bound_some (λ (r : RecordType). slot_in r.members f) (named t place.scope.types) s e in
+        let p = bound_some (λ (r : RecordType). slot_in r.members f) (named t setting.scope.types) s e in
         let h = sound.types_have t p.0 p.1.0 in
         let few : length p.0.members.list < 100 = omega (arith, h.few) in (
-          ap (λ n. shape.field_kind (shape.type_at types n) s.slot) (number_is place.scope t p.0 p.1.0) ∙ ap (λ u. shape.field_kind u s.slot) h.is ∙ slot_fits place.scope p.0.members h.limit f s h.laid few p.1.1,
-          slot_known place.scope p.0.members f s h.known p.1.1,
+          ap (λ n. shape.field_kind (shape.type_at types n) s.slot) (number_is setting.scope t p.0 p.1.0) ∙ ap (λ u. shape.field_kind u s.slot) h.is ∙ slot_fits setting.scope p.0.members h.limit f s h.laid few p.1.1,
+          slot_known setting.scope p.0.members f s h.known p.1.1,
         )
 
-    good_loaded : (o : Object) (f : List ℕ) (s : Slot) → GoodObject o → field_named place.scope o.type f ≡ Some s → GoodJudged (loaded place o s)
+    good_loaded : (o : Object) (f : List ℕ) (s : Slot) → GoodObject o → field_named setting.scope o.type f ≡ Some s → GoodJudged (loaded setting o s)
     good_loaded o f s g e =
-        let k = kind_of place.scope s.kind in
+        let k = kind_of setting.scope s.kind in
         let q = good_field o.type f s e in
         record {
           is = ap (λ x. typed.given (option_eq typed.same_kind (typed.field_of types x s.slot) (Some k)) (typed.Of k)) g.is
-              ∙ ap (λ x. typed.given (option_eq typed.same_kind x (Some k)) (typed.Of k)) q.0 ∙ ap (λ b. typed.given b (typed.Of k)) (same_kind_refl k) ∙ ap Some (sym (sort_for_kind place.scope s.kind));
-          known = known_sort place.scope s.kind q.1;
+              ∙ ap (λ x. typed.given (option_eq typed.same_kind x (Some k)) (typed.Of k)) q.0 ∙ ap (λ b. typed.given b (typed.Of k)) (same_kind_refl k) ∙ ap Some (sym (sort_for_kind setting.scope s.kind));
+          known = known_sort setting.scope s.kind q.1;
         }
 
     -- ---- operators
 
-    good_operation : (line : ℕ) (op : Op) (s gives : Sort) (l r j : Judged) → KnownSort place.scope gives → typed.binary_sort op (Some (sort_for place.scope s)) (Some (sort_for place.scope s)) ≡ Some (sort_for place.scope gives) →
+    good_operation : (line : ℕ) (op : Op) (s gives : Sort) (l r j : Judged) → KnownSort setting.scope gives → typed.binary_sort op (Some (sort_for setting.scope s)) (Some (sort_for setting.scope s)) ≡ Some (sort_for setting.scope gives) →
         GoodJudged l → GoodJudged r → operation line op s gives l r ≡ Ok j → GoodJudged j
     good_operation line op s gives l r j known is gl gr e =
         let p = first_passed (operand line s l) _ j e in
@@ -227,31 +227,31 @@ module _ (types : List TypeShape) (place : Place) (ks : List Kind) where
         GoodJudged (Known (program.Binary op v w) Truth)
     good_equal op v w k is a b = record { is = is _ _ ∙ (λ i. typed.compared (a i) (b i)) ∙ compared_same k; known = tt }
 
-    good_beside : (line : ℕ) (e : tree.Expr) (sort : Sort) (v : program.Expr) → KnownSort place.scope sort → null_beside place line e sort ≡ Ok v →
-        (k : Kind) × ((sort_for place.scope sort ≡ typed.Of k) × (typed.sort_of types ks v ≡ Some (typed.Of k)))
+    good_beside : (line : ℕ) (e : tree.Expr) (sort : Sort) (v : program.Expr) → KnownSort setting.scope sort → null_beside setting line e sort ≡ Ok v →
+        (k : Kind) × ((sort_for setting.scope sort ≡ typed.Of k) × (typed.sort_of types ks v ≡ Some (typed.Of k)))
     good_beside line e Int v known is = cc
     good_beside line e Truth v known is = cc
     good_beside line e (Pointer t) v known is =
-        let ty = number_of place.scope t in
-        let target = known_target place.scope types t sound known in
+        let ty = number_of setting.scope t in
+        let target = known_target setting.scope types t sound known in
         (kinds.Pointer ty, (refl, of_ok (λ (x : program.Expr). typed.sort_of types ks x ≡ Some (typed.Of (kinds.Pointer ty))) (null_of ty e) v (good_null ty e (both_below ty.0 (length types) target.0 target.1)) is))
 
-    good_equality : (line : ℕ) (op : Op) (a b : tree.Expr) (l r j : Judged) → ((x y : Option typed.Sort) → typed.binary_sort op x y ≡ typed.compared x y) → GoodJudged l → GoodJudged r → equality place line op a b l r ≡ Ok j → GoodJudged j
+    good_equality : (line : ℕ) (op : Op) (a b : tree.Expr) (l r j : Judged) → ((x y : Option typed.Sort) → typed.binary_sort op x y ≡ typed.compared x y) → GoodJudged l → GoodJudged r → equality setting line op a b l r ≡ Ok j → GoodJudged j
     good_equality line op a b Bare Bare j is gl gr e = cc
     good_equality line op a b Bare (Known r sort) j is gl gr e =
-        let p = first_passed (null_beside place line a sort) _ j e in
+        let p = first_passed (null_beside setting line a sort) _ j e in
         let k = good_beside line a sort p.0 gr.known p.1.0 in
         of_ok (λ (x : Judged). GoodJudged x) (Known (program.Binary op p.0 r) Truth) j (good_equal op p.0 r k.0 is k.1.1 (gr.is ∙ ap Some k.1.0)) p.1.1
     good_equality line op a b (Known l sort) Bare j is gl gr e =
-        let p = first_passed (null_beside place line b sort) _ j e in
+        let p = first_passed (null_beside setting line b sort) _ j e in
         let k = good_beside line b sort p.0 gl.known p.1.0 in
         of_ok (λ (x : Judged). GoodJudged x) (Known (program.Binary op l p.0) Truth) j (good_equal op l p.0 k.0 is (gl.is ∙ ap Some k.1.0) k.1.1) p.1.1
     good_equality line op a b (Known l sort) (Known r other) j is gl gr e =
         let p = passed (can_equal sort other) _ _ j e in
-        let k = can_equal_kind place.scope sort other p.0 in
+        let k = can_equal_kind setting.scope sort other p.0 in
         of_ok (λ (x : Judged). GoodJudged x) (Known (program.Binary op l r) Truth) j (good_equal op l r k.0 is (gl.is ∙ ap Some k.1.0) (gr.is ∙ ap Some k.1.1)) p.1
 
-    good_combined : (line : ℕ) (op : Op) (a b : tree.Expr) (l r j : Judged) → GoodJudged l → GoodJudged r → combined place line op a b l r ≡ Ok j → GoodJudged j
+    good_combined : (line : ℕ) (op : Op) (a b : tree.Expr) (l r j : Judged) → GoodJudged l → GoodJudged r → combined setting line op a b l r ≡ Ok j → GoodJudged j
     good_combined line Add a b l r j gl gr e = good_operation line Add Int Int l r j tt refl gl gr e
     good_combined line Sub a b l r j gl gr e = good_operation line Sub Int Int l r j tt refl gl gr e
     good_combined line Mul a b l r j gl gr e = good_operation line Mul Int Int l r j tt refl gl gr e
@@ -269,51 +269,51 @@ module _ (types : List TypeShape) (place : Place) (ks : List Kind) where
     -- ---- whole expressions
 
     module _ (have : LocalsHave) where
-      pub good_judged : (line : ℕ) (e : tree.Expr) (j : Judged) → judged place line e ≡ Ok j → GoodJudged j
+      pub good_judged : (line : ℕ) (e : tree.Expr) (j : Judged) → judged setting line e ≡ Ok j → GoodJudged j
       good_judged line (tree.Number n) j e = of_ok (λ (x : Judged). GoodJudged x) (Known (program.Number n) Int) j (record { is = refl; known = tt }) e
       good_judged line tree.Null j e = of_ok (λ (x : Judged). GoodJudged x) Bare j tt e
       good_judged line (tree.Name x) j e =
-          let p = found_passed (variable place x) _ _ j e in
+          let p = found_passed (variable setting x) _ _ j e in
           of_ok (λ (y : Judged). GoodJudged y) (named_value p.0) j (good_value p.0 (good_variable x p.0 have p.1.0)) p.1.1
       good_judged line (tree.Parens inner) j e =
-          let p = first_passed (judged place line inner) _ j e in
+          let p = first_passed (judged setting line inner) _ j e in
           of_ok (λ (y : Judged). GoodJudged y) (in_parens p.0) j (good_parens p.0 (good_judged line inner p.0 p.1.0)) p.1.1
       good_judged line (tree.Field inner f) j e =
-          let p = first_passed (judged place line inner) _ j e in
+          let p = first_passed (judged setting line inner) _ j e in
           let o = first_passed (object line p.0) _ j p.1.1 in
-          let s = found_passed (field_named place.scope o.0.type f) _ _ j o.1.1 in
-          of_ok (λ (y : Judged). GoodJudged y) (loaded place o.0 s.0) j (good_loaded o.0 f s.0 (good_object line p.0 o.0 (good_judged line inner p.0 p.1.0) o.1.0) s.1.0) s.1.1
+          let s = found_passed (field_named setting.scope o.0.type f) _ _ j o.1.1 in
+          of_ok (λ (y : Judged). GoodJudged y) (loaded setting o.0 s.0) j (good_loaded o.0 f s.0 (good_object line p.0 o.0 (good_judged line inner p.0 p.1.0) o.1.0) s.1.0) s.1.1
       good_judged line (tree.Negate inner) j e =
-          let p = first_passed (judged place line inner) _ j e in
+          let p = first_passed (judged setting line inner) _ j e in
           let v = first_passed (operand line Int p.0) _ j p.1.1 in
           let g = good_operand line Int p.0 v.0 (good_judged line inner p.0 p.1.0) v.1.0 in
           of_ok (λ (y : Judged). GoodJudged y) (Known (program.Negate v.0) Int) j (record { is = ap (λ x. typed.given (typed.is_sort (typed.Of kinds.Int) x) (typed.Of kinds.Int)) g; known = tt }) v.1.1
       good_judged line (tree.Not inner) j e =
-          let p = first_passed (judged place line inner) _ j e in
+          let p = first_passed (judged setting line inner) _ j e in
           let v = first_passed (operand line Truth p.0) _ j p.1.1 in
           let g = good_operand line Truth p.0 v.0 (good_judged line inner p.0 p.1.0) v.1.0 in
           of_ok (λ (y : Judged). GoodJudged y) (Known (program.Not v.0) Truth) j (record { is = ap (λ x. typed.given (typed.is_sort typed.Truth x) typed.Truth) g; known = tt }) v.1.1
       good_judged line (tree.Binary op a b) j e =
-          let p = first_passed (judged place line a) _ j e in
-          let q = first_passed (judged place line b) _ j p.1.1 in
+          let p = first_passed (judged setting line a) _ j e in
+          let q = first_passed (judged setting line b) _ j p.1.1 in
           good_combined line op a b p.0 q.0 j (good_judged line a p.0 p.1.0) (good_judged line b q.0 q.1.0) q.1.1
 
-      good_fits : (line : ℕ) (kind : tree.TypeWord) (e : tree.Expr) (j : Judged) (v : program.Expr) → is_known place.scope kind ≡ true → GoodJudged j → fits place line kind e j ≡ Ok v → typed.sort_of types ks v ≡ Some (typed.Of (kind_of place.scope kind))
+      good_fits : (line : ℕ) (kind : tree.TypeWord) (e : tree.Expr) (j : Judged) (v : program.Expr) → is_known setting.scope kind ≡ true → GoodJudged j → fits setting line kind e j ≡ Ok v → typed.sort_of types ks v ≡ Some (typed.Of (kind_of setting.scope kind))
       good_fits line tree.Int e Bare v known g is = cc
       good_fits line (tree.Named t) e Bare v known g is =
-          let ty = number_of place.scope t in
-          let target = known_target place.scope types t sound known in
+          let ty = number_of setting.scope t in
+          let target = known_target setting.scope types t sound known in
           of_ok (λ (x : program.Expr). typed.sort_of types ks x ≡ Some (typed.Of (kinds.Pointer ty))) (null_of ty e) v (good_null ty e (both_below ty.0 (length types) target.0 target.1)) is
       good_fits line tree.Int e (Known w sort) v known g is = good_operand line Int (Known w sort) v g is
       good_fits line (tree.Named t) e (Known w sort) v known g is = good_operand line (Pointer t) (Known w sort) v g is
 
       -- an expression that fits a declared type has its kind
-      pub good_fitted : (line : ℕ) (kind : tree.TypeWord) (e : tree.Expr) (v : program.Expr) → is_known place.scope kind ≡ true → fitted place line kind e ≡ Ok v → typed.sort_of types ks v ≡ Some (typed.Of (kind_of place.scope kind))
+      pub good_fitted : (line : ℕ) (kind : tree.TypeWord) (e : tree.Expr) (v : program.Expr) → is_known setting.scope kind ≡ true → fitted setting line kind e ≡ Ok v → typed.sort_of types ks v ≡ Some (typed.Of (kind_of setting.scope kind))
       good_fitted line kind e v known is =
-          let p = first_passed (judged place line e) (fits place line kind e) v is in
+          let p = first_passed (judged setting line e) (fits setting line kind e) v is in
           good_fits line kind e p.0 v known (good_judged line e p.0 p.1.0) p.1.1
 
-      pub good_of_sort : (line : ℕ) (sort : Sort) (e : tree.Expr) (v : program.Expr) → of_sort place line sort e ≡ Ok v → typed.sort_of types ks v ≡ Some (sort_for place.scope sort)
+      pub good_of_sort : (line : ℕ) (sort : Sort) (e : tree.Expr) (v : program.Expr) → of_sort setting line sort e ≡ Ok v → typed.sort_of types ks v ≡ Some (sort_for setting.scope sort)
       good_of_sort line sort e v is =
-          let p = first_passed (judged place line e) (operand line sort) v is in
+          let p = first_passed (judged setting line e) (operand line sort) v is in
           good_operand line sort p.0 v (good_judged line e p.0 p.1.0) p.1.1

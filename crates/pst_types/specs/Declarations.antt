@@ -1,5 +1,5 @@
 -- The types of a program: its first fault, or the typed program.
-use Rattle.std.specs.Prelude.{ℕ, ◌+◌, Bool, true, not, ◌&&◌, nat_lt, List, [], ◌∷◌, ◌++◌, length, map, ℤ, pos, negsuc, Option, Some, None, Result, Ok, if◌then◌else◌}
+use Rattle.std.specs.Prelude.{ℕ, ◌+◌, Bool, true, not, ◌&&◌, nat_lt, List, [], ◌∷◌, ◌++◌, length, map, codes, ℤ, pos, negsuc, Option, Some, None, Result, Ok, if◌then◌else◌}
 use Rattle.std.specs.Option.{option_map}
 use Rattle.pst_base.specs.declared.names.TypeNo.{TypeNo}
 use Rattle.pst_base.specs.declared.shape.TypeShape.{TypeShape}
@@ -100,9 +100,13 @@ declared scope before (tree.Record line x limit fields) =
 declared scope before (tree.Root line x kind) = check (is_known scope kind) (Unknown line) (Ok before)
 declared scope before (tree.Procedure p) = and_then (procedure scope p) (λ q. Ok (record before { procedures = before.procedures ++ q ∷ [] }))
 
--- the root record, whose fields are the roots and whose type is named `root`
+-- the name of the root record's type
+abbrev pub root_type_name : List ℕ
+root_type_name = codes "root"
+
+-- the root record, whose fields are the roots
 abbrev pub root_alone : Scope → NamedProgram
-root_alone scope = record { shape = shape_of scope 1 scope.roots ∷ []; names = names_of (114 ∷ 111 ∷ 111 ∷ 116 ∷ []) scope.roots ∷ []; procedures = [] }
+root_alone scope = record { shape = shape_of scope 1 scope.roots ∷ []; names = names_of root_type_name scope.roots ∷ []; procedures = [] }
 
 -- ---- both walks
 

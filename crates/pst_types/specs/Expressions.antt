@@ -8,7 +8,7 @@ use Rattle.pst_program.specs.Syntax as program
 use Rattle.pst_types.specs.declared.fault.TypeFault.{TypeFault}
 use Rattle.pst_types.specs.declared.fault.TypeFault.TheVariants.{Unknown, Mismatch}
 use Rattle.pst_types.specs.Answers.{and_then, check, found}
-use Rattle.pst_types.specs.Names.{Place, Slot, Variable, IsLocal, IsRoot, number_of, kind_of, field_named, variable}
+use Rattle.pst_types.specs.Names.{Setting, Slot, Variable, IsLocal, IsRoot, number_of, kind_of, field_named, variable}
 
 -- what an expression gives: a number, a truth, or a pointer to records of the type with a name
 pub data Sort : Type 0 where
@@ -72,8 +72,8 @@ abbrev pub named_value : Variable → Judged
 named_value (IsLocal l) = Known (program.Local l.number) (sort_of l.kind)
 named_value (IsRoot r) = Known (program.Root r.slot) (sort_of r.kind)
 
-abbrev pub loaded : Place → Object → Slot → Judged
-loaded place o f = Known (program.Load o.pointer f.slot (kind_of place.scope f.kind)) (sort_of f.kind)
+abbrev pub loaded : Setting → Object → Slot → Judged
+loaded setting o f = Known (program.Load o.pointer f.slot (kind_of setting.scope f.kind)) (sort_of f.kind)
 
 -- an operator whose operands are of one sort
 abbrev pub operation : (line : ℕ) → Op → (operands result : Sort) → (left right : Judged) → Result Judged TypeFault
@@ -81,61 +81,61 @@ operation line op sort gives left right =
     and_then (operand line sort left) (λ a. and_then (operand line sort right) (λ b. Ok (Known (program.Binary op a b) gives)))
 
 -- a bare null beside an operand of a sort is one of the type that the operand points to
-abbrev pub null_beside : Place → (line : ℕ) → tree.Expr → Sort → Result program.Expr TypeFault
-null_beside place line e Int = Err (Mismatch line)
-null_beside place line e Truth = Err (Mismatch line)
-null_beside place line e (Pointer t) = Ok (null_of (number_of place.scope t) e)
+abbrev pub null_beside : Setting → (line : ℕ) → tree.Expr → Sort → Result program.Expr TypeFault
+null_beside setting line e Int = Err (Mismatch line)
+null_beside setting line e Truth = Err (Mismatch line)
+null_beside setting line e (Pointer t) = Ok (null_of (number_of setting.scope t) e)
 
 -- two numbers, or two pointers to records of one type
 abbrev pub can_equal : Sort → Sort → Bool
 can_equal left right = not (same_sort left Truth) && same_sort left right
 
 -- an equality: of two numbers, of two pointers to one type, or of a pointer and a bare null
-abbrev pub equality : Place → (line : ℕ) → Op → (a b : tree.Expr) → (left right : Judged) → Result Judged TypeFault
-equality place line op a b Bare Bare = Err (Mismatch line)
-equality place line op a b Bare (Known r sort) = and_then (null_beside place line a sort) (λ l. Ok (Known (program.Binary op l r) Truth))
-equality place line op a b (Known l sort) Bare = and_then (null_beside place line b sort) (λ r. Ok (Known (program.Binary op l r) Truth))
-equality place line op a b (Known l sort) (Known r other) = check (can_equal sort other) (Mismatch line) (Ok (Known (program.Binary op l r) Truth))
+abbrev pub equality : Setting → (line : ℕ) → Op → (a b : tree.Expr) → (left right : Judged) → Result Judged TypeFault
+equality setting line op a b Bare Bare = Err (Mismatch line)
+equality setting line op a b Bare (Known r sort) = and_then (null_beside setting line a sort) (λ l. Ok (Known (program.Binary op l r) Truth))
+equality setting line op a b (Known l sort) Bare = and_then (null_beside setting line b sort) (λ r. Ok (Known (program.Binary op l r) Truth))
+equality setting line op a b (Known l sort) (Known r other) = check (can_equal sort other) (Mismatch line) (Ok (Known (program.Binary op l r) Truth))
 
 -- an operator, whose operands stand in the text as a and b and were judged
-abbrev pub combined : Place → (line : ℕ) → Op → (a b : tree.Expr) → (left right : Judged) → Result Judged TypeFault
-combined place line Add a b left right = operation line Add Int Int left right
-combined place line Sub a b left right = operation line Sub Int Int left right
-combined place line Mul a b left right = operation line Mul Int Int left right
-combined place line Div a b left right = operation line Div Int Int left right
-combined place line Rem a b left right = operation line Rem Int Int left right
-combined place line Equal a b left right = equality place line Equal a b left right
-combined place line NotEqual a b left right = equality place line NotEqual a b left right
-combined place line Less a b left right = operation line Less Int Truth left right
-combined place line LessEqual a b left right = operation line LessEqual Int Truth left right
-combined place line Greater a b left right = operation line Greater Int Truth left right
-combined place line GreaterEqual a b left right = operation line GreaterEqual Int Truth left right
-combined place line And a b left right = operation line And Truth Truth left right
-combined place line Or a b left right = operation line Or Truth Truth left right
+abbrev pub combined : Setting → (line : ℕ) → Op → (a b : tree.Expr) → (left right : Judged) → Result Judged TypeFault
+combined setting line Add a b left right = operation line Add Int Int left right
+combined setting line Sub a b left right = operation line Sub Int Int left right
+combined setting line Mul a b left right = operation line Mul Int Int left right
+combined setting line Div a b left right = operation line Div Int Int left right
+combined setting line Rem a b left right = operation line Rem Int Int left right
+combined setting line Equal a b left right = equality setting line Equal a b left right
+combined setting line NotEqual a b left right = equality setting line NotEqual a b left right
+combined setting line Less a b left right = operation line Less Int Truth left right
+combined setting line LessEqual a b left right = operation line LessEqual Int Truth left right
+combined setting line Greater a b left right = operation line Greater Int Truth left right
+combined setting line GreaterEqual a b left right = operation line GreaterEqual Int Truth left right
+combined setting line And a b left right = operation line And Truth Truth left right
+combined setting line Or a b left right = operation line Or Truth Truth left right
 
 -- an expression of a statement that begins on a line: the operands from left to right, then the form itself
-abbrev pub judged : Place → (line : ℕ) → tree.Expr → Result Judged TypeFault
-judged place line (tree.Number n) = Ok (Known (program.Number n) Int)
-judged place line tree.Null = Ok Bare
-judged place line (tree.Name x) = found (variable place x) (Unknown line) (λ v. Ok (named_value v))
-judged place line (tree.Parens e) = and_then (judged place line e) (λ j. Ok (in_parens j))
-judged place line (tree.Field e f) =
-    and_then (judged place line e) (λ j. and_then (object line j) (λ o. found (field_named place.scope o.type f) (Unknown line) (λ field. Ok (loaded place o field))))
-judged place line (tree.Negate e) = and_then (judged place line e) (λ j. and_then (operand line Int j) (λ v. Ok (Known (program.Negate v) Int)))
-judged place line (tree.Not e) = and_then (judged place line e) (λ j. and_then (operand line Truth j) (λ v. Ok (Known (program.Not v) Truth)))
-judged place line (tree.Binary op a b) =
-    and_then (judged place line a) (λ left. and_then (judged place line b) (λ right. combined place line op a b left right))
+abbrev pub judged : Setting → (line : ℕ) → tree.Expr → Result Judged TypeFault
+judged setting line (tree.Number n) = Ok (Known (program.Number n) Int)
+judged setting line tree.Null = Ok Bare
+judged setting line (tree.Name x) = found (variable setting x) (Unknown line) (λ v. Ok (named_value v))
+judged setting line (tree.Parens e) = and_then (judged setting line e) (λ j. Ok (in_parens j))
+judged setting line (tree.Field e f) =
+    and_then (judged setting line e) (λ j. and_then (object line j) (λ o. found (field_named setting.scope o.type f) (Unknown line) (λ field. Ok (loaded setting o field))))
+judged setting line (tree.Negate e) = and_then (judged setting line e) (λ j. and_then (operand line Int j) (λ v. Ok (Known (program.Negate v) Int)))
+judged setting line (tree.Not e) = and_then (judged setting line e) (λ j. and_then (operand line Truth j) (λ v. Ok (Known (program.Not v) Truth)))
+judged setting line (tree.Binary op a b) =
+    and_then (judged setting line a) (λ left. and_then (judged setting line b) (λ right. combined setting line op a b left right))
 
 -- a judged expression fits a type that is declared; a bare null fits each pointer type
-abbrev pub fits : Place → (line : ℕ) → tree.TypeWord → tree.Expr → Judged → Result program.Expr TypeFault
-fits place line tree.Int e Bare = Err (Mismatch line)
-fits place line (tree.Named t) e Bare = Ok (null_of (number_of place.scope t) e)
-fits place line kind e (Known v sort) = check (same_sort sort (sort_of kind)) (Mismatch line) (Ok v)
+abbrev pub fits : Setting → (line : ℕ) → tree.TypeWord → tree.Expr → Judged → Result program.Expr TypeFault
+fits setting line tree.Int e Bare = Err (Mismatch line)
+fits setting line (tree.Named t) e Bare = Ok (null_of (number_of setting.scope t) e)
+fits setting line kind e (Known v sort) = check (same_sort sort (sort_of kind)) (Mismatch line) (Ok v)
 
 -- an expression that has to fit a type
-abbrev pub fitted : Place → (line : ℕ) → tree.TypeWord → tree.Expr → Result program.Expr TypeFault
-fitted place line kind e = and_then (judged place line e) (fits place line kind e)
+abbrev pub fitted : Setting → (line : ℕ) → tree.TypeWord → tree.Expr → Result program.Expr TypeFault
+fitted setting line kind e = and_then (judged setting line e) (fits setting line kind e)
 
 -- an expression that has to be a number, or a truth
-abbrev pub of_sort : Place → (line : ℕ) → Sort → tree.Expr → Result program.Expr TypeFault
-of_sort place line sort e = and_then (judged place line e) (operand line sort)
+abbrev pub of_sort : Setting → (line : ℕ) → Sort → tree.Expr → Result program.Expr TypeFault
+of_sort setting line sort e = and_then (judged setting line e) (operand line sort)

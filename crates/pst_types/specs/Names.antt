@@ -129,7 +129,7 @@ pub record Local : Type 0 where
   pub kind : TypeWord
 
 -- where a statement stands: the declared names, whether it is in a query, what the procedure gives, and its parameters and locals
-pub record Place : Type 0 where
+pub record Setting : Type 0 where
   pub scope : Scope
   pub query : Bool
   pub result : Option TypeWord
@@ -145,5 +145,5 @@ local_or (Some l) r = Some (IsLocal l)
 local_or None r = option_map IsRoot r
 
 -- the parameter, local or root with a name
-abbrev pub variable : Place → List ℕ → Option Variable
-variable place x = local_or (named x place.locals) (slot_in place.scope.roots x)
+abbrev pub variable : Setting → List ℕ → Option Variable
+variable setting x = local_or (named x setting.locals) (slot_in setting.scope.roots x)

@@ -6,7 +6,7 @@ use Rattle.pst_tree.specs.View as tree_view
 use Rattle.pst_program.specs.View as typed_view
 use Rattle.pst_program.specs.declared.program.Program.{Program}
 use Rattle.pst_types.specs.declared.procedure.ProcedureText.{ProcedureText}
-use Rattle.pst_types.specs.declared.walks.Parts.{Parts}
+use Rattle.pst_types.specs.declared.walks.Draft.{Draft}
 use Rattle.pst_types.specs.Declarations.{NamedProgram}
 
 abbrev pub procedure_text_of : ProcedureText → tree.ProcedureText
@@ -20,8 +20,8 @@ procedure_text_of p = record {
   body = tree_view.phrases_of p.body.now;
 }
 
-abbrev pub parts_of : Parts → NamedProgram
-parts_of p = record { shape = p.shape.items; names = p.names.items; procedures = map typed_view.procedure_of p.procedures.items }
+abbrev pub draft_of : Draft → NamedProgram
+draft_of p = record { shape = p.shape.items; names = p.names.items; procedures = map typed_view.procedure_of p.procedures.items }
 
 -- a typed program with its names
 abbrev pub program_of : Program → NamedProgram

@@ -16,7 +16,7 @@ use Rattle.pst_types.specs.declared.names.RecordType.{RecordType}
 use Rattle.pst_types.specs.declared.names.Signature.{Signature}
 use Rattle.pst_types.specs.declared.names.Scope.{Scope}
 use Rattle.pst_types.specs.declared.names.Variable.{Variable}
-use Rattle.pst_types.specs.declared.names.Place.{Place}
+use Rattle.pst_types.specs.declared.names.Setting.{Setting}
 use Rattle.pst_types.specs.declared.names.Target.{Target}
 use Rattle.pst_types.specs.declared.names.Target.TheVariants as target
 
@@ -58,8 +58,8 @@ scope_of s = record { types = entries_of record_type_of s.types.entries; roots =
 abbrev pub local_of : Variable → names.Local
 local_of v = record { number = v.number; kind = kind_word v.kind }
 
-abbrev pub place_of : Place → names.Place
-place_of p = record { scope = scope_of p.scope.now; query = p.query; result = option_map kind_word p.result; locals = entries_of local_of p.locals.entries }
+abbrev pub setting_of : Setting → names.Setting
+setting_of p = record { scope = scope_of p.scope.now; query = p.query; result = option_map kind_word p.result; locals = entries_of local_of p.locals.entries }
 
 abbrev pub variable_of : Target → names.Variable
 variable_of (target.Local v) = names.IsLocal (local_of v)

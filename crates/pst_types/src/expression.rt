@@ -8,11 +8,11 @@ ghost use Rattle.pst_types.specs.Expressions.{same_sort, sort_of, null_of, in_pa
 ghost use Rattle.pst_types.specs.Answers.{found};
 ghost use Rattle.pst_types.specs.declared.fault.TypeFault.TheVariants as fault;
 ghost use Rattle.pst_types.specs.Names.{field_named};
-ghost use Rattle.pst_types.specs.View.{Answers, kind_word, place_of, variable_of};
+ghost use Rattle.pst_types.specs.View.{Answers, kind_word, setting_of, variable_of};
 ghost use Rattle.pst_types.specs.ExpressionView.{sort_seen, judged_of, object_of};
 
 use crate::fault::TypeFault;
-use crate::names::{Place, Target, Word};
+use crate::names::{Setting, Target, Word};
 use pst_base::{Op, TypeNo};
 use pst_program::Typed;
 use pst_tree::Expression;
@@ -122,20 +122,20 @@ fn named_value<'t>(target: Target<'t>) -> Judged<'t>
 /// A field of an object.
 fn load<'t>(
     alloc: Global,
-    place: &Place<'_, 't>,
+    setting: &Setting<'_, 't>,
     line: u32,
     object: Object<'t>,
     name: &[u8],
 ) -> Result<Judged<'t>, TypeFault>
-    ensures { Answers judged_of result (found (field_named (place_of place.now).scope (object_of object.entry).type name.now) (fault.Unknown line) (λ f. Ok (loaded (place_of place.now) (object_of object.entry) f))) }
+    ensures { Answers judged_of result (found (field_named (setting_of setting.now).scope (object_of object.entry).type name.now) (fault.Unknown line) (λ f. Ok (loaded (setting_of setting.now) (object_of object.entry) f))) }
 {
-    match place.scope.field(object.ty, name) {
+    match setting.scope.field(object.ty, name) {
         None => Err(TypeFault::Unknown { line }),
         Some(field) => Ok(Judged::Known(
             Typed::Load {
                 object: Box::new(alloc, object.pointer)?,
                 field: field.slot,
-                kind: place.scope.kind_of(field.kind),
+                kind: setting.scope.kind_of(field.kind),
             },
             Sort::of(field.kind),
         )),
@@ -172,15 +172,15 @@ fn binary(alloc: Global, op: Op, left: Typed, right: Typed) -> Result<Typed, Typ
 /// A bare null beside an operand of a sort.
 fn null_beside<'t>(
     alloc: Global,
-    place: &Place<'_, 't>,
+    setting: &Setting<'_, 't>,
     line: u32,
     expression: &Expression,
     sort: Sort<'t>,
 ) -> Result<Typed, TypeFault>
-    ensures { Answers typed_view.expr_of result (null_beside (place_of place.now) line (expr_of expression.now) (sort_seen sort.entry)) }
+    ensures { Answers typed_view.expr_of result (null_beside (setting_of setting.now) line (expr_of expression.now) (sort_seen sort.entry)) }
 {
     match sort {
-        Sort::Pointer(ty) => null(alloc, place.scope.number_of(ty), expression),
+        Sort::Pointer(ty) => null(alloc, setting.scope.number_of(ty), expression),
         _ => Err(TypeFault::Mismatch { line }),
     }
 }
@@ -196,25 +196,25 @@ struct Written<'e> {
 /// An equality of two operands.
 fn equality<'t>(
     alloc: Global,
-    place: &Place<'_, 't>,
+    setting: &Setting<'_, 't>,
     line: u32,
     written: Written,
     left: Judged<'t>,
     right: Judged<'t>,
 ) -> Result<Judged<'t>, TypeFault>
-    ensures { Answers judged_of result (equality (place_of place.now) line written.entry.op (expr_of written.entry.left.now) (expr_of written.entry.right.now) (judged_of left.entry) (judged_of right.entry)) }
+    ensures { Answers judged_of result (equality (setting_of setting.now) line written.entry.op (expr_of written.entry.left.now) (expr_of written.entry.right.now) (judged_of left.entry) (judged_of right.entry)) }
 {
     match left {
         Judged::Bare => match right {
             Judged::Bare => Err(TypeFault::Mismatch { line }),
             Judged::Known(right, sort) => {
-                let left = null_beside(alloc, place, line, written.left, sort)?;
+                let left = null_beside(alloc, setting, line, written.left, sort)?;
                 Ok(Judged::Known(binary(alloc, written.op, left, right)?, Sort::Truth))
             }
         },
         Judged::Known(left, sort) => match right {
             Judged::Bare => {
-                let right = null_beside(alloc, place, line, written.right, sort)?;
+                let right = null_beside(alloc, setting, line, written.right, sort)?;
                 Ok(Judged::Known(binary(alloc, written.op, left, right)?, Sort::Truth))
             }
             Judged::Known(right, other) => {
@@ -230,19 +230,19 @@ fn equality<'t>(
 /// An operator with its operands.
 fn combine<'t>(
     alloc: Global,
-    place: &Place<'_, 't>,
+    setting: &Setting<'_, 't>,
     line: u32,
     written: Written,
     left: Judged<'t>,
     right: Judged<'t>,
 ) -> Result<Judged<'t>, TypeFault>
-    ensures { Answers judged_of result (combined (place_of place.now) line written.entry.op (expr_of written.entry.left.now) (expr_of written.entry.right.now) (judged_of left.entry) (judged_of right.entry)) }
+    ensures { Answers judged_of result (combined (setting_of setting.now) line written.entry.op (expr_of written.entry.left.now) (expr_of written.entry.right.now) (judged_of left.entry) (judged_of right.entry)) }
 {
     let sorts = match written.op {
         Op::Add | Op::Sub | Op::Mul | Op::Div | Op::Rem => (Sort::Int, Sort::Int),
         Op::Less | Op::LessEqual | Op::Greater | Op::GreaterEqual => (Sort::Int, Sort::Truth),
         Op::And | Op::Or => (Sort::Truth, Sort::Truth),
-        Op::Equal | Op::NotEqual => return equality(alloc, place, line, written, left, right),
+        Op::Equal | Op::NotEqual => return equality(alloc, setting, line, written, left, right),
     };
     operation(alloc, line, written.op, sorts, left, right)
 }
@@ -250,44 +250,44 @@ fn combine<'t>(
 /// Judges an expression of a statement that begins on the line.
 pub(crate) fn judge<'t>(
     alloc: Global,
-    place: &Place<'_, 't>,
+    setting: &Setting<'_, 't>,
     line: u32,
     expression: &Expression,
 ) -> Result<Judged<'t>, TypeFault>
-    ensures { Answers judged_of result (judged (place_of place.now) line (expr_of expression.now)) }
+    ensures { Answers judged_of result (judged (setting_of setting.now) line (expr_of expression.now)) }
 {
     match expression {
         Expression::Number(n) => Ok(Judged::Known(Typed::Number(*n), Sort::Int)),
         Expression::Null => Ok(Judged::Bare),
-        Expression::Name(name) => match place.variable(name.as_slice()) {
+        Expression::Name(name) => match setting.variable(name.as_slice()) {
             None => Err(TypeFault::Unknown { line }),
             Some(target) => Ok(named_value(target)),
         },
-        Expression::Parens(inner) => in_parens(alloc, judge(alloc, place, line, inner)?),
+        Expression::Parens(inner) => in_parens(alloc, judge(alloc, setting, line, inner)?),
         Expression::Field {
             object: inner,
             name,
         } => {
-            let object = as_object(line, judge(alloc, place, line, inner)?)?;
-            load(alloc, place, line, object, name.as_slice())
+            let object = as_object(line, judge(alloc, setting, line, inner)?)?;
+            load(alloc, setting, line, object, name.as_slice())
         }
         Expression::Negate(inner) => {
-            let value = operand(line, Sort::Int, judge(alloc, place, line, inner)?)?;
+            let value = operand(line, Sort::Int, judge(alloc, setting, line, inner)?)?;
             Ok(Judged::Known(Typed::Negate(Box::new(alloc, value)?), Sort::Int))
         }
         Expression::Not(inner) => {
-            let value = operand(line, Sort::Truth, judge(alloc, place, line, inner)?)?;
+            let value = operand(line, Sort::Truth, judge(alloc, setting, line, inner)?)?;
             Ok(Judged::Known(Typed::Not(Box::new(alloc, value)?), Sort::Truth))
         }
         Expression::Binary { op, left, right } => {
-            let first = judge(alloc, place, line, left)?;
-            let second = judge(alloc, place, line, right)?;
+            let first = judge(alloc, setting, line, left)?;
+            let second = judge(alloc, setting, line, right)?;
             let written = Written {
                 op: *op,
                 left,
                 right,
             };
-            combine(alloc, place, line, written, first, second)
+            combine(alloc, setting, line, written, first, second)
         }
     }
 }
@@ -295,17 +295,17 @@ pub(crate) fn judge<'t>(
 /// An expression that has to fit a type.
 pub(crate) fn fit<'t>(
     alloc: Global,
-    place: &Place<'_, 't>,
+    setting: &Setting<'_, 't>,
     line: u32,
     kind: Word<'t>,
     expression: &Expression,
 ) -> Result<Typed, TypeFault>
-    ensures { Answers typed_view.expr_of result (fitted (place_of place.now) line (kind_word kind.entry) (expr_of expression.now)) }
+    ensures { Answers typed_view.expr_of result (fitted (setting_of setting.now) line (kind_word kind.entry) (expr_of expression.now)) }
 {
-    match judge(alloc, place, line, expression)? {
+    match judge(alloc, setting, line, expression)? {
         Judged::Bare => match kind {
             Word::Int => Err(TypeFault::Mismatch { line }),
-            Word::Named(ty) => null(alloc, place.scope.number_of(ty), expression),
+            Word::Named(ty) => null(alloc, setting.scope.number_of(ty), expression),
         },
         Judged::Known(value, sort) if sort.same(&Sort::of(kind)) => Ok(value),
         Judged::Known(_, _) => Err(TypeFault::Mismatch { line }),
@@ -315,12 +315,12 @@ pub(crate) fn fit<'t>(
 /// An expression that has to be a number, or a truth.
 pub(crate) fn of_sort<'t>(
     alloc: Global,
-    place: &Place<'_, 't>,
+    setting: &Setting<'_, 't>,
     line: u32,
     sort: Sort<'t>,
     expression: &Expression,
 ) -> Result<Typed, TypeFault>
-    ensures { Answers typed_view.expr_of result (of_sort (place_of place.now) line (sort_seen sort.entry) (expr_of expression.now)) }
+    ensures { Answers typed_view.expr_of result (of_sort (setting_of setting.now) line (sort_seen sort.entry) (expr_of expression.now)) }
 {
-    operand(line, sort, judge(alloc, place, line, expression)?)
+    operand(line, sort, judge(alloc, setting, line, expression)?)
 }

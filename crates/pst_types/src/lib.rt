@@ -1,4 +1,12 @@
 //! Typing: the first fault of a program's tree, or the typed program.
+//!
+//! The model is a function of the tree by two walks: the first notes the names that are declared, the second judges each
+//! declaration with its statements. [`check`] gives its answer: the first fault with its line, or the program with names
+//! turned into numbers, which is well typed where the tree is within the limits of depth.
+//!
+//! ```text
+//! check(alloc, &tree)         // of `query q() { print true; }`: Err(TypeFault::Unknown { line: 1 })
+//! ```
 #![tactic(auto)]
 
 mod declaration;

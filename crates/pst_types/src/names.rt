@@ -5,7 +5,7 @@ ghost use Rattle.std.specs.Option.{option_map};
 ghost use Rattle.pst_base.specs.Shape.{root_type};
 ghost use Rattle.pst_tree.specs.View.{type_word_of, field_of};
 ghost use Rattle.pst_types.specs.Names.{bounded, named, no_members, with_member, is_named, slot_in, slot_of, field_line, field_name, field_kind, with_new_member, nothing_declared, is_free, number_of, kind_of, is_known, field_named, variable};
-ghost use Rattle.pst_types.specs.View.{kind_word, member_of, members_of, slot_seen, record_type_of, signature_of, scope_of, local_of, place_of, variable_of};
+ghost use Rattle.pst_types.specs.View.{kind_word, member_of, members_of, slot_seen, record_type_of, signature_of, scope_of, local_of, setting_of, variable_of};
 
 use indexmap::IndexMap;
 use pst_base::{Kind, ProcNo, SlotNo, TypeNo};
@@ -292,7 +292,7 @@ pub(crate) struct Variable<'t> {
 /// Where a statement stands: the declared names, whether it is in a query, what the procedure gives, and its parameters
 /// and locals.
 #[derive(Debug, Drop)]
-pub(crate) struct Place<'a, 't> {
+pub(crate) struct Setting<'a, 't> {
     pub(crate) scope: &'a Scope<'t>,
     pub(crate) query: bool,
     pub(crate) result: Option<Word<'t>>,
@@ -307,10 +307,10 @@ pub(crate) enum Target<'t> {
 }
 
 #[tactic(auto, using(crate::proofs::Lookups::look_ups))]
-impl<'a, 't> Place<'a, 't> {
+impl<'a, 't> Setting<'a, 't> {
     /// The parameter or local with the name.
     pub(crate) fn local(&self, name: &[u8]) -> Option<Variable<'t>>
-        ensures { option_map local_of result ≡ named name.now (place_of self.now).locals }
+        ensures { option_map local_of result ≡ named name.now (setting_of self.now).locals }
     {
         match self.locals.get(name) {
             None => None,
@@ -320,7 +320,7 @@ impl<'a, 't> Place<'a, 't> {
 
     /// The parameter, local or root with the name.
     pub(crate) fn variable(&self, name: &[u8]) -> Option<Target<'t>>
-        ensures { option_map variable_of result ≡ variable (place_of self.now) name.now }
+        ensures { option_map variable_of result ≡ variable (setting_of self.now) name.now }
     {
         match self.local(name) {
             Some(local) => Some(Target::Local(local)),

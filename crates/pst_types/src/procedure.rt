@@ -11,7 +11,7 @@ ghost use Rattle.pst_types.specs.View.{Answers, kind_word, entries_of, local_of,
 ghost use Rattle.pst_types.specs.ProcedureView.{procedure_text_of};
 
 use crate::fault::TypeFault;
-use crate::names::{Place, Scope, Variable, Word};
+use crate::names::{Scope, Setting, Variable, Word};
 use crate::statement::judge_block;
 use indexmap::IndexMap;
 use pst_base::{Kind, Kinds, Text};
@@ -150,13 +150,13 @@ pub(crate) fn judge_procedure<'t>(
     }
     add_variables(scope, arguments + 64, &mut variables, text.locals)?;
     let kinds = kinds_of(alloc, scope, &variables)?;
-    let place = Place {
+    let setting = Setting {
         scope,
         query: text.query,
         result: gives,
         locals: variables,
     };
-    let body = judge_block(alloc, &place, text.body)?;
+    let body = judge_block(alloc, &setting, text.body)?;
     Ok(TypedProc {
         name: text.name.copy()?,
         query: text.query,

@@ -8,11 +8,11 @@ ghost use Rattle.pst_types.specs.Answers.{found};
 ghost use Rattle.pst_types.specs.declared.fault.TypeFault.TheVariants as fault;
 ghost use Rattle.pst_types.specs.Names.{named};
 ghost use Rattle.pst_types.specs.Statements.{assigned, stored, written, made, arguments, received, called, returned, statement, block};
-ghost use Rattle.pst_types.specs.View.{Answers, kind_word, place_of, variable_of, signature_of};
+ghost use Rattle.pst_types.specs.View.{Answers, kind_word, setting_of, variable_of, signature_of};
 
 use crate::expression::{Sort, as_object, fit, judge, of_sort};
 use crate::fault::TypeFault;
-use crate::names::{Place, Signature, Target, Word};
+use crate::names::{Setting, Signature, Target, Word};
 use pst_base::Text;
 use pst_program::{TypedBlock, TypedForm, TypedList, TypedStatement};
 use pst_tree::{Block, Expression, Expressions, Form, Local};
@@ -21,25 +21,25 @@ use std::alloc::Global;
 /// An assignment to a variable.
 fn assign<'t>(
     alloc: Global,
-    place: &Place<'_, 't>,
+    setting: &Setting<'_, 't>,
     line: u32,
     target: Target<'t>,
     value: &Expression,
 ) -> Result<TypedForm, TypeFault>
-    ensures { Answers typed_view.action_of result (assigned (place_of place.now) line (variable_of target.entry) (tree_view.expr_of value.now)) }
+    ensures { Answers typed_view.action_of result (assigned (setting_of setting.now) line (variable_of target.entry) (tree_view.expr_of value.now)) }
 {
     match target {
         Target::Local(local) => Ok(TypedForm::Set {
             local: local.number,
-            value: fit(alloc, place, line, local.kind, value)?,
+            value: fit(alloc, setting, line, local.kind, value)?,
         }),
         Target::Root(root) => {
-            if place.query {
+            if setting.query {
                 return Err(TypeFault::QueryWrites { line });
             }
             Ok(TypedForm::SetRoot {
                 field: root.slot,
-                value: fit(alloc, place, line, root.kind, value)?,
+                value: fit(alloc, setting, line, root.kind, value)?,
             })
         }
     }
@@ -48,64 +48,64 @@ fn assign<'t>(
 /// An assignment to a field.
 fn store(
     alloc: Global,
-    place: &Place,
+    setting: &Setting,
     line: u32,
     object: &Expression,
     name: &[u8],
     value: &Expression,
 ) -> Result<TypedForm, TypeFault>
-    ensures { Answers typed_view.action_of result (stored (place_of place.now) line (tree_view.expr_of object.now) name.now (tree_view.expr_of value.now)) }
+    ensures { Answers typed_view.action_of result (stored (setting_of setting.now) line (tree_view.expr_of object.now) name.now (tree_view.expr_of value.now)) }
 {
-    let object = as_object(line, judge(alloc, place, line, object)?)?;
-    let field = match place.scope.field(object.ty, name) {
+    let object = as_object(line, judge(alloc, setting, line, object)?)?;
+    let field = match setting.scope.field(object.ty, name) {
         None => return Err(TypeFault::Unknown { line }),
         Some(field) => field,
     };
-    if place.query {
+    if setting.query {
         return Err(TypeFault::QueryWrites { line });
     }
     Ok(TypedForm::Store {
         object: object.pointer,
         field: field.slot,
-        value: fit(alloc, place, line, field.kind, value)?,
+        value: fit(alloc, setting, line, field.kind, value)?,
     })
 }
 
 /// An assignment to a place.
 fn write(
     alloc: Global,
-    place: &Place,
+    setting: &Setting,
     line: u32,
     to: &Expression,
     value: &Expression,
 ) -> Result<TypedForm, TypeFault>
-    ensures { Answers typed_view.action_of result (written (place_of place.now) line (tree_view.expr_of to.now) (tree_view.expr_of value.now)) }
+    ensures { Answers typed_view.action_of result (written (setting_of setting.now) line (tree_view.expr_of to.now) (tree_view.expr_of value.now)) }
 {
     match to {
-        Expression::Name(name) => match place.variable(name.as_slice()) {
+        Expression::Name(name) => match setting.variable(name.as_slice()) {
             None => Err(TypeFault::Unknown { line }),
-            Some(target) => assign(alloc, place, line, target, value),
+            Some(target) => assign(alloc, setting, line, target, value),
         },
         Expression::Field { object, name } => {
-            store(alloc, place, line, object, name.as_slice(), value)
+            store(alloc, setting, line, object, name.as_slice(), value)
         }
         _ => Err(TypeFault::Mismatch { line }),
     }
 }
 
 /// A new record.
-fn make(place: &Place, line: u32, name: &[u8], ty: &[u8]) -> Result<TypedForm, TypeFault>
-    ensures { Answers typed_view.action_of result (made (place_of place.now) line name.now ty.now) }
+fn make(setting: &Setting, line: u32, name: &[u8], ty: &[u8]) -> Result<TypedForm, TypeFault>
+    ensures { Answers typed_view.action_of result (made (setting_of setting.now) line name.now ty.now) }
 {
-    let local = match place.local(name) {
+    let local = match setting.local(name) {
         None => return Err(TypeFault::Unknown { line }),
         Some(local) => local,
     };
-    let number = match place.scope.record(ty) {
+    let number = match setting.scope.record(ty) {
         None => return Err(TypeFault::Unknown { line }),
         Some(number) => number,
     };
-    if place.query {
+    if setting.query {
         return Err(TypeFault::QueryWrites { line });
     }
     if !Sort::of(local.kind).same(&Sort::Pointer(ty)) {
@@ -120,34 +120,34 @@ fn make(place: &Place, line: u32, name: &[u8], ty: &[u8]) -> Result<TypedForm, T
 /// The arguments of a call, as many as there are parameters.
 fn pass(
     alloc: Global,
-    place: &Place,
+    setting: &Setting,
     line: u32,
     parameters: &[Local],
     values: &[Expression],
 ) -> Result<TypedList, TypeFault>
     requires { length values.now ≡ length parameters.now }
-    ensures { Answers (map typed_view.expr_of) result (arguments (place_of place.now) line (map tree_view.local_of parameters.now) (map tree_view.expr_of values.now)) }
+    ensures { Answers (map typed_view.expr_of) result (arguments (setting_of setting.now) line (map tree_view.local_of parameters.now) (map tree_view.expr_of values.now)) }
 {
     let mut items = Vec::new(alloc);
     for (index, value) in values.iter().enumerate() {
         let kind = Word::of_type(&parameters[index].kind);
-        items.push(fit(alloc, place, line, kind, value)?)?;
+        items.push(fit(alloc, setting, line, kind, value)?)?;
     }
     Ok(TypedList::from_vec(items))
 }
 
 /// Where the result of a call goes.
 fn receive(
-    place: &Place,
+    setting: &Setting,
     line: u32,
     result_kind: Option<Word>,
     name: &Option<Text>,
 ) -> Result<Option<u16>, TypeFault>
-    ensures { Answers (λ to. to) result (received (place_of place.now) line (option_map kind_word result_kind.entry) name.now) }
+    ensures { Answers (λ to. to) result (received (setting_of setting.now) line (option_map kind_word result_kind.entry) name.now) }
 {
     let local = match name {
         None => return Ok(None),
-        Some(name) => match place.local(name.as_slice()) {
+        Some(name) => match setting.local(name.as_slice()) {
             None => return Err(TypeFault::Unknown { line }),
             Some(local) => local,
         },
@@ -161,22 +161,22 @@ fn receive(
 /// A call of a procedure.
 fn call<'t>(
     alloc: Global,
-    place: &Place<'_, 't>,
+    setting: &Setting<'_, 't>,
     line: u32,
     signature: Signature<'t>,
     name: &Option<Text>,
     values: &[Expression],
 ) -> Result<TypedForm, TypeFault>
-    ensures { Answers typed_view.action_of result (called (place_of place.now) line (signature_of signature.entry) name.now (map tree_view.expr_of values.now)) }
+    ensures { Answers typed_view.action_of result (called (setting_of setting.now) line (signature_of signature.entry) name.now (map tree_view.expr_of values.now)) }
 {
-    if place.query && !signature.query {
+    if setting.query && !signature.query {
         return Err(TypeFault::QueryWrites { line });
     }
     if values.len() != signature.parameters.len() {
         return Err(TypeFault::Mismatch { line });
     }
-    let arguments = pass(alloc, place, line, signature.parameters, values)?;
-    let into = receive(place, line, signature.result, name)?;
+    let arguments = pass(alloc, setting, line, signature.parameters, values)?;
+    let into = receive(setting, line, signature.result, name)?;
     Ok(TypedForm::Call {
         result: into,
         procedure: signature.number,
@@ -187,56 +187,67 @@ fn call<'t>(
 /// A return, with a result exactly where the procedure has one.
 fn give_back(
     alloc: Global,
-    place: &Place,
+    setting: &Setting,
     line: u32,
     value: &Option<Expression>,
 ) -> Result<TypedForm, TypeFault>
-    ensures { Answers typed_view.action_of result (returned (place_of place.now) line (place_of place.now).result (option_map tree_view.expr_of value.now)) }
+    ensures { Answers typed_view.action_of result (returned (setting_of setting.now) line (setting_of setting.now).result (option_map tree_view.expr_of value.now)) }
 {
     match value {
-        None => match place.result {
+        None => match setting.result {
             None => Ok(TypedForm::Return(None)),
             Some(_) => Err(TypeFault::Mismatch { line }),
         },
-        Some(value) => match place.result {
+        Some(value) => match setting.result {
             None => Err(TypeFault::Mismatch { line }),
-            Some(kind) => Ok(TypedForm::Return(Some(fit(alloc, place, line, kind, value)?))),
+            Some(kind) => Ok(TypedForm::Return(Some(fit(alloc, setting, line, kind, value)?))),
         },
     }
 }
 
 /// A statement that begins on the line.
 #[cycle(block)]
-fn judge_form(alloc: Global, place: &Place, line: u32, form: &Form) -> Result<TypedForm, TypeFault>
-    ensures { Answers typed_view.action_of result (statement (place_of place.now) line (tree_view.phrase_of form.now)) }
+fn judge_form(
+    alloc: Global,
+    setting: &Setting,
+    line: u32,
+    form: &Form,
+) -> Result<TypedForm, TypeFault>
+    ensures { Answers typed_view.action_of result (statement (setting_of setting.now) line (tree_view.phrase_of form.now)) }
 {
     match form {
-        Form::New { name, ty } => make(place, line, name.as_slice(), ty.as_slice()),
+        Form::New { name, ty } => make(setting, line, name.as_slice(), ty.as_slice()),
         Form::Call {
             result: name,
             procedure,
             arguments,
-        } => match place.scope.signature(procedure.as_slice()) {
+        } => match setting.scope.signature(procedure.as_slice()) {
             None => Err(TypeFault::Unknown { line }),
-            Some(signature) => call(alloc, place, line, signature, name, arguments.as_slice()),
+            Some(signature) => call(alloc, setting, line, signature, name, arguments.as_slice()),
         },
-        Form::Write { place: to, value } => write(alloc, place, line, to, value),
-        Form::Print(value) => Ok(TypedForm::Print(of_sort(alloc, place, line, Sort::Int, value)?)),
+        Form::Write { place: to, value } => write(alloc, setting, line, to, value),
+        Form::Print(value) => Ok(TypedForm::Print(of_sort(
+            alloc,
+            setting,
+            line,
+            Sort::Int,
+            value,
+        )?)),
         Form::If { condition, yes, no } => {
-            let condition = of_sort(alloc, place, line, Sort::Truth, condition)?;
-            let yes = judge_block(alloc, place, yes)?;
+            let condition = of_sort(alloc, setting, line, Sort::Truth, condition)?;
+            let yes = judge_block(alloc, setting, yes)?;
             let no = match no {
                 None => None,
-                Some(no) => Some(judge_block(alloc, place, no)?),
+                Some(no) => Some(judge_block(alloc, setting, no)?),
             };
             Ok(TypedForm::If { condition, yes, no })
         }
         Form::While { condition, body } => {
-            let condition = of_sort(alloc, place, line, Sort::Truth, condition)?;
-            let body = judge_block(alloc, place, body)?;
+            let condition = of_sort(alloc, setting, line, Sort::Truth, condition)?;
+            let body = judge_block(alloc, setting, body)?;
             Ok(TypedForm::While { condition, body })
         }
-        Form::Return(value) => give_back(alloc, place, line, value),
+        Form::Return(value) => give_back(alloc, setting, line, value),
     }
 }
 
@@ -244,14 +255,14 @@ fn judge_form(alloc: Global, place: &Place, line: u32, form: &Form) -> Result<Ty
 #[cycle(block)]
 pub(crate) fn judge_block(
     alloc: Global,
-    place: &Place,
+    setting: &Setting,
     statements: &Block,
 ) -> Result<TypedBlock, TypeFault>
-    ensures { Answers typed_view.actions_of result (block (place_of place.now) (tree_view.phrases_of statements.now)) }
+    ensures { Answers typed_view.actions_of result (block (setting_of setting.now) (tree_view.phrases_of statements.now)) }
 {
     let mut items = Vec::new(alloc);
     for statement in &statements.items {
-        let form = judge_form(alloc, place, statement.line, &statement.form)?;
+        let form = judge_form(alloc, setting, statement.line, &statement.form)?;
         items.push(TypedStatement {
             line: statement.line,
             form,

@@ -10,7 +10,7 @@ ghost use Rattle.pst_types.specs.Answers.{through};
 ghost use Rattle.pst_types.specs.Declarations.{noted, declared, root_alone, checked};
 ghost use Rattle.pst_types.specs.Names.{nothing_declared};
 ghost use Rattle.pst_types.specs.View.{Answers, scope_of};
-ghost use Rattle.pst_types.specs.ProcedureView.{procedure_text_of, parts_of, program_of};
+ghost use Rattle.pst_types.specs.ProcedureView.{procedure_text_of, draft_of, program_of};
 
 use crate::declaration::{judge_fields, lay_out, limit_of, names_of, shape_of};
 use crate::fault::TypeFault;
@@ -21,9 +21,9 @@ use pst_program::{Program, TypeEntry, TypeNames, TypedProc, TypedProcs};
 use pst_tree::{Declaration, Fields, Tree, TypeName};
 use std::alloc::Global;
 
-/// The parts of a typed program that are made so far.
+/// A typed program as far as it is made.
 #[derive(Debug, Drop)]
-pub(crate) struct Parts {
+pub(crate) struct Draft {
     pub(crate) shape: Vec<TypeShape>,
     pub(crate) names: Vec<TypeEntry>,
     pub(crate) procedures: Vec<TypedProc>,
@@ -145,15 +145,15 @@ fn gather<'t>(alloc: Global, declarations: &'t [Declaration]) -> Result<Scope<'t
     Ok(scope)
 }
 
-/// The parts that are there before the second walk: the root record.
-fn root_alone(alloc: Global, scope: &Scope) -> Result<Parts, TypeFault>
-    ensures { Answers parts_of result (Ok (root_alone (scope_of scope.now))) }
+/// What is there before the second walk: the root record.
+fn root_alone(alloc: Global, scope: &Scope) -> Result<Draft, TypeFault>
+    ensures { Answers draft_of result (Ok (root_alone (scope_of scope.now))) }
 {
     let mut shape = Vec::new(alloc);
     shape.push(shape_of(alloc, scope, 1, &scope.roots)?)?;
     let mut names = Vec::new(alloc);
     names.push(names_of(alloc, b"root", &scope.roots)?)?;
-    Ok(Parts {
+    Ok(Draft {
         shape,
         names,
         procedures: Vec::new(alloc),
@@ -164,10 +164,10 @@ fn root_alone(alloc: Global, scope: &Scope) -> Result<Parts, TypeFault>
 fn judge_declaration<'t>(
     alloc: Global,
     scope: &Scope<'t>,
-    parts: &mut Parts,
+    draft: &mut Draft,
     declaration: &'t Declaration,
 ) -> Result<(), TypeFault>
-    ensures { Answers (λ _. parts_of parts.new) result (declared (scope_of scope.now) (parts_of parts.old) (tree_view.item_of declaration.now)) }
+    ensures { Answers (λ _. draft_of draft.new) result (declared (scope_of scope.now) (draft_of draft.old) (tree_view.item_of declaration.now)) }
 {
     match declaration {
         Declaration::Record {
@@ -181,8 +181,8 @@ fn judge_declaration<'t>(
                 Some(limit) => limit,
             };
             let members = judge_fields(alloc, scope, fields.as_slice())?;
-            parts.shape.push(shape_of(alloc, scope, limit, &members)?)?;
-            parts
+            draft.shape.push(shape_of(alloc, scope, limit, &members)?)?;
+            draft
                 .names
                 .push(names_of(alloc, name.as_slice(), &members)?)?;
         }
@@ -209,7 +209,7 @@ fn judge_declaration<'t>(
                 locals: locals.as_slice(),
                 body,
             };
-            parts
+            draft
                 .procedures
                 .push(judge_procedure(alloc, scope, &text)?)?;
         }
@@ -222,14 +222,14 @@ fn judge_all<'t>(
     alloc: Global,
     scope: &Scope<'t>,
     declarations: &'t [Declaration],
-) -> Result<Parts, TypeFault>
-    ensures { Answers parts_of result (through (declared (scope_of scope.now)) (root_alone (scope_of scope.now)) (map tree_view.item_of declarations.entry.now)) }
+) -> Result<Draft, TypeFault>
+    ensures { Answers draft_of result (through (declared (scope_of scope.now)) (root_alone (scope_of scope.now)) (map tree_view.item_of declarations.entry.now)) }
 {
-    let mut parts = root_alone(alloc, scope)?;
+    let mut draft = root_alone(alloc, scope)?;
     for declaration in declarations {
-        judge_declaration(alloc, scope, &mut parts, declaration)?;
+        judge_declaration(alloc, scope, &mut draft, declaration)?;
     }
-    Ok(parts)
+    Ok(draft)
 }
 
 /// Both walks.
@@ -237,12 +237,12 @@ fn walk(alloc: Global, declarations: &[Declaration]) -> Result<Program, TypeFaul
     ensures { Answers program_of result (checked (map tree_view.item_of declarations.now)) }
 {
     let scope = gather(alloc, declarations)?;
-    let parts = judge_all(alloc, &scope, declarations)?;
+    let draft = judge_all(alloc, &scope, declarations)?;
     Ok(Program {
-        shape: Shape::from_vec(parts.shape),
-        names: TypeNames::from_vec(parts.names),
+        shape: Shape::from_vec(draft.shape),
+        names: TypeNames::from_vec(draft.names),
         procedures: TypedProcs {
-            items: parts.procedures,
+            items: draft.procedures,
         },
     })
 }

@@ -3,10 +3,10 @@ use Rattle.pst_tree.specs.View as tree_view
 use Rattle.pst_types.specs.Answers.{through}
 use Rattle.pst_types.specs.Declarations.{declared, root_alone}
 use Rattle.pst_types.specs.View.{scope_of}
-use Rattle.pst_types.specs.ProcedureView.{parts_of}
+use Rattle.pst_types.specs.ProcedureView.{draft_of}
 use Rattle.pst_types.proofs.Through.{Left}
 use Rattle.pst_types.proofs.walks.judge_all.Given as goal
 
 abbrev pub invariant-loop-declaration : goal.invariant-loop-declaration
 invariant-loop-declaration l =
-    Left (declared (scope_of l.scope)) tree_view.item_of l.declarations (through (declared (scope_of l.scope)) (root_alone (scope_of l.scope)) (map tree_view.item_of l.declarations)) l.declaration-index (parts_of l.parts)
+    Left (declared (scope_of l.scope)) tree_view.item_of l.declarations (through (declared (scope_of l.scope)) (root_alone (scope_of l.scope)) (map tree_view.item_of l.declarations)) l.declaration-index (draft_of l.draft)
