@@ -1,5 +1,5 @@
 -- A turn of a loop, and a call.
-use Rattle.std.proofs.Common.{◌≡◌, ◌≢◌, ℕ, zero, suc, ◌-◌, ◌≤◌, List, [], ◌∷◌, Bool, true, false, Option, Some, None, Result, Ok, map, refl, ap, ◌∙◌, sym, subst, arith, slice_get}
+use Rattle.std.proofs.Common.{◌≡◌, ◌≢◌, ℕ, zero, suc, ◌-◌, ◌≤◌, List, [], ◌∷◌, Bool, true, false, Option, Some, Result, Ok, map, refl, ap, ◌∙◌, sym, subst, arith, slice_get}
 use Rattle.pst_base.specs.declared.names.Kind.{Kind}
 use Rattle.pst_base.specs.declared.names.TrapKind.TheVariants.{Depth}
 use Rattle.pst_base.specs.declared.shape.TypeShape.{TypeShape}
@@ -65,23 +65,13 @@ mapped_some [] i p e = cc
 mapped_some (q ∷ ps) zero p e = ap (λ (x : Option TypedProc). Rattle.std.specs.Option.option_map procedure_of x) e
 mapped_some (q ∷ ps) (suc i) p e = mapped_some ps i p e
 
-pub mapped_none : (ps : List TypedProc) (i : ℕ) → slice_get ps i ≡ None → slice_get (map procedure_of ps) i ≡ None
-mapped_none [] i e = refl
-mapped_none (q ∷ ps) zero e = cc
-mapped_none (q ∷ ps) (suc i) e = mapped_none ps i e
-
 -- how a body that is run ends
 pub body_left : (shape : List TypeShape) (calls : Calls) (ps : List TypedProc) (p : ℕ) (vs : List Value) (w : World) (q : TypedProc) (env : Env) (o : Ending)
     → slice_get ps p ≡ Some q → env ≡ first_env q.kinds vs → o ≡ exec shape calls (actions_of q.body) env w → leave q.result o ≡ run_body shape calls (slice_get (map procedure_of ps) p) vs w
 body_left shape calls ps p vs w q env o found is_env is_o =
     ap (leave q.result) (is_o ∙ ap (λ l. exec shape calls (actions_of q.body) l w) is_env) ∙ sym (ap (λ f. run_body shape calls f vs w) (mapped_some ps p q found))
 
--- a turn that follows a condition which holds, and the end where it does not
-pub turned_false : (n : ℕ) (shape : List TypeShape) (e : Expr) (body : Does) (line : ℕ) (env : Env) (w w' : World) (b : Bool) (all : Ending) → b ≡ false → w.charges ≤ n → turns n shape e body line env w ≡ all
-    → ((first other : Env → World → Ending) → if_else shape e first other line env w ≡ goes_on (Ok b) first other env w') → Normal env w' ≡ all
-turned_false n shape e body line env w w' true all is le so cond = absurd (cc)
-turned_false n shape e body line env w w' false all is le so cond = turned n shape e body line env w w' (Ok false) all le so cond
-
+-- a turn that follows a condition which holds
 turned_true : (n : ℕ) (shape : List TypeShape) (e : Expr) (body : Does) (line : ℕ) (env : Env) (w w' : World) (b : Bool) (all : Ending) → b ≡ true → w.charges ≤ n → turns n shape e body line env w ≡ all
     → ((first other : Env → World → Ending) → if_else shape e first other line env w ≡ goes_on (Ok b) first other env w') → then_do (body env w') (turns (n - 1) shape e body line) ≡ all
 turned_true n shape e body line env w w' false all is le so cond = absurd (cc)

@@ -3,31 +3,19 @@ use Rattle.std.specs.FinMap.{empty, get-empty}
 use Rattle.std.specs.Option.{option_map}
 use Rattle.pst_base.specs.Name.{name_cmp, root_name}
 use Rattle.pst_base.specs.Shape.{root_type}
-use Rattle.std.proofs.Common.{◌≡◌, ◌≢◌, ℕ, ◌+◌, ◌-◌, ◌<◌, ℤ, List, Option, ap, ◌∙◌, arith, ◌≤◌, None, sym}
+use Rattle.std.proofs.Common.{◌≡◌, ◌≢◌, ℕ, ◌+◌, ◌-◌, ◌<◌, ℤ, List, Option, ap, ◌∙◌, arith}
 use Rattle.pst_base.specs.declared.names.Name.{Name}
 use Rattle.pst_base.specs.declared.names.RunNo.{RunNo}
 use Rattle.pst_base.specs.declared.names.TypeNo.{TypeNo}
 use Rattle.pst_base.specs.declared.shape.TypeShape.{TypeShape}
-use Rattle.pst_base.specs.Heap.{OrdinaryHeap, type_in, with_value, with_pointer, with_record, new_record, initial_heap, Rec, Heap}
+use Rattle.pst_base.specs.Heap.{OrdinaryHeap, type_in, with_value, with_pointer, with_record, new_record, initial_heap, Rec}
 use Rattle.pst_base.proofs.WellFormed.{type_in-with_value, type_in-with_pointer, type_in-with_other}
 use Rattle.pst_eval.specs.declared.tally.Tally.{Tally}
-use Rattle.pst_eval.specs.Ends.{IsFresh, IsReady, IsCharged}
-
--- a charge taken, and nothing done for it
-pub charged-ready : (shape : List TypeShape) (h : OrdinaryHeap) (t : Tally) → IsCharged shape h t → IsReady shape h t
-charged-ready shape h t c = record {
-  shaped = c.shaped;
-  fresh = c.fresh;
-  room = record {
-    made = omega (arith, c.room.made);
-    records = omega (arith, c.room.records);
-    pointer_writes = omega (arith, c.room.pointer_writes);
-    value_writes = omega (arith, c.room.value_writes);
-  };
-}
+use Rattle.pst_program.specs.Sound.{NamesAreFree}
+use Rattle.pst_eval.specs.Ends.{IsAtWork, IsCharged}
 
 pub value-ready : (shape : List TypeShape) (h h' : OrdinaryHeap) (t : Tally) (n : Name) (slot : ℕ) (x : ℤ) → IsCharged shape h t
-    → h' ≡ record h { heap = with_value h.heap n slot x } → IsReady shape h' record t { counts = record t.counts { value_writes = t.counts.value_writes + 1 } }
+    → h' ≡ record h { heap = with_value h.heap n slot x } → IsAtWork shape h' record t { counts = record t.counts { value_writes = t.counts.value_writes + 1 } }
 value-ready shape h h' t n slot x c is = record {
   shaped = ap (λ (o : OrdinaryHeap). o.shape) is ∙ c.shaped;
   fresh = λ k le.
@@ -42,7 +30,7 @@ value-ready shape h h' t n slot x c is = record {
 }
 
 pub pointer-ready : (shape : List TypeShape) (h h' : OrdinaryHeap) (t : Tally) (n : Name) (slot : ℕ) (p : Option Name) → IsCharged shape h t
-    → h' ≡ record h { heap = with_pointer h.heap n slot p } → IsReady shape h' record t { counts = record t.counts { pointer_writes = t.counts.pointer_writes + 1 } }
+    → h' ≡ record h { heap = with_pointer h.heap n slot p } → IsAtWork shape h' record t { counts = record t.counts { pointer_writes = t.counts.pointer_writes + 1 } }
 pointer-ready shape h h' t n slot p c is = record {
   shaped = ap (λ (o : OrdinaryHeap). o.shape) is ∙ c.shaped;
   fresh = λ k le.
@@ -58,7 +46,7 @@ pointer-ready shape h h' t n slot p c is = record {
 
 pub record-ready : (shape : List TypeShape) (h h' : OrdinaryHeap) (t : Tally) (r : List TypeShape) (ty : TypeNo) → IsCharged shape h t
     → h' ≡ record h { heap = with_record h.heap (record { run = t.run; ordinal = t.made }) (new_record r ty) }
-    → IsReady shape h' record t { made = t.made + 1; counts = record t.counts { records = t.counts.records + 1 } }
+    → IsAtWork shape h' record t { made = t.made + 1; counts = record t.counts { records = t.counts.records + 1 } }
 record-ready shape h h' t r ty c is = record {
   shaped = ap (λ (o : OrdinaryHeap). o.shape) is ∙ c.shaped;
   fresh = λ k le.
@@ -75,7 +63,7 @@ record-ready shape h h' t r ty c is = record {
 }
 
 -- a charge taken
-pub ready-charged : (shape : List TypeShape) (h : OrdinaryHeap) (t : Tally) → IsReady shape h t → t.charges ≢ 0 → IsCharged shape h record t { charges = t.charges - 1 }
+pub ready-charged : (shape : List TypeShape) (h : OrdinaryHeap) (t : Tally) → IsAtWork shape h t → t.charges ≢ 0 → IsCharged shape h record t { charges = t.charges - 1 }
 ready-charged shape h t r ne = record {
   shaped = r.shaped;
   fresh = r.fresh;
@@ -88,7 +76,7 @@ ready-charged shape h t r ne = record {
 }
 
 -- no record of the first heap was made by a run
-pub initial_fresh : (shape : List TypeShape) (run : RunNo) → 0 < run.0 → IsFresh (initial_heap shape) run 0
+pub initial_fresh : (shape : List TypeShape) (run : RunNo) → 0 < run.0 → NamesAreFree (initial_heap shape) run 0
 initial_fresh shape run some = λ k le.
     let a : Name = record { run = run; ordinal = k } in
     let other : a ≢ root_name = λ same. let e : run.0 ≡ 0 = ap (λ (n : Name). n.run.0) same in omega arith in

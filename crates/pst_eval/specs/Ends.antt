@@ -1,18 +1,22 @@
 -- What the evaluator's answers and its state mean.
-use Rattle.std.specs.Prelude.{◌≡◌, ◌^◌, ℕ, ◌+◌, ◌≤◌, ◌<◌, ℤ, List, [], ◌∷◌, ◌++◌, max, Bool, true, false, Option, Some, None, Result, Ok, Err}
+use Rattle.std.specs.Prelude.{◌≡◌, ◌^◌, ℕ, ◌+◌, ◌<◌, ℤ, List, [], ◌∷◌, ◌++◌, map, max, slice_get, Bool, true, false, Option, Some, None, Result, Ok, Err}
 use Rattle.std.specs.declared.vec.Vec.{Vec}
 use Rattle.std.specs.declared.alloc.Global.{Global}
-use Rattle.pst_base.specs.declared.names.RunNo.{RunNo}
 use Rattle.pst_base.specs.declared.names.TrapKind.{TrapKind}
 use Rattle.pst_base.specs.declared.names.TrapKind.TheVariants.{Overflow}
 use Rattle.pst_base.specs.declared.shape.TypeShape.{TypeShape}
-use Rattle.pst_base.specs.Heap.{Heap, OrdinaryHeap, type_in}
-use Rattle.pst_program.specs.declared.block.TypedBlock.{size-TypedBlock}
+use Rattle.pst_base.specs.Heap.{OrdinaryHeap}
+use Rattle.pst_program.specs.declared.block.TypedBlock.{TypedBlock, size-TypedBlock}
+use Rattle.pst_program.specs.declared.block.TypedStatement.{TypedStatement}
+use Rattle.pst_program.specs.declared.typed.Typed.{Typed}
+use Rattle.pst_program.specs.declared.program.Program.{Program}
 use Rattle.pst_program.specs.declared.program.TypedProc.{TypedProc}
 use Rattle.pst_program.specs.declared.meaning.Value.{Value}
 use Rattle.pst_program.specs.declared.meaning.Value.TheVariants.{Number as ANumber}
 use Rattle.pst_program.specs.Value.{Env, Answer, Gives, Traps}
-use Rattle.pst_program.specs.Meaning.{World, Ending, Normal, Returned, Trapped, Spent, Answers, Gives_all, Traps_at}
+use Rattle.pst_program.specs.Sound.{NamesAreFree}
+use Rattle.pst_program.specs.Meaning.{World, Ending, Normal, Returned, Trapped, Spent, Answers, Gives_all, Traps_at, Calls, call, call_with, exec, exec_action, turns, run_body}
+use Rattle.pst_program.specs.View.{expr_of, action_of, actions_of, routines_of}
 use Rattle.pst_eval.specs.declared.tally.Tally.{Tally}
 use Rattle.pst_eval.specs.declared.tally.End.{End}
 use Rattle.pst_eval.specs.declared.tally.End.TheVariants.{Normal as EndNormal, Return, Trap, Spent as EndSpent}
@@ -56,10 +60,6 @@ goes_on (Ok true) first other env w = first env w
 goes_on (Ok false) first other env w = other env w
 goes_on (Err end) first other env w = ending_of end env w
 
--- the names that the run may still give are free
-abbrev pub IsFresh : Heap → RunNo → (made : ℕ) → Type 0
-IsFresh h run made = (k : ℕ) → made ≤ k → type_in h (record { run = run; ordinal = k }) ≡ None
-
 -- the counts have room for so many charges more
 pub record HasRoom (charges : ℕ) (t : Tally) : Type 0 where
   pub made : t.made + charges < 2 ^ 32
@@ -68,13 +68,41 @@ pub record HasRoom (charges : ℕ) (t : Tally) : Type 0 where
   pub value_writes : t.counts.value_writes + charges < 2 ^ 64
 
 -- the heap has the shape, the names of new records are free, and the counts have room for the charges left
-pub record IsReady (shape : List TypeShape) (h : OrdinaryHeap) (t : Tally) : Type 0 where
+pub record IsAtWork (shape : List TypeShape) (h : OrdinaryHeap) (t : Tally) : Type 0 where
   pub shaped : h.shape ≡ shape
-  pub fresh : IsFresh h.heap t.run t.made
+  pub fresh : NamesAreFree h.heap t.run t.made
   pub room : HasRoom t.charges t
 
 -- the same, where one charge was taken that nothing was done for
 pub record IsCharged (shape : List TypeShape) (h : OrdinaryHeap) (t : Tally) : Type 0 where
   pub shaped : h.shape ≡ shape
-  pub fresh : IsFresh h.heap t.run t.made
+  pub fresh : NamesAreFree h.heap t.run t.made
   pub room : HasRoom (t.charges + 1) t
+
+-- ---- what parts of a program come to, where so many more calls may become active
+
+-- a call
+abbrev pub calls_in : Program → (deep : ℕ) → Calls
+calls_in program deep = call (routines_of program) deep
+
+-- a block
+abbrev pub block_end : Program → (deep : ℕ) → TypedBlock → Env → OrdinaryHeap → Tally → Ending
+block_end program deep block env h t = exec program.shape (calls_in program deep) (actions_of block) env (world_of h t)
+
+-- a statement
+abbrev pub statement_end : Program → (deep : ℕ) → TypedStatement → Env → OrdinaryHeap → Tally → Ending
+statement_end program deep s env h t = exec_action program.shape (calls_in program deep) (action_of s.form) s.line env (world_of h t)
+
+-- the call of a procedure by a statement at this line, with the local that its result goes into
+abbrev pub called_end : Program → (deep : ℕ) → (procedure : ℕ) → List Typed → (line : ℕ) → (local : Option ℕ) → Env → OrdinaryHeap → Tally → Ending
+called_end program deep procedure es line local env h t =
+    call_with program.shape local (map expr_of es) (λ vs w. calls_in program deep procedure vs line w) line env (world_of h t)
+
+-- a loop
+abbrev pub loop_end : Program → (deep : ℕ) → Typed → TypedBlock → (line : ℕ) → Env → OrdinaryHeap → Tally → Ending
+loop_end program deep e body line env h t =
+    turns t.charges program.shape (expr_of e) (exec program.shape (calls_in program deep) (actions_of body)) line env (world_of h t)
+
+-- the body of the procedure with a number
+abbrev pub body_end : Program → (deep : ℕ) → (procedure : ℕ) → List Value → OrdinaryHeap → Tally → Ending
+body_end program deep procedure vs h t = run_body program.shape (calls_in program deep) (slice_get (routines_of program).procedures procedure) vs (world_of h t)

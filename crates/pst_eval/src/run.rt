@@ -1,11 +1,10 @@
 //! Blocks, choices, loops and calls.
 
-ghost use Rattle.std.specs.Prelude.{◌≡◌, ◌≤◌, ◌<◌, ℕ, [], map, IfOk, OnOk, Option, slice_get};
+ghost use Rattle.std.specs.Prelude.{◌≡◌, ◌≤◌, ℕ, [], IfOk, OnOk, Option};
 ghost use Rattle.pst_program.specs.declared.block.TypedBlock.{size-TypedBlock};
 ghost use Rattle.pst_program.specs.declared.block.TypedStatement.{size-TypedStatement};
-ghost use Rattle.pst_program.specs.Meaning.{exec, exec_action, turns, call, call_with, after_call, run_body};
-ghost use Rattle.pst_program.specs.View.{expr_of, action_of, actions_of, routines_of};
-ghost use Rattle.pst_eval.specs.Ends.{ending_of, world_of, deepest, IsReady};
+ghost use Rattle.pst_program.specs.Meaning.{after_call};
+ghost use Rattle.pst_eval.specs.Ends.{ending_of, world_of, deepest, IsAtWork, calls_in, block_end, statement_end, called_end, loop_end, body_end};
 
 use crate::call::{after, arguments, default_result, first_env, procedure_at};
 use crate::steps::{condition, give_back, make, print, set_local, set_root, store_field};
@@ -27,9 +26,9 @@ pub fn run_block(
     tally: &mut Tally,
 ) -> Result<End, NoMemory>
     requires within { size-TypedBlock block.now ≤ deepest program.now.procedures.items.items }
-    requires ready { IsReady program.now.shape heap.old tally.old }
-    ensures meaning { IfOk result (λ end. ending_of end env.new.items (world_of heap.new tally.new) ≡ exec program.now.shape (call (routines_of program.now) deep) (actions_of block.now) env.old.items (world_of heap.old tally.old)) }
-    ensures ready { OnOk result (IsReady program.now.shape heap.new tally.new) }
+    requires ready { IsAtWork program.now.shape heap.old tally.old }
+    ensures meaning { IfOk result (λ end. ending_of end env.new.items (world_of heap.new tally.new) ≡ block_end program.now deep block.now env.old.items heap.old tally.old) }
+    ensures ready { OnOk result (IsAtWork program.now.shape heap.new tally.new) }
     ensures fewer { OnOk result (tally.new.charges ≤ tally.old.charges) }
 {
     for statement in &block.items {
@@ -52,9 +51,9 @@ fn run_statement(
     tally: &mut Tally,
 ) -> Result<End, NoMemory>
     requires within { size-TypedStatement statement.now ≤ deepest program.now.procedures.items.items }
-    requires ready { IsReady program.now.shape heap.old tally.old }
-    ensures meaning { IfOk result (λ end. ending_of end env.new.items (world_of heap.new tally.new) ≡ exec_action program.now.shape (call (routines_of program.now) deep) (action_of statement.now.form) statement.now.line env.old.items (world_of heap.old tally.old)) }
-    ensures ready { OnOk result (IsReady program.now.shape heap.new tally.new) }
+    requires ready { IsAtWork program.now.shape heap.old tally.old }
+    ensures meaning { IfOk result (λ end. ending_of end env.new.items (world_of heap.new tally.new) ≡ statement_end program.now deep statement.now env.old.items heap.old tally.old) }
+    ensures ready { OnOk result (IsAtWork program.now.shape heap.new tally.new) }
     ensures fewer { OnOk result (tally.new.charges ≤ tally.old.charges) }
 {
     let line = statement.line;
@@ -118,15 +117,14 @@ fn run_called(
     heap: &mut PlainHeap,
     tally: &mut Tally,
 ) -> Result<End, NoMemory>
-    requires ready { IsReady program.now.shape heap.old tally.old }
-    ensures meaning { (local : Option ℕ) → IfOk result (λ end. after_call local env.now (ending_of end env.now (world_of heap.new tally.new)) ≡ call_with program.now.shape local (map expr_of list.now) (λ vs w. call (routines_of program.now) deep procedure vs line w) line env.now (world_of heap.old tally.old)) }
-    ensures ready { OnOk result (IsReady program.now.shape heap.new tally.new) }
+    requires ready { IsAtWork program.now.shape heap.old tally.old }
+    ensures meaning { (local : Option ℕ) → IfOk result (λ end. after_call local env.now (ending_of end env.now (world_of heap.new tally.new)) ≡ called_end program.now deep procedure list.now line local env.now heap.old tally.old) }
+    ensures ready { OnOk result (IsAtWork program.now.shape heap.new tally.new) }
     ensures fewer { OnOk result (tally.new.charges ≤ tally.old.charges) }
 {
-    if tally.charges == 0 {
+    if !tally.charge() {
         return Ok(End::Spent(line));
     }
-    tally.charges -= 1;
     match arguments(alloc, list.as_slice(), env, heap)? {
         Err(trap) => Ok(End::Trap(trap, line)),
         Ok(values) => run_call(alloc, program, deep, procedure, values, line, heap, tally),
@@ -146,9 +144,9 @@ fn run_while(
     tally: &mut Tally,
 ) -> Result<End, NoMemory>
     requires within { size-TypedBlock body.now ≤ deepest program.now.procedures.items.items }
-    requires ready { IsReady program.now.shape heap.old tally.old }
-    ensures meaning { IfOk result (λ end. ending_of end env.new.items (world_of heap.new tally.new) ≡ turns tally.old.charges program.now.shape (expr_of e.now) (exec program.now.shape (call (routines_of program.now) deep) (actions_of body.now)) line env.old.items (world_of heap.old tally.old)) }
-    ensures ready { OnOk result (IsReady program.now.shape heap.new tally.new) }
+    requires ready { IsAtWork program.now.shape heap.old tally.old }
+    ensures meaning { IfOk result (λ end. ending_of end env.new.items (world_of heap.new tally.new) ≡ loop_end program.now deep e.now body.now line env.old.items heap.old tally.old) }
+    ensures ready { OnOk result (IsAtWork program.now.shape heap.new tally.new) }
     ensures fewer { OnOk result (tally.new.charges ≤ tally.old.charges) }
 {
     loop {
@@ -176,9 +174,9 @@ fn run_call(
     heap: &mut PlainHeap,
     tally: &mut Tally,
 ) -> Result<End, NoMemory>
-    requires ready { IsReady program.now.shape heap.old tally.old }
-    ensures meaning { IfOk result (λ end. ending_of end [] (world_of heap.new tally.new) ≡ call (routines_of program.now) deep procedure values.items line (world_of heap.old tally.old)) }
-    ensures ready { OnOk result (IsReady program.now.shape heap.new tally.new) }
+    requires ready { IsAtWork program.now.shape heap.old tally.old }
+    ensures meaning { IfOk result (λ end. ending_of end [] (world_of heap.new tally.new) ≡ calls_in program.now deep procedure values.items line (world_of heap.old tally.old)) }
+    ensures ready { OnOk result (IsAtWork program.now.shape heap.new tally.new) }
     ensures fewer { OnOk result (tally.new.charges ≤ tally.old.charges) }
 {
     if deep == 0 {
@@ -198,9 +196,9 @@ pub fn run_body(
     heap: &mut PlainHeap,
     tally: &mut Tally,
 ) -> Result<End, NoMemory>
-    requires ready { IsReady program.now.shape heap.old tally.old }
-    ensures meaning { IfOk result (λ end. ending_of end [] (world_of heap.new tally.new) ≡ run_body program.now.shape (call (routines_of program.now) deep) (slice_get (routines_of program.now).procedures procedure) values.items (world_of heap.old tally.old)) }
-    ensures ready { OnOk result (IsReady program.now.shape heap.new tally.new) }
+    requires ready { IsAtWork program.now.shape heap.old tally.old }
+    ensures meaning { IfOk result (λ end. ending_of end [] (world_of heap.new tally.new) ≡ body_end program.now deep procedure values.items heap.old tally.old) }
+    ensures ready { OnOk result (IsAtWork program.now.shape heap.new tally.new) }
     ensures fewer { OnOk result (tally.new.charges ≤ tally.old.charges) }
 {
     match procedure_at(program, procedure) {

@@ -5,7 +5,7 @@ ghost use Rattle.std.specs.Option.{option_map};
 ghost use Rattle.pst_program.specs.declared.meaning.Value.{Value};
 ghost use Rattle.pst_program.specs.Meaning.{World, Ending, set_local, set_root, store_field, make, print_value, return_value, if_else, is_target};
 ghost use Rattle.pst_program.specs.View.{expr_of};
-ghost use Rattle.pst_eval.specs.Ends.{ending_of, world_of, goes_on, IsReady};
+ghost use Rattle.pst_eval.specs.Ends.{ending_of, world_of, goes_on, IsAtWork};
 
 use crate::tally::{End, Tally};
 use crate::value::{ROOT, number, value};
@@ -26,15 +26,14 @@ pub fn set_local(
     heap: &PlainHeap,
     tally: &mut Tally,
 ) -> End
-    requires ready { IsReady heap.now.shape heap.now tally.old }
+    requires ready { IsAtWork heap.now.shape heap.now tally.old }
     ensures meaning { ending_of result env.new.items (world_of heap.now tally.new) ≡ set_local heap.now.shape x (expr_of e.now) line env.old.items (world_of heap.now tally.old) }
-    ensures ready { IsReady heap.now.shape heap.now tally.new }
+    ensures ready { IsAtWork heap.now.shape heap.now tally.new }
     ensures fewer { tally.new.charges ≤ tally.old.charges }
 {
-    if tally.charges == 0 {
+    if !tally.charge() {
         return End::Spent(line);
     }
-    tally.charges -= 1;
     match value(e, env, heap) {
         Err(trap) => End::Trap(trap, line),
         Ok(v) => {
@@ -62,15 +61,14 @@ pub fn set_root(
     heap: &mut PlainHeap,
     tally: &mut Tally,
 ) -> End
-    requires ready { IsReady heap.old.shape heap.old tally.old }
+    requires ready { IsAtWork heap.old.shape heap.old tally.old }
     ensures meaning { ending_of result env.now (world_of heap.new tally.new) ≡ set_root heap.old.shape slot.0 (expr_of e.now) line env.now (world_of heap.old tally.old) }
-    ensures ready { IsReady heap.old.shape heap.new tally.new }
+    ensures ready { IsAtWork heap.old.shape heap.new tally.new }
     ensures fewer { tally.new.charges ≤ tally.old.charges }
 {
-    if tally.charges == 0 {
+    if !tally.charge() {
         return End::Spent(line);
     }
-    tally.charges -= 1;
     match value(e, env, heap) {
         Err(trap) => End::Trap(trap, line),
         Ok(v) => write(ROOT, slot, v, line, heap, tally),
@@ -87,15 +85,14 @@ pub fn store_field(
     heap: &mut PlainHeap,
     tally: &mut Tally,
 ) -> End
-    requires ready { IsReady heap.old.shape heap.old tally.old }
+    requires ready { IsAtWork heap.old.shape heap.old tally.old }
     ensures meaning { ending_of result env.now (world_of heap.new tally.new) ≡ store_field heap.old.shape (expr_of object.now) slot.0 (expr_of e.now) line env.now (world_of heap.old tally.old) }
-    ensures ready { IsReady heap.old.shape heap.new tally.new }
+    ensures ready { IsAtWork heap.old.shape heap.new tally.new }
     ensures fewer { tally.new.charges ≤ tally.old.charges }
 {
-    if tally.charges == 0 {
+    if !tally.charge() {
         return End::Spent(line);
     }
-    tally.charges -= 1;
     match value(object, env, heap) {
         Err(trap) => End::Trap(trap, line),
         Ok(Value::Record(name)) => match value(e, env, heap) {
@@ -115,15 +112,14 @@ pub fn make(
     heap: &mut PlainHeap,
     tally: &mut Tally,
 ) -> Result<End, NoMemory>
-    requires ready { IsReady heap.old.shape heap.old tally.old }
+    requires ready { IsAtWork heap.old.shape heap.old tally.old }
     ensures meaning { IfOk result (λ end. ending_of end env.new.items (world_of heap.new tally.new) ≡ make heap.old.shape x ty line env.old.items (world_of heap.old tally.old)) }
-    ensures ready { OnOk result (IsReady heap.old.shape heap.new tally.new) }
+    ensures ready { OnOk result (IsAtWork heap.old.shape heap.new tally.new) }
     ensures fewer { OnOk result (tally.new.charges ≤ tally.old.charges) }
 {
-    if tally.charges == 0 {
+    if !tally.charge() {
         return Ok(End::Spent(line));
     }
-    tally.charges -= 1;
     if !is_target(heap.shape().as_slice(), ty) {
         return Ok(End::Trap(TrapKind::Null, line));
     }
@@ -150,15 +146,14 @@ pub fn print(
     heap: &PlainHeap,
     tally: &mut Tally,
 ) -> Result<End, NoMemory>
-    requires ready { IsReady heap.now.shape heap.now tally.old }
+    requires ready { IsAtWork heap.now.shape heap.now tally.old }
     ensures meaning { IfOk result (λ end. ending_of end env.now (world_of heap.now tally.new) ≡ print_value heap.now.shape (expr_of e.now) line env.now (world_of heap.now tally.old)) }
-    ensures ready { OnOk result (IsReady heap.now.shape heap.now tally.new) }
+    ensures ready { OnOk result (IsAtWork heap.now.shape heap.now tally.new) }
     ensures fewer { OnOk result (tally.new.charges ≤ tally.old.charges) }
 {
-    if tally.charges == 0 {
+    if !tally.charge() {
         return Ok(End::Spent(line));
     }
-    tally.charges -= 1;
     match value(e, env, heap) {
         Err(trap) => Ok(End::Trap(trap, line)),
         Ok(v) => {
@@ -179,15 +174,14 @@ pub fn give_back(
     heap: &PlainHeap,
     tally: &mut Tally,
 ) -> End
-    requires ready { IsReady heap.now.shape heap.now tally.old }
+    requires ready { IsAtWork heap.now.shape heap.now tally.old }
     ensures meaning { ending_of result env.now (world_of heap.now tally.new) ≡ return_value heap.now.shape (option_map expr_of e.now) line env.now (world_of heap.now tally.old) }
-    ensures ready { IsReady heap.now.shape heap.now tally.new }
+    ensures ready { IsAtWork heap.now.shape heap.now tally.new }
     ensures fewer { tally.new.charges ≤ tally.old.charges }
 {
-    if tally.charges == 0 {
+    if !tally.charge() {
         return End::Spent(line);
     }
-    tally.charges -= 1;
     match e {
         None => End::Return(None),
         Some(e) => match value(e, env, heap) {
@@ -205,16 +199,15 @@ pub fn condition(
     heap: &PlainHeap,
     tally: &mut Tally,
 ) -> Result<bool, End>
-    requires ready { IsReady heap.now.shape heap.now tally.old }
+    requires ready { IsAtWork heap.now.shape heap.now tally.old }
     ensures meaning { (first other : List Value → World → Ending) → if_else heap.now.shape (expr_of e.now) first other line env.now (world_of heap.now tally.old) ≡ goes_on result first other env.now (world_of heap.now tally.new) }
-    ensures ready { IsReady heap.now.shape heap.now tally.new }
+    ensures ready { IsAtWork heap.now.shape heap.now tally.new }
     ensures fewer { IfOk result (λ _. tally.new.charges < tally.old.charges) }
     ensures no_more { tally.new.charges ≤ tally.old.charges }
 {
-    if tally.charges == 0 {
+    if !tally.charge() {
         return Err(End::Spent(line));
     }
-    tally.charges -= 1;
     match value(e, env, heap) {
         Err(trap) => Err(End::Trap(trap, line)),
         Ok(v) => Ok(crate::value::truth(v)),

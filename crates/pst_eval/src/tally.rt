@@ -1,6 +1,6 @@
 //! What a run keeps beside its heap.
 
-ghost use Rattle.std.specs.Prelude.{◌≡◌};
+ghost use Rattle.std.specs.Prelude.{◌≡◌, ◌≢◌, ◌-◌, true, false};
 
 use pst_base::{Counts, Name, RunNo, TrapKind};
 use pst_program::Value;
@@ -17,6 +17,18 @@ pub struct Tally {
 }
 
 impl Tally {
+    /// Takes a charge, if one is left.
+    pub fn charge(&mut self) -> bool
+        ensures taken { result ≡ true → (self.old.charges ≢ 0) × (self.new ≡ record self.old { charges = self.old.charges - 1 }) }
+        ensures none { result ≡ false → (self.old.charges ≡ 0) × (self.new ≡ self.old) }
+    {
+        if self.charges == 0 {
+            return false;
+        }
+        self.charges -= 1;
+        true
+    }
+
     /// The name that the next record of the run gets.
     pub fn next_name(&self) -> Name
         ensures { result ≡ record { run = self.now.run; ordinal = self.now.made } }

@@ -6,8 +6,8 @@ use pst_base::{
 };
 use pst_heap::PlainHeap;
 use pst_program::{
-    Ended, FieldNames, Program, TypeEntry, TypeNames, Typed, TypedBlock, TypedForm, TypedList,
-    TypedProc, TypedProcs, TypedStatement,
+    Calls, Ended, FieldNames, ProcCall, Program, TypeEntry, TypeNames, Typed, TypedBlock,
+    TypedForm, TypedList, TypedProc, TypedProcs, TypedStatement,
 };
 use std::alloc::{AllocError, Global};
 use std::test::Fail;
@@ -62,19 +62,26 @@ fn binary(alloc: Global, op: Op, left: Typed, right: Typed) -> Result<Typed, All
     })
 }
 
-// What a run comes to on the heap of the root record alone, if the shape is valid.
+// A call with one argument.
+fn call_with(alloc: Global, argument: i64) -> Result<ProcCall, AllocError> {
+    let mut arguments = Vec::new(alloc);
+    arguments.push(argument)?;
+    Ok(ProcCall {
+        procedure: ProcNo(0),
+        arguments: Numbers::from_vec(arguments),
+    })
+}
+
+// What a run of calls comes to on the heap of the root record alone, if the shape is valid.
 fn run(
     alloc: Global,
     program: &Program,
-    argument: i64,
+    calls: Vec<ProcCall>,
     budget: u32,
 ) -> Result<Option<Outcome>, AllocError> {
-    let mut arguments = Vec::new(alloc);
-    arguments.push(argument)?;
     let spec = RunSpec {
         run: RunNo(1),
-        procedure: ProcNo(0),
-        arguments: Numbers::from_vec(arguments),
+        calls: Calls::from_vec(calls),
         budget,
         granted: budget,
     };
@@ -113,11 +120,15 @@ fn counts_up(rt: HostRuntime) -> Result<(), Fail> {
     })?;
     let program = program(alloc, block)?;
     // Three turns, the condition that does not hold, the print and the write: nine charges.
-    let outcome = run(alloc, &program, 2, 9)?.expect(&rt, "a valid shape");
+    // A second call that begins at 4 takes five more.
+    let mut calls = vec![in alloc; call_with(alloc, 2)?]?;
+    calls.push(call_with(alloc, 4)?)?;
+    let outcome = run(alloc, &program, calls, 14)?.expect(&rt, "a valid shape");
     assert_eq!(rt; outcome.ended, Ended::Done);
-    assert_eq!(rt; outcome.printed.as_slice(), [5].as_slice());
-    assert_eq!(rt; outcome.counts.value_writes, 1);
-    let outcome = run(alloc, &program, 2, 8)?.expect(&rt, "a valid shape");
+    assert_eq!(rt; outcome.printed.as_slice(), [5, 5].as_slice());
+    assert_eq!(rt; outcome.counts.value_writes, 2);
+    let calls = vec![in alloc; call_with(alloc, 2)?]?;
+    let outcome = run(alloc, &program, calls, 8)?.expect(&rt, "a valid shape");
     let trap = Trap {
         kind: TrapKind::Budget,
         line: 5,
@@ -136,12 +147,12 @@ fn deepest_calls_fit_the_stack(rt: HostRuntime) -> Result<(), Fail> {
     }
     let mut list = Vec::new(alloc);
     list.push(deep)?;
-    let call = TypedForm::Call {
+    let form = TypedForm::Call {
         result: None,
         procedure: ProcNo(0),
         arguments: TypedList::from_vec(list),
     };
-    let mut block = one(alloc, 100, call)?;
+    let mut block = one(alloc, 100, form)?;
     for line in 1..16u32 {
         let condition = binary(alloc, Op::Equal, Typed::Number(0), Typed::Number(0))?;
         let form = TypedForm::If {
@@ -152,7 +163,8 @@ fn deepest_calls_fit_the_stack(rt: HostRuntime) -> Result<(), Fail> {
         block = one(alloc, line, form)?;
     }
     let program = program(alloc, block)?;
-    let outcome = run(alloc, &program, 7, 1_000_000)?.expect(&rt, "a valid shape");
+    let calls = vec![in alloc; call_with(alloc, 7)?]?;
+    let outcome = run(alloc, &program, calls, 1_000_000)?.expect(&rt, "a valid shape");
     let trap = Trap {
         kind: TrapKind::Depth,
         line: 100,

@@ -6,7 +6,7 @@ ghost use Rattle.pst_base.specs.declared.names.TypeNo.{TypeNo};
 ghost use Rattle.pst_base.specs.Heap.{kind_in};
 ghost use Rattle.pst_program.specs.declared.meaning.Value.{Value};
 ghost use Rattle.pst_program.specs.Meaning.{write, write_pointer};
-ghost use Rattle.pst_eval.specs.Ends.{ending_of, world_of, IsReady, IsCharged};
+ghost use Rattle.pst_eval.specs.Ends.{ending_of, world_of, IsAtWork, IsCharged};
 
 use crate::tally::{End, Tally};
 use crate::value::number;
@@ -25,7 +25,7 @@ pub fn write(
 ) -> End
     requires ready { IsCharged heap.old.shape heap.old tally.old }
     ensures meaning { (env : List Value) → ending_of result env (world_of heap.new tally.new) ≡ write heap.old.shape name slot.0 v line env (world_of heap.old tally.old) }
-    ensures ready { IsReady heap.old.shape heap.new tally.new }
+    ensures ready { IsAtWork heap.old.shape heap.new tally.new }
     ensures same_charges { tally.new.charges ≡ tally.old.charges }
 {
     match heap.kind_of(name, slot) {
@@ -52,7 +52,7 @@ fn write_pointer(
     requires ready { IsCharged heap.old.shape heap.old tally.old }
     requires kind { kind_in heap.old.shape heap.old.heap name slot.0 ≡ Some (Pointer ty) }
     ensures meaning { (env : List Value) → ending_of result env (world_of heap.new tally.new) ≡ write_pointer heap.old.shape ty name slot.0 v line env (world_of heap.old tally.old) }
-    ensures ready { IsReady heap.old.shape heap.new tally.new }
+    ensures ready { IsAtWork heap.old.shape heap.new tally.new }
     ensures same_charges { tally.new.charges ≡ tally.old.charges }
 {
     let target = match v {

@@ -3,7 +3,7 @@ use Rattle.pst_program.specs.Meaning.{exec, turns, call}
 use Rattle.pst_program.specs.View.{expr_of, actions_of, statements_of, routines_of}
 use Rattle.pst_program.specs.declared.block.TypedBlock.{size-TypedBlock}
 use Rattle.pst_program.specs.declared.block.TypedStatement.{size-TypedStatement}
-use Rattle.pst_eval.specs.Ends.{world_of, deepest, IsReady}
+use Rattle.pst_eval.specs.Ends.{world_of, deepest, IsAtWork}
 use Rattle.pst_eval.proofs.run.+run.Given as goal
 
 abbrev pub decreases-run_block : goal.decreases-run_block
@@ -27,7 +27,7 @@ decreases-run_while l = l.deep * (2 * deepest l.program.now.procedures.items.ite
 -- what is left to do comes to what all comes to
 abbrev pub invariant-run_block-loop-statement : goal.invariant-run_block-loop-statement
 invariant-run_block-loop-statement l = record {
-  ready : IsReady l.program.shape l.heap l.tally;
+  ready : IsAtWork l.program.shape l.heap l.tally;
   fewer : l.tally.charges ≤ l.fn.tally.charges;
   rest : exec l.program.shape (call (routines_of l.program) l.deep) (statements_of (drop l.statement-index l.statement-items)) l.env.items (world_of l.heap l.tally)
       ≡ exec l.program.shape (call (routines_of l.program) l.deep) (actions_of l.block) l.fn.env.items (world_of l.fn.heap l.fn.tally);
@@ -35,7 +35,7 @@ invariant-run_block-loop-statement l = record {
 
 abbrev pub invariant-run_while-loop-end : goal.invariant-run_while-loop-end
 invariant-run_while-loop-end l = record {
-  ready : IsReady l.program.shape l.heap l.tally;
+  ready : IsAtWork l.program.shape l.heap l.tally;
   fewer : l.tally.charges ≤ l.fn.tally.charges;
   rest : (n : ℕ) × (l.tally.charges ≤ n)
       × (turns n l.program.shape (expr_of l.e) (exec l.program.shape (call (routines_of l.program) l.deep) (actions_of l.body)) l.line l.env.items (world_of l.heap l.tally)

@@ -1,0 +1,66 @@
+//! The calls of a run, one after another.
+
+ghost use Rattle.std.specs.Prelude.{◌≡◌, [], map, IfOk, OnOk};
+ghost use Rattle.pst_program.specs.Outcome.{calls_of, in_order, one_call, task_call};
+ghost use Rattle.pst_program.specs.View.{routines_of};
+ghost use Rattle.pst_eval.specs.Ends.{ending_of, world_of, IsAtWork};
+
+use crate::run::run_body;
+use crate::tally::{End, Tally};
+use pst_base::NoMemory;
+use pst_heap::PlainHeap;
+use pst_program::{ProcCall, Program, Value};
+use std::alloc::Global;
+
+/// How many more calls may become active beside the first.
+const DEEP: u32 = 255;
+
+/// Carries out calls in order, each with what the one before left, until one traps or a charge is due that is not there.
+pub fn run_calls(
+    alloc: Global,
+    program: &Program,
+    calls: &[ProcCall],
+    heap: &mut PlainHeap,
+    tally: &mut Tally,
+) -> Result<End, NoMemory>
+    requires at_work { IsAtWork program.now.shape heap.old tally.old }
+    ensures meaning { IfOk result (λ end. ending_of end [] (world_of heap.new tally.new) ≡ in_order (one_call (routines_of program.now)) (calls_of calls.now) (world_of heap.old tally.old)) }
+    ensures at_work { OnOk result (IsAtWork program.now.shape heap.new tally.new) }
+{
+    for call in calls {
+        match run_one(alloc, program, call, heap, tally)? {
+            End::Normal => {}
+            End::Return(_) => {}
+            End::Trap(kind, line) => return Ok(End::Trap(kind, line)),
+            End::Spent(line) => return Ok(End::Spent(line)),
+        }
+    }
+    Ok(End::Return(None))
+}
+
+/// Carries out one call, whose procedure is the first of 256 calls that may be active.
+fn run_one(
+    alloc: Global,
+    program: &Program,
+    call: &ProcCall,
+    heap: &mut PlainHeap,
+    tally: &mut Tally,
+) -> Result<End, NoMemory>
+    requires at_work { IsAtWork program.now.shape heap.old tally.old }
+    ensures meaning { IfOk result (λ end. ending_of end [] (world_of heap.new tally.new) ≡ one_call (routines_of program.now) (task_call call.now) (world_of heap.old tally.old)) }
+    ensures at_work { OnOk result (IsAtWork program.now.shape heap.new tally.new) }
+{
+    let values = numbers(alloc, call.arguments.as_slice())?;
+    run_body(alloc, program, DEEP, call.procedure.0, values, heap, tally)
+}
+
+/// The arguments as values.
+fn numbers(alloc: Global, arguments: &[i64]) -> Result<Vec<Value>, NoMemory>
+    ensures { IfOk result (λ values. values.items ≡ map Value.Number arguments.now) }
+{
+    let mut values = Vec::with_capacity(alloc, arguments.len())?;
+    for n in arguments {
+        values.push(Value::Number(*n))?;
+    }
+    Ok(values)
+}
