@@ -10,13 +10,6 @@ use Rattle.pst_script.specs.Commands.{with_both, arguments_of, all_fit}
 abbrev pub onto : Option ℤ → Option (List ℤ) → Option (List ℤ)
 onto first rest = with_both (λ n ns. n ∷ ns) first rest
 
-pub arguments_of-cons : (all rest : List (List ℕ)) (word : List ℕ) → all ≡ word ∷ rest → arguments_of all ≡ onto (argument_of word) (arguments_of rest)
-arguments_of-cons all rest word e = ap arguments_of e
-
-pub first_written : (first : Option ℤ) (rest : Option (List ℤ)) → is_some (onto first rest) ≡ true → is_some first ≡ true
-first_written None rest h = h
-first_written (Some n) rest h = refl
-
 pub rest_written : (first : Option ℤ) (rest : Option (List ℤ)) → is_some (onto first rest) ≡ true → is_some rest ≡ true
 rest_written None rest h = absurd (false≢true h)
 rest_written (Some n) None h = h
@@ -45,15 +38,6 @@ rest_fits (Some z) (Some ns) w h = by_test (fits_64_bits z) h
     by_test true k = k
     by_test false k = absurd (false≢true k)
 
-pub first_fits : (first : Option ℤ) (rest : Option (List ℤ)) → is_some (onto first rest) ≡ true → all_fit (onto first rest) ≡ true → is_some (passing fits_64_bits first) ≡ true
-first_fits None rest w h = w
-first_fits (Some z) None w h = absurd (false≢true w)
-first_fits (Some z) (Some ns) w h = by_test (fits_64_bits z) h
-  where
-    by_test : (b : Bool) → (b && list_all fits_64_bits ns) ≡ true → is_some (if b then Some z else None) ≡ true
-    by_test true k = refl
-    by_test false k = k
-
 one_behind : (before : List ℤ) (n : ℤ) (ns : List ℤ) → (before ++ n ∷ []) ++ ns ≡ before ++ n ∷ ns
 one_behind before n ns = rw append_assoc refl
 
@@ -68,18 +52,12 @@ one_more before n (Some z) (Some ns) h = ap Some (one_behind before n ns ∙ ap 
 pub words_written : (all rest : List (List ℕ)) (word : List ℕ) → all ≡ word ∷ rest → is_some (arguments_of all) ≡ true → is_some (arguments_of rest) ≡ true
 words_written all rest word e h = rest_written (argument_of word) (arguments_of rest) (sym (ap (λ ws. is_some (arguments_of ws)) e) ∙ h)
 
-pub word_written : (all rest : List (List ℕ)) (word : List ℕ) → all ≡ word ∷ rest → is_some (arguments_of all) ≡ true → is_some (argument_of word) ≡ true
-word_written all rest word e h = first_written (argument_of word) (arguments_of rest) (sym (ap (λ ws. is_some (arguments_of ws)) e) ∙ h)
-
 pub words_decide : (all rest : List (List ℕ)) (word : List ℕ) (r : Option ℤ) → all ≡ word ∷ rest → r ≡ passing fits_64_bits (argument_of word) → is_some r ≡ true → all_fit (arguments_of rest) ≡ all_fit (arguments_of all)
 words_decide all rest word None e p h = absurd (false≢true h)
 words_decide all rest word (Some n) e p h = rest_decides n (argument_of word) (arguments_of rest) p ∙ sym (ap (λ ws. all_fit (arguments_of ws)) e)
 
 pub words_fit : (all rest : List (List ℕ)) (word : List ℕ) → all ≡ word ∷ rest → is_some (arguments_of all) ≡ true → all_fit (arguments_of all) ≡ true → all_fit (arguments_of rest) ≡ true
 words_fit all rest word e w h = rest_fits (argument_of word) (arguments_of rest) (sym (ap (λ ws. is_some (arguments_of ws)) e) ∙ w) (sym (ap (λ ws. all_fit (arguments_of ws)) e) ∙ h)
-
-pub word_fits : (all rest : List (List ℕ)) (word : List ℕ) → all ≡ word ∷ rest → is_some (arguments_of all) ≡ true → all_fit (arguments_of all) ≡ true → is_some (passing fits_64_bits (argument_of word)) ≡ true
-word_fits all rest word e w h = first_fits (argument_of word) (arguments_of rest) (sym (ap (λ ws. is_some (arguments_of ws)) e) ∙ w) (sym (ap (λ ws. all_fit (arguments_of ws)) e) ∙ h)
 
 pub word_read : (all rest : List (List ℕ)) (word : List ℕ) (r : Option ℤ) (n : ℤ) (before now : List ℤ) (whole : Option (List ℤ)) → all ≡ word ∷ rest → r ≡ passing fits_64_bits (argument_of word) → r ≡ Some n → now ≡ before ++ n ∷ [] → option_map (λ ns. before ++ ns) (arguments_of all) ≡ whole → option_map (λ ns. now ++ ns) (arguments_of rest) ≡ whole
 word_read all rest word r n before now whole e p some push h =

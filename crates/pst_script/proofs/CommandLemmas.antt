@@ -1,23 +1,24 @@
 -- How calls and commands are written.
 use Rattle.std.proofs.Common.{◌≡◌, ℕ, ◌<◌, ◌^◌, ◌⊎◌, inl, inr, Bool, true, false, List, [], ◌∷◌, map, refl, sym, ap, ◌∙◌, arith, Option, Some, None, Ok, Err}
 use Rattle.std.specs.Prelude.{if◌then◌else◌, ◌==◌, ◌&&◌, slice_index, ℤ, codes}
-use Rattle.std.specs.Option.{option_map}
+use Rattle.std.specs.Option.{option_map, option_or}
 use Rattle.std.specs.List.{list_all}
 use Rattle.std.specs.Str.{bytes_eq}
 use Rattle.std.specs.Fmt.{decimal, signed_decimal}
 use Rattle.std.proofs.lemmas.Bool.{false≢true}
 use Rattle.std.proofs.lemmas.Bool.Decides.{nat_tests}
 use Rattle.std.proofs.lemmas.Slice.Eq.{bytes_eq-Decides}
+use Rattle.pst_script.specs.declared.call.Called.{Called}
 use Rattle.pst_script.specs.declared.command.Call.{Call}
 use Rattle.pst_script.specs.declared.command.Command.{Command}
-use Rattle.pst_script.specs.declared.command.Command.TheVariants.{Run, Query, OpenRun, StepRun, CloseRun, DropRun, Budget, Versions, Stats}
+use Rattle.pst_script.specs.declared.command.Command.TheVariants.{Run, Query, OpenRun, OpenEmpty, CallRun, StepRun, CloseRun, DropRun, Budget, Versions, Stats}
 use Rattle.pst_script.specs.declared.command.LineFault.TheVariants.{Line, Number}
 use Rattle.pst_script.specs.declared.verb.Verb.{Verb}
 use Rattle.pst_script.specs.declared.verb.Verb.TheVariants as verb
 use Rattle.pst_script.specs.Words.{words}
 use Rattle.pst_script.specs.Names.{is_name}
 use Rattle.pst_script.specs.Numerals.{number_of, argument_of, fits_32_bits, fits_64_bits, fits_charges}
-use Rattle.pst_script.specs.Commands.{with_both, arguments_of, make_call, call_of, one_number, two_numbers, nothing, verb_of, command_after, call_in_range, in_range, judged, read_as, reading_of, reading}
+use Rattle.pst_script.specs.Commands.{with_both, arguments_of, make_called, called_of, on_version, to_run, open_of, one_number, two_numbers, nothing, verb_of, command_after, called_in_range, in_range, judged, read_as, reading_of, reading}
 use Rattle.pst_script.specs.Spelled.{call_words, words_of, has_name, CanBeWritten, IsWrittenOneWay}
 use Rattle.pst_script.proofs.SpelledLemmas.{number_of-decimal, number_written, argument_of-decimal, argument_written}
 
@@ -75,39 +76,42 @@ arguments_read (z ∷ zs) fit = rw (argument_of-decimal z (and_left (fits_64_bit
 
 -- ---- calls
 
-call_written : (ws : List (List ℕ)) (call : Call) → call_in_range call ≡ true → call_of ws ≡ Some call → (is_name call.procedure ≡ true) × (ws ≡ call_words call)
-call_written [] call range h = let clash : None ≡ Some call = h in cc
-call_written (version ∷ []) call range h = let clash : None ≡ Some call = h in cc
-call_written (version ∷ procedure ∷ arguments) call range h = by_name (is_name procedure) refl h
+abbrev called_words : Called → List (List ℕ)
+called_words call = call_words call.number call.procedure call.arguments
+
+called_written : (ws : List (List ℕ)) (call : Called) → called_in_range call ≡ true → called_of ws ≡ Some call → (is_name call.procedure ≡ true) × (ws ≡ called_words call)
+called_written [] call range h = let clash : None ≡ Some call = h in cc
+called_written (number ∷ []) call range h = let clash : None ≡ Some call = h in cc
+called_written (number ∷ procedure ∷ arguments) call range h = by_name (is_name procedure) refl h
   where
-    small : IsSmall call.version.0
-    small = small_32 call.version.0 (and_left (fits_32_bits call.version.0) (list_all fits_64_bits call.arguments) range)
+    small : IsSmall call.number
+    small = small_32 call.number (and_left (fits_32_bits call.number) (list_all fits_64_bits call.arguments) range)
 
     fit : list_all fits_64_bits call.arguments ≡ true
-    fit = and_right (fits_32_bits call.version.0) (list_all fits_64_bits call.arguments) range
+    fit = and_right (fits_32_bits call.number) (list_all fits_64_bits call.arguments) range
 
-    from_parts : (n : ℕ) × (zs : List ℤ) × (number_of version ≡ Some n) × (arguments_of arguments ≡ Some zs) × (make_call procedure n zs ≡ call) → is_name procedure ≡ true → (is_name call.procedure ≡ true) × (version ∷ procedure ∷ arguments ≡ call_words call)
+    from_parts : (n : ℕ) × (zs : List ℤ) × (number_of number ≡ Some n) × (arguments_of arguments ≡ Some zs) × (make_called procedure n zs ≡ call) → is_name procedure ≡ true → (is_name call.procedure ≡ true) × (number ∷ procedure ∷ arguments ≡ called_words call)
     from_parts p named =
-        let number : number_of version ≡ Some call.version.0 = p.2 ∙ ap (λ (c : Call). Some c.version.0) p.4 in
-        let name : procedure ≡ call.procedure = ap (λ (c : Call). c.procedure) p.4 in
-        let numbers : arguments_of arguments ≡ Some call.arguments = p.3 ∙ ap (λ (c : Call). Some c.arguments) p.4 in (
+        let value : number_of number ≡ Some call.number = p.2 ∙ ap (λ (c : Called). Some c.number) p.4 in
+        let name : procedure ≡ call.procedure = ap (λ (c : Called). c.procedure) p.4 in
+        let numbers : arguments_of arguments ≡ Some call.arguments = p.3 ∙ ap (λ (c : Called). Some c.arguments) p.4 in (
           sym (ap is_name name) ∙ named,
-          ap (λ (w : List ℕ). w ∷ procedure ∷ arguments) (number_written version call.version.0 small number)
-              ∙ (ap (λ (w : List ℕ). decimal call.version.0 ∷ w ∷ arguments) name
-              ∙ ap (λ (r : List (List ℕ)). decimal call.version.0 ∷ call.procedure ∷ r) (arguments_written arguments call.arguments fit numbers)),
+          ap (λ (w : List ℕ). w ∷ procedure ∷ arguments) (number_written number call.number small value)
+              ∙ (ap (λ (w : List ℕ). decimal call.number ∷ w ∷ arguments) name
+              ∙ ap (λ (r : List (List ℕ)). decimal call.number ∷ call.procedure ∷ r) (arguments_written arguments call.arguments fit numbers)),
         )
 
-    by_name : (b : Bool) → is_name procedure ≡ b → (if b then with_both (make_call procedure) (number_of version) (arguments_of arguments) else None) ≡ Some call → (is_name call.procedure ≡ true) × (version ∷ procedure ∷ arguments ≡ call_words call)
-    by_name true named k = from_parts (both_some (make_call procedure) (number_of version) (arguments_of arguments) call k) named
+    by_name : (b : Bool) → is_name procedure ≡ b → (if b then with_both (make_called procedure) (number_of number) (arguments_of arguments) else None) ≡ Some call → (is_name call.procedure ≡ true) × (number ∷ procedure ∷ arguments ≡ called_words call)
+    by_name true named k = from_parts (both_some (make_called procedure) (number_of number) (arguments_of arguments) call k) named
     by_name false named k = let clash : None ≡ Some call = k in cc
 
-call_read : (call : Call) → is_name call.procedure ≡ true → call_in_range call ≡ true → call_of (call_words call) ≡ Some call
-call_read call named range =
-    let number : number_of (decimal call.version.0) ≡ Some call.version.0 = number_of-decimal call.version.0 (small_32 call.version.0 (and_left (fits_32_bits call.version.0) (list_all fits_64_bits call.arguments) range)) in
-    let numbers : arguments_of (map signed_decimal call.arguments) ≡ Some call.arguments = arguments_read call.arguments (and_right (fits_32_bits call.version.0) (list_all fits_64_bits call.arguments) range) in
-    ap (λ (b : Bool). if b then with_both (make_call call.procedure) (number_of (decimal call.version.0)) (arguments_of (map signed_decimal call.arguments)) else None) named
-    ∙ (ap (λ o. with_both (make_call call.procedure) o (arguments_of (map signed_decimal call.arguments))) number
-    ∙ ap (λ o. with_both (make_call call.procedure) (Some call.version.0) o) numbers)
+called_read : (call : Called) → is_name call.procedure ≡ true → called_in_range call ≡ true → called_of (called_words call) ≡ Some call
+called_read call named range =
+    let value : number_of (decimal call.number) ≡ Some call.number = number_of-decimal call.number (small_32 call.number (and_left (fits_32_bits call.number) (list_all fits_64_bits call.arguments) range)) in
+    let numbers : arguments_of (map signed_decimal call.arguments) ≡ Some call.arguments = arguments_read call.arguments (and_right (fits_32_bits call.number) (list_all fits_64_bits call.arguments) range) in
+    ap (λ (b : Bool). if b then with_both (make_called call.procedure) (number_of (decimal call.number)) (arguments_of (map signed_decimal call.arguments)) else None) named
+    ∙ (ap (λ o. with_both (make_called call.procedure) o (arguments_of (map signed_decimal call.arguments))) value
+    ∙ ap (λ o. with_both (make_called call.procedure) (Some call.number) o) numbers)
 
 -- ---- verbs
 
@@ -115,6 +119,7 @@ abbrev verb_text : Verb → List ℕ
 verb_text verb.Run = codes "run"
 verb_text verb.Query = codes "query"
 verb_text verb.Open = codes "open"
+verb_text verb.Call = codes "call"
 verb_text verb.Step = codes "step"
 verb_text verb.Close = codes "close"
 verb_text verb.Drop = codes "drop"
@@ -135,15 +140,15 @@ next (inr b) f = f b
 
 verb_written : (word : List ℕ) (v : Verb) → verb_of word ≡ Some v → word ≡ verb_text v
 verb_written word v h =
-    elim (next (next (next (next (next (next (next (next (tried word verb.Run v _ h) (tried word verb.Query v _)) (tried word verb.Open v _)) (tried word verb.Step v _)) (tried word verb.Close v _)) (tried word verb.Drop v _)) (tried word verb.Budget v _)) (tried word verb.Versions v _)) (tried word verb.Stats v None)) [ inl e ↦ e | inr clash ↦ cc ]
+    elim (next (next (next (next (next (next (next (next (next (tried word verb.Run v _ h) (tried word verb.Query v _)) (tried word verb.Open v _)) (tried word verb.Call v _)) (tried word verb.Step v _)) (tried word verb.Close v _)) (tried word verb.Drop v _)) (tried word verb.Budget v _)) (tried word verb.Versions v _)) (tried word verb.Stats v None)) [ inl e ↦ e | inr clash ↦ cc ]
 
 -- ---- commands
 
 -- the words behind a verb that begins a call
-call_command : (make : Call → Command) (text : List ℕ) → ((call : Call) → in_range (make call) ≡ call_in_range call) → ((call : Call) → has_name (make call) ≡ is_name call.procedure) → ((call : Call) → words_of (make call) ≡ text ∷ call_words call) → (rest : List (List ℕ)) (c : Command) → in_range c ≡ true → option_map make (call_of rest) ≡ Some c → (has_name c ≡ true) × (text ∷ rest ≡ words_of c)
+call_command : (make : Called → Command) (text : List ℕ) → ((call : Called) → in_range (make call) ≡ called_in_range call) → ((call : Called) → has_name (make call) ≡ is_name call.procedure) → ((call : Called) → words_of (make call) ≡ text ∷ called_words call) → (rest : List (List ℕ)) (c : Command) → in_range c ≡ true → option_map make (called_of rest) ≡ Some c → (has_name c ≡ true) × (text ∷ rest ≡ words_of c)
 call_command make text ranges names spells rest c range h =
-    let p = mapped make (call_of rest) c h in
-    let w : (is_name p.0.procedure ≡ true) × (rest ≡ call_words p.0) = call_written rest p.0 (sym (ranges p.0) ∙ (ap in_range p.2 ∙ range)) p.1 in
+    let p = mapped make (called_of rest) c h in
+    let w : (is_name p.0.procedure ≡ true) × (rest ≡ called_words p.0) = called_written rest p.0 (sym (ranges p.0) ∙ (ap in_range p.2 ∙ range)) p.1 in
     (sym (ap has_name p.2) ∙ (names p.0 ∙ w.0), ap (λ (r : List (List ℕ)). text ∷ r) w.1 ∙ (sym (spells p.0) ∙ ap words_of p.2))
 
 -- the words behind one that begins a command with one number
@@ -158,8 +163,16 @@ end_command command text named spelled rest c h =
     let w : (rest ≡ []) × (command ≡ c) = none_written command c rest h in
     (sym (ap has_name w.1) ∙ named, ap (λ (r : List (List ℕ)). text ∷ r) w.0 ∙ (sym spelled ∙ ap words_of w.1))
 
-make_step : ℕ → ℕ → Command
-make_step run charges = StepRun (record { 0 = run }) charges
+either : {A : Type 0} (o p : Option A) (a : A) → option_or o p ≡ Some a → (o ≡ Some a) ⊎ (p ≡ Some a)
+either None p a h = inr h
+either (Some b) p a h = inl h
+
+open_command : (rest : List (List ℕ)) (c : Command) → in_range c ≡ true → open_of rest ≡ Some c → (has_name c ≡ true) × (codes "open" ∷ rest ≡ words_of c)
+open_command rest c range h =
+    elim (either (option_map (λ version. OpenEmpty (record { 0 = version })) (one_number rest)) (option_map (λ called. OpenRun (on_version called)) (called_of rest)) c h) [
+      | inl k ↦ number_command (λ version. OpenEmpty (record { 0 = version })) (codes "open") small_32 (λ _. refl) (λ _. refl) rest c range k
+      | inr k ↦ call_command (λ called. OpenRun (on_version called)) (codes "open") (λ _. refl) (λ _. refl) (λ _. refl) rest c range k
+    ]
 
 step_command : (rest : List (List ℕ)) (c : Command) → in_range c ≡ true → two_numbers (λ run charges. StepRun (record { 0 = run }) charges) rest ≡ Some c → (has_name c ≡ true) × (codes "step" ∷ rest ≡ words_of c)
 step_command [] c range h = let clash : None ≡ Some c = h in cc
@@ -171,9 +184,10 @@ step_command (word ∷ ws) c range h =
     (sym (ap has_name p.4), ap (λ (w : List ℕ). codes "step" ∷ w ∷ ws) first ∙ (ap (λ (r : List (List ℕ)). codes "step" ∷ decimal p.0 ∷ r) second ∙ ap words_of p.4))
 
 command_written : (v : Verb) (rest : List (List ℕ)) (c : Command) → in_range c ≡ true → command_after (Some v) rest ≡ Some c → (has_name c ≡ true) × (verb_text v ∷ rest ≡ words_of c)
-command_written verb.Run rest c range h = call_command Run (codes "run") (λ _. refl) (λ _. refl) (λ _. refl) rest c range h
-command_written verb.Query rest c range h = call_command Query (codes "query") (λ _. refl) (λ _. refl) (λ _. refl) rest c range h
-command_written verb.Open rest c range h = call_command OpenRun (codes "open") (λ _. refl) (λ _. refl) (λ _. refl) rest c range h
+command_written verb.Run rest c range h = call_command (λ call. Run (on_version call)) (codes "run") (λ _. refl) (λ _. refl) (λ _. refl) rest c range h
+command_written verb.Query rest c range h = call_command (λ call. Query (on_version call)) (codes "query") (λ _. refl) (λ _. refl) (λ _. refl) rest c range h
+command_written verb.Open rest c range h = open_command rest c range h
+command_written verb.Call rest c range h = call_command to_run (codes "call") (λ _. refl) (λ _. refl) (λ _. refl) rest c range h
 command_written verb.Step rest c range h = step_command rest c range h
 command_written verb.Close rest c range h = number_command (λ n. CloseRun (record { 0 = n })) (codes "close") small_32 (λ _. refl) (λ _. refl) rest c range h
 command_written verb.Drop rest c range h = number_command (λ n. DropRun (record { 0 = n })) (codes "drop") small_32 (λ _. refl) (λ _. refl) rest c range h
@@ -211,10 +225,17 @@ passes c o is range = ap (λ p. read_as (judged in_range p)) is ∙ ap (λ (b : 
 one_read : (make : ℕ → Command) (n : ℕ) → IsSmall n → option_map make (one_number (decimal n ∷ [])) ≡ Some (make n)
 one_read make n small = ap (option_map make) (number_of-decimal n small)
 
+abbrev as_called : Call → Called
+as_called call = record { number = call.version.0; procedure = call.procedure; arguments = call.arguments }
+
 words_read : (c : Command) → has_name c ≡ true → in_range c ≡ true → reading_of (words_of c) ≡ Ok (Some c)
-words_read (Run call) named range = passes (Run call) (option_map Run (call_of (call_words call))) (ap (option_map Run) (call_read call named range)) range
-words_read (Query call) named range = passes (Query call) (option_map Query (call_of (call_words call))) (ap (option_map Query) (call_read call named range)) range
-words_read (OpenRun call) named range = passes (OpenRun call) (option_map OpenRun (call_of (call_words call))) (ap (option_map OpenRun) (call_read call named range)) range
+words_read (Run call) named range = passes (Run call) (option_map (λ c. Run (on_version c)) (called_of (called_words (as_called call)))) (ap (option_map (λ c. Run (on_version c))) (called_read (as_called call) named range)) range
+words_read (Query call) named range = passes (Query call) (option_map (λ c. Query (on_version c)) (called_of (called_words (as_called call)))) (ap (option_map (λ c. Query (on_version c))) (called_read (as_called call) named range)) range
+words_read (OpenRun call) named range = passes (OpenRun call) (option_map (λ c. OpenRun (on_version c)) (called_of (called_words (as_called call)))) (ap (option_map (λ c. OpenRun (on_version c))) (called_read (as_called call) named range)) range
+words_read (OpenEmpty version) named range = passes (OpenEmpty version) (open_of (decimal version.0 ∷ [])) (ap (λ o. option_or o (option_map (λ c. OpenRun (on_version c)) (called_of (decimal version.0 ∷ [])))) (one_read (λ n. OpenEmpty (record { 0 = n })) version.0 (small_32 version.0 range))) range
+words_read (CallRun run procedure arguments) named range =
+    let call : Called = record { number = run.0; procedure = procedure; arguments = arguments } in
+    passes (CallRun run procedure arguments) (option_map to_run (called_of (called_words call))) (ap (option_map to_run) (called_read call named range)) range
 words_read (StepRun run charges) named range =
     let first : number_of (decimal run.0) ≡ Some run.0 = number_of-decimal run.0 (small_32 run.0 (and_left (fits_32_bits run.0) (fits_charges charges) range)) in
     let second : number_of (decimal charges) ≡ Some charges = number_of-decimal charges (small_charges charges (and_right (fits_32_bits run.0) (fits_charges charges) range)) in

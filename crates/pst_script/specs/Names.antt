@@ -1,17 +1,8 @@
 -- The names that a program can give to its procedures.
-use Rattle.std.specs.Prelude.{ℕ, Bool, false, not, ◌==◌, ◌&&◌, ◌||◌, List, [], ◌∷◌, length, codes, nat_le}
+use Rattle.std.specs.Prelude.{ℕ, Bool, false, not, ◌==◌, ◌&&◌, ◌||◌, List, [], ◌∷◌, length, nat_le}
 use Rattle.std.specs.Char.{is_ascii_alphabetic, is_ascii_alphanumeric}
-use Rattle.std.specs.List.{list_all, list_any}
-use Rattle.std.specs.Str.{bytes_eq}
-
--- the words of the language itself
-abbrev pub keywords : List (List ℕ)
-keywords = codes "record" ∷ codes "val" ∷ codes "ptr" ∷ codes "root" ∷ codes "proc" ∷ codes "query" ∷ codes "var" ∷ codes "new"
-    ∷ codes "call" ∷ codes "print" ∷ codes "if" ∷ codes "else" ∷ codes "while" ∷ codes "return" ∷ codes "null" ∷ codes "and"
-    ∷ codes "or" ∷ codes "not" ∷ codes "int" ∷ []
-
-abbrev pub is_keyword : List ℕ → Bool
-is_keyword word = list_any (λ keyword. bytes_eq keyword word) keywords
+use Rattle.std.specs.List.{list_all}
+use Rattle.pst_base.specs.Words.{is_keyword}
 
 -- a letter or an underscore
 abbrev pub is_name_start : ℕ → Bool

@@ -60,8 +60,10 @@ refusal_name because.Version = codes "version"
 refusal_name because.Run = codes "run"
 refusal_name because.Runs = codes "runs"
 refusal_name because.RunsOpen = codes "open"
+refusal_name because.Calls = codes "calls"
 
--- the text of a reply
+-- the text of a reply (this project's own rule); `reply_text` writes it
+-- (carried out by `pst_script::reply_text`)
 abbrev pub text_of : Reply → List ℕ
 text_of (Version printed version) = printed_lines printed ++ codes "version " ++ decimal version.0 ++ line_end
 text_of (Answer printed) = printed_lines printed ++ codes "ok" ++ line_end

@@ -1,21 +1,53 @@
-//! The calls of a script: which procedure runs on which version, with which arguments.
+//! The calls of a script: which procedure runs on which version or in which run, with which arguments.
 ghost use Rattle.std.specs.Prelude.{◌≡◌, true, is_some, IfOk, MatchOption, Some, None, ⊤};
 ghost use Rattle.pst_script.specs.Words.{words};
-ghost use Rattle.pst_script.specs.Commands.{arguments_of, all_fit, call_of, IsCallOf, IsReadAs, judged, call_in_range};
+ghost use Rattle.pst_script.specs.Commands.{arguments_of, all_fit, called_of, on_version, to_run, IsCallOf, IsReadAs, judged, called_in_range};
 
-use crate::command::{Call, LineFault};
+use crate::command::{Call, Command, LineFault};
 use crate::names::is_name;
 use crate::numerals::{argument, is_argument, is_numeral, number};
 use crate::words::split_word;
-use pst_base::{Numbers, Text, VersionNo};
+use pst_base::{Numbers, RunNo, Text, VersionNo};
 use std::alloc::{AllocError, Global};
 
 /// The words of a call. The arguments stand in one piece.
 #[derive(Clone, Copy)]
 struct CallWords<'a> {
-    version: &'a [u8],
+    number: &'a [u8],
     procedure: &'a [u8],
     arguments: &'a [u8],
+}
+
+/// What the words of a call write: the number of a version or of a run, a procedure by its name, and arguments.
+#[derive(Debug, Drop)]
+pub struct Called {
+    pub number: u32,
+    pub procedure: Text,
+    pub arguments: Numbers,
+}
+
+impl Called {
+    /// The call on the version with the number.
+    pub(crate) fn on_version(self) -> Call
+        ensures { result ≡ on_version self }
+    {
+        Call {
+            version: VersionNo(self.number),
+            procedure: self.procedure,
+            arguments: self.arguments,
+        }
+    }
+
+    /// The command that adds the call to the run with the number.
+    pub(crate) fn to_run(self) -> Command
+        ensures { result ≡ to_run self }
+    {
+        Command::CallRun {
+            run: RunNo(self.number),
+            procedure: self.procedure,
+            arguments: self.arguments,
+        }
+    }
 }
 
 /// Whether all words are arguments.
@@ -64,38 +96,38 @@ fn read_arguments(alloc: Global, rest: &[u8]) -> Result<Numbers, AllocError>
 
 /// The words of a call. None where one of them has not the form.
 fn split_call(rest: &[u8]) -> Option<CallWords<'_>>
-    ensures { MatchOption result (call_of (words rest.now) ≡ None) (λ call. IsCallOf call.version.now call.procedure.now (words call.arguments.now) (words rest.now)) }
+    ensures { MatchOption result (called_of (words rest.now) ≡ None) (λ call. IsCallOf call.number.now call.procedure.now (words call.arguments.now) (words rest.now)) }
 {
-    let (version, behind) = split_word(rest)?;
+    let (number, behind) = split_word(rest)?;
     let (procedure, arguments) = split_word(behind)?;
-    if !is_numeral(version) || !is_name(procedure) {
+    if !is_numeral(number) || !is_name(procedure) {
         return None;
     }
     if !are_arguments(arguments) {
         return None;
     }
     Some(CallWords {
-        version,
+        number,
         procedure,
         arguments,
     })
 }
 
 /// The call that the words behind a verb are. No memory is taken before all of them are judged.
-pub(crate) fn read_call(alloc: Global, rest: &[u8]) -> Result<Call, LineFault>
-    ensures { IsReadAs (λ _. ⊤) (judged call_in_range (call_of (words rest.now))) result }
+pub(crate) fn read_called(alloc: Global, rest: &[u8]) -> Result<Called, LineFault>
+    ensures { IsReadAs (λ _. ⊤) (judged called_in_range (called_of (words rest.now))) result }
 {
     let Some(call) = split_call(rest) else {
         return Err(LineFault::Line);
     };
-    let Some(version) = number(call.version) else {
+    let Some(number) = number(call.number) else {
         return Err(LineFault::Number);
     };
     if !fit_arguments(call.arguments) {
         return Err(LineFault::Number);
     }
-    Ok(Call {
-        version: VersionNo(version),
+    Ok(Called {
+        number,
         procedure: Text::from_vec(Vec::from_slice(alloc, call.procedure)?),
         arguments: read_arguments(alloc, call.arguments)?,
     })

@@ -21,16 +21,35 @@ pub enum Command {
     Run(Call),
     /// To carry out a query.
     Query(Call),
-    /// To open a run without a charge.
+    /// To open a run with one call, without a charge.
     OpenRun(Call),
+    /// To open a run without a call on the heap of a version.
+    OpenEmpty {
+        version: VersionNo,
+    },
+    /// To add a call to an open run: a procedure by its name, with these arguments.
+    CallRun {
+        run: RunNo,
+        procedure: Text,
+        arguments: Numbers,
+    },
     /// To grant an open run more charges, from 1 to 1,000,000,000.
-    StepRun { run: RunNo, charges: u32 },
+    StepRun {
+        run: RunNo,
+        charges: u32,
+    },
     /// To carry an open run to its end and to publish its version.
-    CloseRun { run: RunNo },
+    CloseRun {
+        run: RunNo,
+    },
     /// To give an open run up.
-    DropRun { run: RunNo },
+    DropRun {
+        run: RunNo,
+    },
     /// To set the budget of the runs and queries that follow, from 1 to 1,000,000,000.
-    Budget { charges: u32 },
+    Budget {
+        charges: u32,
+    },
     /// To list the versions.
     Versions,
     /// To tell the counts.

@@ -1,4 +1,12 @@
 //! The lines of a script: the commands that they are, and the texts that answer them.
+//!
+//! A line is a list of bytes, and its words are what stands between blanks. `read_line` gives the one command that the
+//! words write, nothing for a line that has no reply, or why they write none: their form is judged first, then the
+//! ranges of their numbers. `written_one_way` is the law that each command is written in one way but for the blanks.
+//! `reply_text` gives the text of a reply, whose lines each end with a line feed.
+//!
+//! `open 3 add 7` is `OpenRun` with version 3, procedure `add` and the argument 7; `open 3` is `OpenEmpty`; the reply
+//! to either is `Opened`, and its text `run 1` where 1 is the number of the new run.
 #![tactic(auto)]
 
 mod call;
@@ -16,7 +24,7 @@ mod words;
 
 pub use command::{Call, Command, LineFault};
 pub use laws::written_one_way;
-pub use read::{is_about_open_runs, read_line};
+pub use read::read_line;
 pub use reply::{Parents, Refusal, Reply};
 pub use text::reply_text;
 pub use words::is_separator;

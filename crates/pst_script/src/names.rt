@@ -1,22 +1,12 @@
 //! The names that a program can give to its procedures.
 ghost use Rattle.std.specs.Prelude.{◌≡◌};
 ghost use Rattle.std.specs.List.{list_all};
-ghost use Rattle.pst_script.specs.Names.{is_keyword, is_name, has_name_bytes, is_name_start, is_name_byte};
+ghost use Rattle.pst_script.specs.Names.{is_name, has_name_bytes, is_name_start, is_name_byte};
+
+use pst_base::is_keyword;
 
 /// The most bytes that a name has.
 const NAME_BYTES: usize = 32;
-
-/// The words of the language itself.
-const KEYWORDS: [&[u8]; 19] = [
-    b"record", b"val", b"ptr", b"root", b"proc", b"query", b"var", b"new", b"call", b"print",
-    b"if", b"else", b"while", b"return", b"null", b"and", b"or", b"not", b"int",
-];
-
-fn is_keyword(word: &[u8]) -> bool
-    ensures { result ≡ is_keyword word.now }
-{
-    KEYWORDS.iter().any(|keyword| *keyword == word)
-}
 
 /// Whether a name can begin with the byte: a letter or an underscore.
 fn is_name_start(byte: u8) -> bool

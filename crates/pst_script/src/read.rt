@@ -1,16 +1,16 @@
 //! Reading a line of a script.
-ghost use Rattle.std.specs.Prelude.{◌≡◌, ◌≢◌, [], true, MatchOption, MatchResult, Some, None, IsSomeAnd};
+ghost use Rattle.std.specs.Prelude.{◌≡◌, ◌≢◌, [], true, MatchOption, MatchResult, Some, None, IsSomeAnd, IfOk, IfSome};
 ghost use Rattle.pst_script.specs.Words.{words};
 ghost use Rattle.pst_script.specs.Numerals.{is_numeral, number_of, fits_32_bits, fits_charges};
-ghost use Rattle.pst_script.specs.Commands.{one_number, judged, in_range, command_after, IsReadAs, HasCall, reading, is_about_open_runs};
+ghost use Rattle.pst_script.specs.Commands.{one_number, judged, in_range, command_after, IsReadAs, HasCall, reading};
 ghost use Rattle.pst_script.specs.declared.verb.Verb.TheVariants as verb_names;
 
-use crate::call::read_call;
+use crate::call::read_called;
 use crate::command::{Command, LineFault};
 use crate::numerals::{charges, is_numeral, number};
 use crate::verb::{Verb, find_verb};
 use crate::words::split_word;
-use pst_base::RunNo;
+use pst_base::{RunNo, VersionNo};
 use std::alloc::Global;
 
 /// The only word, where it is a numeral.
@@ -35,6 +35,21 @@ fn read_run(rest: &[u8]) -> Result<u32, LineFault>
         return Err(LineFault::Number);
     };
     Ok(run)
+}
+
+/// A version alone, or a call on one.
+fn read_open(alloc: Global, rest: &[u8]) -> Result<Command, LineFault>
+    ensures { IsReadAs HasCall (judged in_range (command_after (Some verb_names.Open) (words rest.now))) result }
+{
+    let Some(word) = only_numeral(rest) else {
+        return Ok(Command::OpenRun(read_called(alloc, rest)?.on_version()));
+    };
+    let Some(version) = number(word) else {
+        return Err(LineFault::Number);
+    };
+    Ok(Command::OpenEmpty {
+        version: VersionNo(version),
+    })
 }
 
 /// A number of charges, alone.
@@ -90,9 +105,10 @@ fn read_command(alloc: Global, verb: Verb, rest: &[u8]) -> Result<Command, LineF
     ensures { IsReadAs HasCall (judged in_range (command_after (Some verb) (words rest.now))) result }
 {
     match verb {
-        Verb::Run => Ok(Command::Run(read_call(alloc, rest)?)),
-        Verb::Query => Ok(Command::Query(read_call(alloc, rest)?)),
-        Verb::Open => Ok(Command::OpenRun(read_call(alloc, rest)?)),
+        Verb::Run => Ok(Command::Run(read_called(alloc, rest)?.on_version())),
+        Verb::Query => Ok(Command::Query(read_called(alloc, rest)?.on_version())),
+        Verb::Open => read_open(alloc, rest),
+        Verb::Call => Ok(read_called(alloc, rest)?.to_run()),
         Verb::Step => read_step(rest),
         Verb::Close => Ok(Command::CloseRun {
             run: RunNo(read_run(rest)?),
@@ -115,7 +131,8 @@ fn read_command(alloc: Global, verb: Verb, rest: &[u8]) -> Result<Command, LineF
 }
 
 /// What a line of a script is: None for a line without a word, and for one whose first word begins with `#`; otherwise a
-/// command, or a fault. All words are judged by their form before any number is judged by its range.
+/// command, whose numbers are in their ranges, or a fault. All words are judged by their form before any number is judged
+/// by its range.
 ///
 /// # Errors
 ///
@@ -123,7 +140,8 @@ fn read_command(alloc: Global, verb: Verb, rest: &[u8]) -> Result<Command, LineF
 /// otherwise `Memory` where there is none for the name and the arguments of a call.
 #[tactic(auto, unfolding(crate::specs::Commands::reading))]
 pub fn read_line(alloc: Global, line: &[u8]) -> Result<Option<Command>, LineFault>
-    ensures { IsReadAs (λ command. IsSomeAnd command HasCall) (reading line.now) result }
+    ensures command { IsReadAs (λ command. IsSomeAnd command HasCall) (reading line.now) result }
+    ensures range { IfOk result (λ command. IfSome command (λ c. in_range c ≡ true)) }
 {
     let Some((first, rest)) = split_word(line) else {
         return Ok(None);
@@ -135,20 +153,4 @@ pub fn read_line(alloc: Global, line: &[u8]) -> Result<Option<Command>, LineFaul
         return Err(LineFault::Line);
     };
     Ok(Some(read_command(alloc, verb, rest)?))
-}
-
-/// Whether the first word of a line is `open`, `step`, `close` or `drop`: whether the line is about runs that stay open,
-/// whatever stands behind that word.
-#[tactic(auto, unfolding(crate::specs::Commands::is_about_open_runs))]
-pub fn is_about_open_runs(line: &[u8]) -> bool
-    ensures { result ≡ is_about_open_runs line.now }
-{
-    let Some((first, _)) = split_word(line) else {
-        return false;
-    };
-    match find_verb(first) {
-        Some(Verb::Open | Verb::Step | Verb::Close | Verb::Drop) => true,
-        Some(Verb::Run | Verb::Query | Verb::Budget | Verb::Versions | Verb::Stats) => false,
-        None => false,
-    }
 }

@@ -8,6 +8,12 @@ use itoa::{Buffer, Integer};
 use pst_base::{Counts, NoMemory, Text, Trap, TrapKind, VersionNo};
 use std::alloc::Global;
 
+/// The most bytes that the line of a printed number takes.
+const PRINTED_LINE_BYTES: usize = 23;
+
+/// The most bytes that the line of a version takes.
+const VERSION_LINE_BYTES: usize = 27;
+
 /// The name of a trap in replies.
 fn trap_name(kind: TrapKind) -> &'static [u8]
     ensures { result.now ≡ trap_name kind }
@@ -36,6 +42,7 @@ fn refusal_name(refusal: Refusal) -> &'static [u8]
         Refusal::Run => b"run",
         Refusal::Runs => b"runs",
         Refusal::RunsOpen => b"open",
+        Refusal::Calls => b"calls",
     }
 }
 
@@ -58,6 +65,7 @@ fn push_number<N: Integer>(
 fn push_printed(text: &mut Vec<u8>, printed: &[i64]) -> Result<(), NoMemory>
     ensures { OnOk result (text.new.items ≡ text.old.items ++ printed_lines printed.now) }
 {
+    text.reserve(PRINTED_LINE_BYTES.saturating_mul(printed.len()))?;
     for number in printed {
         push_number(text, b"| ", *number, b"\n")?;
     }
@@ -85,6 +93,7 @@ fn push_version(text: &mut Vec<u8>, version: usize, parent: VersionNo) -> Result
 fn push_versions(text: &mut Vec<u8>, parents: &[VersionNo]) -> Result<(), NoMemory>
     ensures { OnOk result (text.new.items ≡ text.old.items ++ version_lines 1 parents.now) }
 {
+    text.reserve(VERSION_LINE_BYTES.saturating_mul(parents.len()))?;
     for (index, parent) in parents.iter().enumerate() {
         push_version(text, index + 1, *parent)?;
     }

@@ -8,6 +8,7 @@ pub enum Verb {
     Run,
     Query,
     Open,
+    Call,
     Step,
     Close,
     Drop,
@@ -26,6 +27,8 @@ pub(crate) fn find_verb(word: &[u8]) -> Option<Verb>
         Some(Verb::Query)
     } else if word == b"open".as_slice() {
         Some(Verb::Open)
+    } else if word == b"call".as_slice() {
+        Some(Verb::Call)
     } else if word == b"step".as_slice() {
         Some(Verb::Step)
     } else if word == b"close".as_slice() {

@@ -1,4 +1,4 @@
-use Rattle.std.proofs.Common.{◌≡◌, ℕ, Bool, false, List, ◌∷◌, subst, arith, Some, None, Ok, Err, Result, Option, ap, sym, ◌∙◌}
+use Rattle.std.proofs.Common.{◌≡◌, ℕ, Bool, true, false, List, ◌∷◌, subst, arith, Some, None, refl, Ok, Err, Result, Option, ap, sym, ◌∙◌}
 use Rattle.std.specs.Prelude.{IsSomeAnd, IsOkAnd, IsErrAnd, slice_index, ◌==◌, if◌then◌else◌}
 use Rattle.std.proofs.lemmas.Bool.Decides.{nat_tests}
 use Rattle.pst_script.specs.declared.command.Command.{Command}
@@ -30,7 +30,19 @@ given_on : (what : Result (Option Command) LineFault) (r : Result (Option Comman
 given_on what (Ok command) fault h k = absurd h
 given_on what (Err e) fault h k = let P : LineFault → Type 0 = λ f. IsReadAs (λ command. IsSomeAnd command HasCall) what (Err f) in subst P (sym h) k
 
-pub returns-in_err-read_command : goal.returns-in_err-read_command
-returns-in_err-read_command c =
+pub returns-in_err-read_command-clause-command : goal.returns-in_err-read_command-clause-command
+returns-in_err-read_command-clause-command c =
     let is : reading c.args.line.now ≡ read_as (judged in_range (command_after (Some c.in-Some-find_verb.verb) (words c.in-Some.rest.now))) = reading_by _ _ _ _ c.in-Some.ensures.words (grind (arith, nat_tests)) c.in-Some-find_verb.ensures in
     given_on _ _ _ c.from_residual.ensures.1 (let P : Result (Option Command) LineFault → Type 0 = λ what. IsReadAs (λ command. IsSomeAnd command HasCall) what (Err c.in_err-read_command.field-0.0) in subst P (sym is) (fault_passes _ _ c.in_err-read_command.ensures))
+
+-- a command that was judged is in its ranges
+in_its_range : (o : Option Command) (c : Command) → judged in_range o ≡ Ok c → in_range c ≡ true
+in_its_range None c h = let clash : Err Line ≡ Ok c = h in cc
+in_its_range (Some d) c h = by_range (in_range d) refl h
+  where
+    by_range : (b : Bool) → in_range d ≡ b → (if b then Ok d else Err Number) ≡ Ok c → in_range c ≡ true
+    by_range true is k = let same : d ≡ c = cc in sym (ap in_range same) ∙ is
+    by_range false is k = let clash : Err Number ≡ Ok c = k in cc
+
+pub returns-clause-range : goal.returns-clause-range
+returns-clause-range c = in_its_range (command_after (Some c.in-Some-find_verb.verb) (words c.in-Some.rest.now)) _ c.in_ok-read_command.ensures
