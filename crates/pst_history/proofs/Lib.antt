@@ -1,11 +1,14 @@
 pub mod Lists
 pub mod Heaps
 pub mod Sums
+pub mod Numbered
 pub mod Steps
 pub mod Sound
 pub mod Refusals
 pub mod After
+pub mod Room
 pub mod Apart
 pub mod Accepting
 pub mod LawLemmas
 pub mod DirectLemmas
+pub mod WorkedLemmas

@@ -1,25 +1,24 @@
 -- What holds of every history, of any program.
-use Rattle.std.specs.Prelude.{◌≡◌, ◌≢◌, ℕ, ◌+◌, ◌≤◌, length, Option, Some, None, count_by, slice_get}
+use Rattle.std.specs.Prelude.{◌≡◌, ◌≢◌, ℕ, ◌+◌, ◌<◌, ◌≤◌, ◌^◌, length, Option, Some, None, count_by, slice_get, true}
 use Rattle.pst_base.specs.declared.names.RunNo.{RunNo}
-use Rattle.pst_base.specs.Heap.{IsWellFormed, initial_heap}
+use Rattle.pst_base.specs.Heap.{Heap}
 use Rattle.pst_script.specs.declared.command.Call.{Call}
 use Rattle.pst_script.specs.declared.command.Command.{Command}
 use Rattle.pst_script.specs.declared.command.Command.TheVariants as command
+use Rattle.pst_script.specs.Commands.{in_range}
 use Rattle.pst_script.specs.declared.reply.Reply.TheVariants as answer
 use Rattle.pst_script.specs.declared.reply.Refusal.{Refusal}
 use Rattle.pst_script.specs.declared.reply.Refusal.TheVariants as because
 use Rattle.pst_history.specs.declared.history.Run.{Run}
-use Rattle.pst_history.specs.declared.history.VersionRow.{VersionRow}
-use Rattle.pst_history.specs.declared.history.History.{History}
-use Rattle.pst_program.specs.Sound.{CountsBelow}
-use Rattle.pst_program.specs.Laws.{IsOlder}
+use Rattle.pst_history.specs.declared.history.Descent.{Descent}
+use Rattle.pst_program.specs.Sound.{CountsBelow, CountsWithin}
 use Rattle.pst_history.specs.Meaning.{Meaning, IsLawful, ReadsOnly}
-use Rattle.pst_history.specs.History.{heap_of, counts_of, after, reply, refusal, IsHistory, is_open, run_at, next_run, work_of, opening}
+use Rattle.pst_history.specs.History.{Opening, History, begun, version_count, heap_of, counts_of, after, reply, refusal, IsHistory, is_open, run_at, next_run, work_of, opening}
 use Rattle.pst_base.specs.Shape.{IsValid}
 use Rattle.pst_program.specs.Syntax.{Routines}
 use Rattle.pst_program.specs.Typed.{IsTyped}
 use Rattle.pst_history.specs.Direct.{direct}
-use Rattle.pst_history.specs.Sound.{IsSound, maker}
+use Rattle.pst_history.specs.Sound.{IsOpening, IsSoundHistory, IsBefore, made_below}
 
 -- a refused command is answered by its refusal and changes nothing
 abbrev pub RefusedChangesNothing : Type 0
@@ -37,27 +36,33 @@ ReadersChangeNothing = (m : Meaning) (h : History) → ((call : Call) → after 
 abbrev pub RefusalsAreOfCommands : Type 0
 RefusalsAreOfCommands = (m : Meaning) (h : History) (c : Command) → (refusal m h c ≢ Some because.Line) × (refusal m h c ≢ Some because.Number)
 
--- what is made by commands of the opening history is sound
+-- what is made by commands of a sound opening is sound
 abbrev pub HistoriesAreSound : Type 0
-HistoriesAreSound = (m : Meaning) → IsLawful m → (h : History) → IsHistory m h → IsSound m h
+HistoriesAreSound = (m : Meaning) → IsLawful m → (o : Opening) → IsOpening m o → (h : History) → IsHistory m o h → IsSoundHistory m h
 
--- the opening history is one, and a command makes another of one
+-- the opening history is one, and a command that a line can give makes another of one
 abbrev pub HistoriesGoOn : Type 0
-HistoriesGoOn = (m : Meaning) → IsHistory m opening × ((h : History) (c : Command) → IsHistory m h → IsHistory m (after m h c))
+HistoriesGoOn = (m : Meaning) (o : Opening) → IsHistory m o (begun o) × ((h : History) (c : Command) → in_range c ≡ true → IsHistory m o h → IsHistory m o (after m h c))
 
--- each command keeps a history sound
+-- the opening of `run` is one for every lawful meaning
+abbrev pub OpeningIsSound : Type 0
+OpeningIsSound = (m : Meaning) → IsLawful m → IsOpening m (opening m.shape)
+
+-- the history of an opening is sound, and each command that a line can give keeps a history sound
 abbrev pub SoundHistoriesGoOn : Type 0
-SoundHistoriesGoOn = (m : Meaning) → IsLawful m → IsSound m opening × ((h : History) (c : Command) → IsSound m h → IsSound m (after m h c))
+SoundHistoriesGoOn = (m : Meaning) → IsLawful m → ((o : Opening) → IsOpening m o → IsSoundHistory m (begun o)) × ((h : History) (c : Command) → in_range c ≡ true → IsSoundHistory m h → IsSoundHistory m (after m h c))
 
 -- at most 64 runs are open
 abbrev pub FewRunsAreOpen : Type 0
-FewRunsAreOpen = (m : Meaning) (h : History) → IsHistory m h → count_by is_open h.runs ≤ 64
+FewRunsAreOpen = (m : Meaning) (o : Opening) (h : History) → IsHistory m o h → count_by is_open h.runs ≤ 64
 
 -- the open run that a command names
 abbrev pub named_run : Command → Option RunNo
 named_run (command.Run call) = None
 named_run (command.Query call) = None
 named_run (command.OpenRun call) = None
+named_run (command.OpenEmpty version) = None
+named_run (command.CallRun run procedure arguments) = Some run
 named_run (command.StepRun run charges) = Some run
 named_run (command.CloseRun run) = Some run
 named_run (command.DropRun run) = Some run
@@ -65,42 +70,49 @@ named_run (command.Budget charges) = None
 named_run command.Versions = None
 named_run command.Stats = None
 
--- a run keeps its call, budget, grant and state under each command that does not name it, however the runs are interleaved
+-- a run keeps its calls, budget, grant and state under each command that does not name it, however the runs are interleaved
 abbrev pub RunsKeepApart : Type 0
 RunsKeepApart = (m : Meaning) (h : History) (c : Command) (n : RunNo) (r : Run) → run_at h n.0 ≡ Some r → named_run c ≢ Some n → run_at (after m h c) n.0 ≡ Some r
 
 -- after every command the versions that were there are there, with their runs and parents, and each has the heap that it had
 pub record KeepsVersions (m : Meaning) (old new : History) : Type 0 where
-  pub rows : (i : ℕ) (v : VersionRow) → slice_get old.versions i ≡ Some v → slice_get new.versions i ≡ Some v
-  pub heaps : (k : ℕ) → k ≤ length old.versions → heap_of m new k ≡ heap_of m old k
+  pub rows : (i : ℕ) (v : Descent) → slice_get old.versions i ≡ Some v → slice_get new.versions i ≡ Some v
+  pub heaps : (k : ℕ) → k < version_count old → heap_of m new k ≡ heap_of m old k
 
 abbrev pub OldVersionsKeepTheirHeaps : Type 0
-OldVersionsKeepTheirHeaps = (m : Meaning) → IsLawful m → (h : History) (c : Command) → IsSound m h → KeepsVersions m h (after m h c)
+OldVersionsKeepTheirHeaps = (m : Meaning) → IsLawful m → (h : History) (c : Command) → IsSoundHistory m h → KeepsVersions m h (after m h c)
 
 -- after every command no count is less than before
 abbrev pub CountsNeverFall : Type 0
-CountsNeverFall = (m : Meaning) → IsLawful m → (h : History) (c : Command) → IsSound m h → CountsBelow (counts_of m h) (counts_of m (after m h c))
+CountsNeverFall = (m : Meaning) → IsLawful m → (h : History) (c : Command) → IsSoundHistory m h → CountsBelow (counts_of m h) (counts_of m (after m h c))
 
--- the run that made version i + 1, and what it made of the heap of the parent with its whole budget
-pub record IsMadeByItsRun (m : Meaning) (h : History) (i : ℕ) (v : VersionRow) : Type 0 where
+-- the counts of the opening are at most 2^50, and 1,048,576 runs with at most 1,000,000,000 charges each count no more than that
+abbrev pub CountsAreFew : Type 0
+CountsAreFew = (m : Meaning) → IsLawful m → (h : History) → IsSoundHistory m h → CountsWithin (counts_of m h) (2 ^ 51)
+
+-- the run that made version k, and what it made of the heap of the parent with its whole budget
+pub record IsMadeByItsRun (m : Meaning) (h : History) (k : ℕ) (v : Descent) : Type 0 where
   pub run : Run
   pub found : run_at h v.run.0 ≡ Some run
-  pub parent : v.parent.0 ≤ i
-  pub version : run.call.version ≡ v.parent
-  pub heap : heap_of m h (i + 1) ≡ (m.outcome (work_of v.run.0 run) run.budget (heap_of m h v.parent.0)).heap
+  pub parent : v.parent.0 < k
+  pub version : run.parent ≡ v.parent
+  pub heap : heap_of m h k ≡ (m.outcome (work_of v.run.0 run) run.budget (heap_of m h v.parent.0)).heap
 
--- version 0 has the root record alone, and each further version is what its own run makes of its parent
+-- the heaps of the opening are given, and each further version is what its own run makes of its parent
+pub record VersionsAreMade (m : Meaning) (h : History) : Type 0 where
+  pub given : (k : ℕ) (heap : Heap) → slice_get h.start.heaps k ≡ Some heap → heap_of m h k ≡ heap
+  pub made : (i : ℕ) (v : Descent) → slice_get h.versions i ≡ Some v → IsMadeByItsRun m h (length h.start.heaps + i) v
+
 abbrev pub VersionIsMadeByItsRun : Type 0
-VersionIsMadeByItsRun = (m : Meaning) (h : History) → IsSound m h → (heap_of m h 0 ≡ initial_heap m.shape) × ((i : ℕ) (v : VersionRow) → slice_get h.versions i ≡ Some v → IsMadeByItsRun m h i v)
+VersionIsMadeByItsRun = (m : Meaning) (h : History) → IsSoundHistory m h → VersionsAreMade m h
 
 -- the heap of each version is well formed, and none of its records is of a later run than the version's own
 pub record IsAged (m : Meaning) (h : History) (k : ℕ) : Type 0 where
-  pub well_formed : IsWellFormed m.shape (heap_of m h k)
-  pub older : IsOlder (heap_of m h k) (maker h.versions k + 1)
-  pub before_next : IsOlder (heap_of m h k) (next_run h)
+  pub mine : IsBefore m (heap_of m h k) (made_below h.start h.versions k)
+  pub before_next : IsBefore m (heap_of m h k) (next_run h)
 
 abbrev pub HeapsAreWellFormed : Type 0
-HeapsAreWellFormed = (m : Meaning) → IsLawful m → (h : History) → IsSound m h → (k : ℕ) → k ≤ length h.versions → IsAged m h k
+HeapsAreWellFormed = (m : Meaning) → IsLawful m → (h : History) → IsSoundHistory m h → (k : ℕ) → k < version_count h → IsAged m h k
 
 -- ---- the meaning of a program by its tree
 

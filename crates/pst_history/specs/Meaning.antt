@@ -1,39 +1,38 @@
 -- What a history needs to know of a program: its record types, its procedures, and what a run comes to.
 -- A program has such a meaning by its tree, and compiled code by its instructions: all that is said of histories holds of both.
-use Rattle.std.specs.Prelude.{◌≡◌, ◌≢◌, ◌⊎◌, ℕ, ◌+◌, ◌≤◌, List, [], ◌∷◌, Option, Some, None, IsTrue, Bool, true, false, not, ℤ, if◌then◌else◌}
+use Rattle.std.specs.Prelude.{◌≡◌, ◌≢◌, ◌⊎◌, ℕ, ◌+◌, ◌≤◌, List, [], ◌∷◌, ◌++◌, slice_get, Option, Some, None, IsTrue, Bool, true, false, not, ℤ, if◌then◌else◌}
 use Rattle.pst_base.specs.declared.names.RunNo.{RunNo}
 use Rattle.pst_base.specs.declared.names.Kind.{Kind}
 use Rattle.pst_base.specs.declared.names.Kind.TheVariants.{Int, Pointer}
-use Rattle.pst_base.specs.declared.names.Counts.{Counts}
 use Rattle.pst_base.specs.declared.shape.TypeShape.{TypeShape}
 use Rattle.pst_base.specs.Heap.{Heap, IsWellFormed}
 use Rattle.pst_base.specs.Shape.{IsValid}
 use Rattle.pst_script.specs.declared.reply.Refusal.{Refusal}
 use Rattle.pst_script.specs.declared.reply.Refusal.TheVariants as because
-use Rattle.pst_program.specs.Outcome.{Outcome}
+use Rattle.pst_program.specs.Outcome.{Outcome, left, first_world}
 use Rattle.pst_program.specs.Sound.{CountsBelow, CountsWithin}
 use Rattle.pst_program.specs.Laws.{IsOlder}
-use Rattle.pst_program.specs.declared.meaning.Ended.TheVariants.{Stopped}
+use Rattle.pst_program.specs.declared.meaning.Ended.TheVariants.{Stopped, Done, Trapped}
+use Rattle.pst_base.specs.declared.names.Trap.{Trap}
+use Rattle.pst_history.specs.declared.history.NamedCall.{NamedCall}
 
--- what is executed: a procedure by name with its arguments, under a run number and a budget
+-- what is executed: calls in order, each of a procedure by name with its arguments, under a run number and one budget
 pub record Work : Type 0 where
   pub run : RunNo
-  pub procedure : List ℕ
-  pub arguments : List ℤ
+  pub calls : List NamedCall
   pub budget : ℕ
 
+-- the same with more calls
+abbrev pub with_calls : Work → List NamedCall → Work
+with_calls w more = record w { calls = w.calls ++ more }
+
 -- the meaning of a program: its record types, the parameters of a procedure that may write and of a query by their names,
--- and the outcome of some work with the charges granted so far on a heap
+-- and the outcome of work with the charges granted so far on a heap
 pub record Meaning : Type 0 where
   pub shape : List TypeShape
   pub proc : List ℕ → Option (List Kind)
   pub query : List ℕ → Option (List Kind)
   pub outcome : Work → ℕ → Heap → Outcome
-
--- ---- counts
-
-abbrev pub counts_plus : Counts → Counts → Counts
-counts_plus a b = record { records = a.records + b.records; pointer_writes = a.pointer_writes + b.pointer_writes; value_writes = a.value_writes + b.value_writes }
 
 -- ---- arguments
 
@@ -60,12 +59,16 @@ kinds_refusal (Some kinds) xs = when (not (fits kinds xs)) because.Arguments
 
 -- ---- lawful meanings
 
--- what is executed is a procedure or a query of the program, with arguments that fit
+-- each procedure is there, and the arguments fit it
+abbrev pub AllFit : (List ℕ → Option (List Kind)) → List NamedCall → Type 0
+AllFit kinds calls = (i : ℕ) (c : NamedCall) → slice_get calls i ≡ Some c → IsTrue (fits_one (kinds c.procedure) c.arguments)
+
+-- what is executed are procedures that may write, or queries, of the program, with arguments that fit
 abbrev pub IsWork : Meaning → Work → Type 0
-IsWork m w = IsTrue (fits_one (m.proc w.procedure) w.arguments) ⊎ IsTrue (fits_one (m.query w.procedure) w.arguments)
+IsWork m w = AllFit m.proc w.calls ⊎ AllFit m.query w.calls
 
 -- the work can be done on the heap, which is well formed and older than the run
-pub record IsReady (m : Meaning) (w : Work) (h : Heap) : Type 0 where
+pub record CanBeDone (m : Meaning) (w : Work) (h : Heap) : Type 0 where
   pub well_formed : IsWellFormed m.shape h
   pub older : IsOlder h w.run.0
   pub work : IsWork m w
@@ -74,17 +77,21 @@ pub record IsReady (m : Meaning) (w : Work) (h : Heap) : Type 0 where
 pub record IsLawful (m : Meaning) : Type 0 where
   pub valid : IsValid m.shape
   -- the heap stays well formed, and its new records bear the number of the run
-  pub well_formed : (w : Work) (granted : ℕ) (h : Heap) → IsReady m w h → IsWellFormed m.shape (m.outcome w granted h).heap
-  pub names : (w : Work) (granted : ℕ) (h : Heap) → IsReady m w h → IsOlder (m.outcome w granted h).heap (w.run.0 + 1)
+  pub well_formed : (w : Work) (granted : ℕ) (h : Heap) → CanBeDone m w h → IsWellFormed m.shape (m.outcome w granted h).heap
+  pub names : (w : Work) (granted : ℕ) (h : Heap) → CanBeDone m w h → IsOlder (m.outcome w granted h).heap (w.run.0 + 1)
   -- the whole budget brings it to an end
-  pub ends : (w : Work) (h : Heap) → IsReady m w h → (m.outcome w w.budget h).end ≢ Stopped
+  pub ends : (w : Work) (h : Heap) → CanBeDone m w h → (m.outcome w w.budget h).end ≢ Stopped
+  -- where nothing is called, it has ended on the heap that it began with
+  pub idle : (run : RunNo) (budget k : ℕ) (h : Heap) → m.outcome (record { run = run; calls = []; budget = budget }) k h ≡ left Done (first_world run 0 h)
   -- each charge counts for one at most
-  pub few : (w : Work) (k : ℕ) (h : Heap) → IsReady m w h → CountsWithin (m.outcome w k h).counts w.budget
-  -- more charges count no less
-  pub counts : (w : Work) (k n : ℕ) (h : Heap) → IsReady m w h → k ≤ n → CountsBelow (m.outcome w k h).counts (m.outcome w n h).counts
+  pub few : (w : Work) (k : ℕ) (h : Heap) → CanBeDone m w h → CountsWithin (m.outcome w k h).counts w.budget
+  -- more charges and more calls count no less
+  pub counts : (w : Work) (more : List NamedCall) (k n : ℕ) (h : Heap) → CanBeDone m (with_calls w more) h → k ≤ n → CountsBelow (m.outcome w k h).counts (m.outcome (with_calls w more) n h).counts
   -- more charges change nothing of a run that ended
-  pub over : (w : Work) (k n : ℕ) (h : Heap) → IsReady m w h → k ≤ n → (m.outcome w k h).end ≢ Stopped → m.outcome w n h ≡ m.outcome w k h
+  pub over : (w : Work) (k n : ℕ) (h : Heap) → CanBeDone m w h → k ≤ n → (m.outcome w k h).end ≢ Stopped → m.outcome w n h ≡ m.outcome w k h
+  -- and more calls nothing of one that has trapped
+  pub trapped : (w : Work) (more : List NamedCall) (k : ℕ) (h : Heap) (t : Trap) → CanBeDone m (with_calls w more) h → (m.outcome w k h).end ≡ Trapped t → m.outcome (with_calls w more) k h ≡ m.outcome w k h
 
--- a query writes nothing
+-- queries write nothing
 abbrev pub ReadsOnly : Meaning → Type 0
-ReadsOnly m = (w : Work) (granted : ℕ) (h : Heap) → IsTrue (fits_one (m.query w.procedure) w.arguments) → (m.outcome w granted h).heap ≡ h
+ReadsOnly m = (w : Work) (granted : ℕ) (h : Heap) → AllFit m.query w.calls → (m.outcome w granted h).heap ≡ h

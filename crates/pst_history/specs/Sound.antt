@@ -1,39 +1,66 @@
 -- What is so of every history.
-use Rattle.std.specs.Prelude.{◌≡◌, ℕ, ◌+◌, ◌<◌, ◌≤◌, List, Option, Some, None, IsTrue, length, zero, suc, slice_get, count_by}
+use Rattle.std.specs.Prelude.{◌≡◌, ℕ, ◌+◌, ◌<◌, ◌≤◌, ◌^◌, List, Option, Some, None, length, slice_get, count_by}
+use Rattle.pst_base.specs.Heap.{Heap, IsWellFormed}
+use Rattle.pst_program.specs.Sound.{CountsWithin}
+use Rattle.pst_program.specs.Laws.{IsOlder}
 use Rattle.pst_history.specs.declared.history.RunState.TheVariants.{Closed}
 use Rattle.pst_history.specs.declared.history.Run.{Run}
-use Rattle.pst_history.specs.declared.history.VersionRow.{VersionRow}
-use Rattle.pst_history.specs.declared.history.History.{History}
-use Rattle.pst_history.specs.Meaning.{Meaning, fits_one}
-use Rattle.pst_history.specs.History.{numbered_run, is_open}
+use Rattle.pst_history.specs.declared.history.Descent.{Descent}
+use Rattle.pst_history.specs.Meaning.{Meaning, AllFit}
+use Rattle.pst_history.specs.History.{Opening, History, numbered, next_run, version_count, is_open}
 
-abbrev pub run_number : Option VersionRow → ℕ
-run_number None = 0
-run_number (Some v) = v.run.0
+-- well formed, and with no record of a run from this number on
+pub record IsBefore (m : Meaning) (heap : Heap) (run : ℕ) : Type 0 where
+  pub well_formed : IsWellFormed m.shape heap
+  pub older : IsOlder heap run
 
--- the number of the run that made a version, 0 for version 0
-abbrev pub maker : List VersionRow → ℕ → ℕ
-maker versions zero = 0
-maker versions (suc i) = run_number (slice_get versions i)
+-- charges that can stand as a budget: from 1 to 1,000,000,000
+abbrev pub IsBudget : ℕ → Type 0
+IsBudget charges = (0 < charges) × (charges ≤ 1000000000)
 
--- run n: its version is there and older, its arguments fit
-pub record IsSoundRun (m : Meaning) (versions : List VersionRow) (n : ℕ) (r : Run) : Type 0 where
+-- what a script can begin with
+pub record IsOpening (m : Meaning) (o : Opening) : Type 0 where
+  pub next : 0 < o.next_run
+  pub few : o.next_run ≤ 1048577
+  pub budget : IsBudget o.budget
+  pub counts : CountsWithin o.counts (2 ^ 50)
+  pub same : length o.heaps ≡ length o.versions + 1
+  -- version 0 has no run
+  pub few_versions : length o.heaps ≤ o.next_run
+  pub parents : (i : ℕ) (v : Descent) → slice_get o.versions i ≡ Some v → v.parent.0 ≤ i
+  pub heaps : (k : ℕ) (heap : Heap) → slice_get o.heaps k ≡ Some heap → IsBefore m heap o.next_run
+
+-- one more than the number of the run that made a version
+abbrev pub behind : (next : ℕ) → Option Descent → ℕ
+behind next None = next
+behind next (Some v) = v.run.0 + 1
+
+-- a number that all runs are below that made records of a version: for those of the opening its next run number
+abbrev pub made_below : Opening → List Descent → ℕ → ℕ
+made_below o versions k = behind o.next_run (numbered (length o.heaps) versions k)
+
+-- run n: its version is there and older, its calls fit
+pub record IsSoundRun (m : Meaning) (o : Opening) (versions : List Descent) (n : ℕ) (r : Run) : Type 0 where
+  pub budget : IsBudget r.budget
   pub granted : r.granted ≤ r.budget
-  pub version : r.call.version.0 ≤ length versions
-  pub older : maker versions r.call.version.0 < n
-  pub fits : IsTrue (fits_one (m.proc r.call.procedure) r.call.arguments)
+  pub version : r.parent.0 < length o.heaps + length versions
+  pub older : made_below o versions r.parent.0 ≤ n
+  pub few : length r.calls ≤ 1024
+  pub fits : AllFit m.proc r.calls
 
--- version i + 1: its parent is below it, and its run is a closed one that worked on that parent
-pub record IsSoundVersion (runs : List Run) (i : ℕ) (v : VersionRow) : Type 0 where
-  pub parent : v.parent.0 ≤ i
+-- version k: its parent is below it, and its run is a closed one that worked on that parent
+pub record IsSoundVersion (o : Opening) (runs : List Run) (k : ℕ) (v : Descent) : Type 0 where
+  pub parent : v.parent.0 < k
   pub run : Run
-  pub found : numbered_run runs v.run.0 ≡ Some run
-  pub same : run.call.version ≡ v.parent
+  pub found : numbered o.next_run runs v.run.0 ≡ Some run
+  pub same : run.parent ≡ v.parent
   pub closed : run.state ≡ Closed
 
-pub record IsSound (m : Meaning) (h : History) : Type 0 where
-  pub few : length h.runs ≤ 1048576
+pub record IsSoundHistory (m : Meaning) (h : History) : Type 0 where
+  pub start : IsOpening m h.start
+  pub budget : IsBudget h.budget
+  pub few : next_run h ≤ 1048577
   -- a version has a run of its own, which is not open
-  pub few_versions : length h.versions + count_by is_open h.runs ≤ length h.runs
-  pub runs : (i : ℕ) (r : Run) → slice_get h.runs i ≡ Some r → IsSoundRun m h.versions (suc i) r
-  pub versions : (i : ℕ) (v : VersionRow) → slice_get h.versions i ≡ Some v → IsSoundVersion h.runs i v
+  pub few_versions : version_count h + count_by is_open h.runs ≤ next_run h
+  pub runs : (i : ℕ) (r : Run) → slice_get h.runs i ≡ Some r → IsSoundRun m h.start h.versions (h.start.next_run + i) r
+  pub versions : (i : ℕ) (v : Descent) → slice_get h.versions i ≡ Some v → IsSoundVersion h.start h.runs (length h.start.heaps + i) v

@@ -1,10 +1,8 @@
-//! What the history of a script keeps: its runs and its versions, but no heap.
+//! What the history of a script keeps: its runs and its versions since the opening, but no heap.
 
-ghost use Rattle.std.specs.Prelude.{◌≡◌};
-ghost use Rattle.pst_history.specs.History.{opening};
+ghost use Rattle.std.specs.Prelude.{◌≡◌, []};
 
-use pst_base::{RunNo, VersionNo};
-use pst_script::Call;
+use pst_base::{Numbers, RunNo, Text, VersionNo};
 use std::alloc::Global;
 use std::marker::Model;
 
@@ -17,6 +15,9 @@ pub const RUNS: usize = 1_048_576;
 /// The most runs that are open at once.
 pub const OPEN_RUNS: usize = 64;
 
+/// The most calls of a run.
+pub const CALLS: usize = 1_024;
+
 /// Whether a run goes on.
 #[derive(Clone, Copy, Debug, PartialEq, Eq)]
 pub enum RunState {
@@ -28,10 +29,34 @@ pub enum RunState {
     Dropped,
 }
 
-/// A run: what it executes, the budget that stood when it was opened, and the charges granted so far, at most the budget.
+/// A call of a run: a procedure by its name, with its arguments.
+#[derive(Debug, Drop)]
+pub struct NamedCall {
+    pub procedure: Text,
+    pub arguments: Numbers,
+}
+
+/// The calls of a run, in order.
+#[derive(Debug, Drop)]
+pub struct NamedCalls {
+    pub items: Vec<NamedCall>,
+}
+
+impl Model for NamedCalls {
+    ghost use Rattle.std.specs.Prelude.{List};
+    ghost use Rattle.pst_history.specs.declared.history.NamedCall.{NamedCall};
+
+    ghost Value = { List NamedCall };
+
+    ghost view = { λ a. a.items.items };
+}
+
+/// A run: the version on whose heap it works, its calls, the budget that stood when it was opened, and the charges granted
+/// so far, at most the budget.
 #[derive(Debug, Drop)]
 pub struct Run {
-    pub call: Call,
+    pub parent: VersionNo,
+    pub calls: NamedCalls,
     pub budget: u32,
     pub granted: u32,
     pub state: RunState,
@@ -39,12 +64,12 @@ pub struct Run {
 
 /// A version after 0: the run that made it, and the version on whose heap that run worked.
 #[derive(Clone, Copy, Debug, PartialEq, Eq)]
-pub struct VersionRow {
+pub struct Descent {
     pub run: RunNo,
     pub parent: VersionNo,
 }
 
-/// The runs by number, from 1.
+/// Runs by number, from the first since the opening.
 #[derive(Debug, Drop)]
 pub struct Runs {
     pub items: Vec<Run>,
@@ -59,41 +84,42 @@ impl Model for Runs {
     ghost view = { λ a. a.items.items };
 }
 
-/// The versions by number, from 1. Version 0 has no run and no parent.
+/// Versions by number, from the first since the opening.
 #[derive(Debug, Drop)]
-pub struct VersionRows {
-    pub items: Vec<VersionRow>,
+pub struct Descents {
+    pub items: Vec<Descent>,
 }
 
-impl Model for VersionRows {
+impl Model for Descents {
     ghost use Rattle.std.specs.Prelude.{List};
-    ghost use Rattle.pst_history.specs.declared.history.VersionRow.{VersionRow};
+    ghost use Rattle.pst_history.specs.declared.history.Descent.{Descent};
 
-    ghost Value = { List VersionRow };
+    ghost Value = { List Descent };
 
     ghost view = { λ a. a.items.items };
 }
 
-/// The history of a script: the budget that stands, the runs and the versions. The next run number is one more than the
-/// number of runs.
+/// What a script has made of an opening: the budget that stands, and the runs and versions since.
 #[derive(Debug, Drop)]
-pub struct History {
+pub struct Since {
     pub budget: u32,
     pub runs: Runs,
-    pub versions: VersionRows,
+    pub versions: Descents,
 }
 
-impl History {
-    /// The history before the first command: the first budget, no run, and version 0 alone. It takes no memory.
-    pub fn opening(alloc: Global) -> History
-        ensures { result ≡ opening }
+impl Since {
+    /// Nothing since the opening of `run`. It takes no memory.
+    pub fn nothing(alloc: Global) -> Since
+        ensures budget { result.budget ≡ 1000000 }
+        ensures runs { result.runs ≡ [] }
+        ensures versions { result.versions ≡ [] }
     {
-        History {
+        Since {
             budget: BUDGET,
             runs: Runs {
                 items: Vec::new(alloc),
             },
-            versions: VersionRows {
+            versions: Descents {
                 items: Vec::new(alloc),
             },
         }

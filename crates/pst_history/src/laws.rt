@@ -1,7 +1,7 @@
 //! What holds of every history, whatever the program. These functions have no code: each is a fact for those who build on
 //! the definitions. That a command has one reply, and a history one heap of each version, is because both are functions.
 
-ghost use Rattle.pst_history.specs.Laws.{RefusedChangesNothing, OnlyRefusedAreRefused, ReadersChangeNothing, RefusalsAreOfCommands, HistoriesAreSound, HistoriesGoOn, SoundHistoriesGoOn, FewRunsAreOpen, RunsKeepApart, OldVersionsKeepTheirHeaps, CountsNeverFall, VersionIsMadeByItsRun, HeapsAreWellFormed, DirectIsLawful, DirectReadsOnly};
+ghost use Rattle.pst_history.specs.Laws.{RefusedChangesNothing, OnlyRefusedAreRefused, ReadersChangeNothing, RefusalsAreOfCommands, HistoriesAreSound, HistoriesGoOn, OpeningIsSound, SoundHistoriesGoOn, FewRunsAreOpen, RunsKeepApart, OldVersionsKeepTheirHeaps, CountsNeverFall, CountsAreFew, VersionIsMadeByItsRun, HeapsAreWellFormed, DirectIsLawful, DirectReadsOnly};
 
 /// A refused command is answered by its refusal, and changes nothing.
 pub fn refused_changes_nothing()
@@ -23,19 +23,21 @@ pub fn refusals_are_of_commands()
     ensures { RefusalsAreOfCommands }
 {}
 
-/// A history that commands made of the opening one is sound.
+/// A history that commands made of a sound opening is sound: each has numbers that a line of a script can give.
 pub fn histories_are_sound()
     ensures { HistoriesAreSound }
 {}
 
-/// The opening history is one of every program, and so is the history after a command.
+/// The history of an opening is one of every program, and so is the history after a command that a line can give.
 pub fn histories_go_on()
     ensures { HistoriesGoOn }
 {}
 
-/// The opening history is sound, and each command keeps a history sound.
+/// The opening of `run` is sound, so is the history of each sound opening, and each command that a line can
+/// give keeps a history sound.
 pub fn sound_histories_go_on()
-    ensures { SoundHistoriesGoOn }
+    ensures opening { OpeningIsSound }
+    ensures on { SoundHistoriesGoOn }
 {}
 
 /// At most 64 runs are open.
@@ -58,7 +60,12 @@ pub fn counts_never_fall()
     ensures { CountsNeverFall }
 {}
 
-/// Version 0 has the root record alone, and the heap of each further version is what its own run makes of its parent's.
+/// No count of a history is above 2^51.
+pub fn counts_are_few()
+    ensures { CountsAreFew }
+{}
+
+/// The heaps of the opening are given, and the heap of each further version is what its own run makes of its parent's.
 pub fn version_is_made_by_its_run()
     ensures { VersionIsMadeByItsRun }
 {}

@@ -1,13 +1,27 @@
 //! The history of a script: its runs and versions, the heap of each version, and the reply to each command.
+//!
+//! Model: an opening (versions with their heaps, the next run, a budget, counts) and what came since (`specs/History`). What a
+//! program means is a parameter (`specs/Meaning`); the direct meaning is one.
+//!
+//! Contract: the laws, for every opening. Old versions keep their heaps, no count falls, a refused command changes nothing, runs
+//! keep apart, and a version is made by its own run on its parent's heap.
+//!
+//!     after m h line    the history after a command
+//!     reply m h line    the reply to it
 #![tactic(auto)]
 
 mod history;
 mod laws;
+mod worked;
 
-pub use history::{BUDGET, History, OPEN_RUNS, RUNS, Run, RunState, Runs, VersionRow, VersionRows};
+pub use history::{
+    BUDGET, CALLS, Descent, Descents, NamedCall, NamedCalls, OPEN_RUNS, RUNS, Run, RunState, Runs,
+    Since,
+};
 pub use laws::{
-    counts_never_fall, direct_is_lawful, direct_reads_only, few_runs_are_open,
+    counts_are_few, counts_never_fall, direct_is_lawful, direct_reads_only, few_runs_are_open,
     heaps_are_well_formed, histories_are_sound, histories_go_on, old_versions_keep_their_heaps,
     only_refused_are_refused, readers_change_nothing, refusals_are_of_commands,
     refused_changes_nothing, runs_keep_apart, sound_histories_go_on, version_is_made_by_its_run,
 };
+pub use worked::{open_runs_by_hand, several_calls_by_hand};
