@@ -1,6 +1,7 @@
 pub mod Paths
 pub mod Totals
 pub mod Fitting
-pub mod Calling
-pub mod Closing
-pub mod Sample
+pub mod Progress
+pub mod Queries
+pub mod Counting
+pub mod Opening

@@ -1,30 +1,56 @@
 -- What the calls of a replayer come to.
-use Rattle.std.specs.Prelude.{◌≡◌, ◌<◌, ◌≤◌, ℕ, List, [], ◌∷◌, Option, Some, None, length, zero, suc, slice_get, unwrap_or, position, bytes_eq, Bool, true, false}
-use Rattle.pst_base.specs.declared.names.RunNo.{RunNo}
+use Rattle.std.specs.Prelude.{◌≡◌, ◌<◌, ◌≤◌, ℕ, ◌+◌, ◌-◌, List, [], ◌∷◌, Option, Some, None, length, zero, suc, slice_get, count_by, Bool, true, false}
+use Rattle.pst_base.specs.declared.names.VersionNo.{VersionNo}
 use Rattle.pst_base.specs.declared.names.Kind.{Kind}
 use Rattle.pst_base.specs.declared.names.Kind.TheVariants.{Int, Pointer}
-use Rattle.pst_program.specs.declared.program.TypedProc.{TypedProc}
-use Rattle.pst_script.specs.declared.command.Call.{Call}
-use Rattle.pst_script.specs.declared.command.Command.{Command}
-use Rattle.pst_script.specs.declared.reply.Reply.{Reply}
+use Rattle.pst_base.specs.declared.shape.TypeShape.{TypeShape}
+use Rattle.pst_program.specs.declared.program.Program.{Program}
 use Rattle.pst_program.specs.Outcome.{Outcome}
-use Rattle.pst_history.specs.declared.history.VersionRow.{VersionRow}
-use Rattle.pst_history.specs.declared.history.History.{History}
-use Rattle.pst_history.specs.Meaning.{Meaning, Work}
-use Rattle.pst_history.specs.History.{reply, after}
+use Rattle.pst_script.specs.declared.command.Command.{Command}
+use Rattle.pst_script.specs.declared.command.Command.TheVariants as command
+use Rattle.pst_script.specs.declared.reply.Reply.{Reply}
+use Rattle.pst_history.specs.declared.history.Descent.{Descent}
+use Rattle.pst_history.specs.declared.history.NamedCall.{NamedCall}
+use Rattle.pst_history.specs.declared.history.Run.{Run}
+use Rattle.pst_history.specs.declared.history.Since.{Since}
+use Rattle.pst_history.specs.Meaning.{Meaning}
+use Rattle.pst_history.specs.History.{History, opening, since, is_open, with_run, run_at, opened, reply, after}
+use Rattle.pst_history.specs.Sound.{IsSoundHistory}
+use Rattle.pst_history.specs.Direct.{meaning_of}
 use Rattle.pst_eval.specs.declared.whole.Outcome.{Outcome as Told}
+use Rattle.pst_replay.specs.declared.replayer.Replayer.{Replayer}
 
--- a call under a run number and a budget
-abbrev pub work_for : RunNo → Call → (budget : ℕ) → Work
-work_for run call budget = record { run = run; procedure = call.procedure; arguments = call.arguments; budget = budget }
+-- what is kept, as a history: it began with version 0 alone
+abbrev pub kept : List TypeShape → Since → History
+kept shape s = since (opening shape) s
 
--- the number of the first procedure with a name; past the last, where there is none
-abbrev pub number_in : List TypedProc → (name : List ℕ) → ℕ
-number_in procedures name = unwrap_or (position (λ p. bytes_eq p.name name) procedures) (length procedures)
+-- the history that is kept for a program
+abbrev pub kept_for : Program → Since → History
+kept_for program s = kept (meaning_of program).shape s
 
-abbrev pub is_number : Kind → Bool
-is_number Int = true
-is_number (Pointer ty) = false
+-- a replayer that may answer another command of a program: it keeps a history, and how many of its runs are open
+pub record MayApply (program : Program) (r : Replayer) : Type 0 where
+  pub sound : IsSoundHistory (meaning_of program) (kept_for program r.history)
+  pub counted : r.open_runs ≡ count_by is_open r.history.runs
+
+-- how many runs are open after a command that is not refused
+abbrev pub open_after : ℕ → Command → ℕ
+open_after n (command.Run call) = n
+open_after n (command.Query call) = n
+open_after n (command.OpenRun call) = n + 1
+open_after n (command.OpenEmpty version) = n + 1
+open_after n (command.CallRun run procedure arguments) = n
+open_after n (command.StepRun run charges) = n
+open_after n (command.CloseRun run) = n - 1
+open_after n (command.DropRun run) = n - 1
+open_after n (command.Budget charges) = n
+open_after n command.Versions = n
+open_after n command.Stats = n
+
+-- the command is answered, and the history is that after it
+pub record Answers (m : Meaning) (old : History) (c : Command) (r : Reply) (new : History) : Type 0 where
+  pub reply : r ≡ reply m old c
+  pub after : new ≡ after m old c
 
 -- what is told of an outcome: all but its heap
 pub record IsEnd (o : Outcome) (e : Told) : Type 0 where
@@ -32,27 +58,36 @@ pub record IsEnd (o : Outcome) (e : Told) : Type 0 where
   pub printed : e.printed ≡ o.printed
   pub counts : e.counts ≡ o.counts
 
--- the command is answered, and the history is that after it
-pub record Answers (m : Meaning) (old : History) (c : Command) (r : Reply) (new : History) : Type 0 where
-  pub reply : r ≡ reply m old c
-  pub after : new ≡ after m old c
+-- a run more, and nothing else
+abbrev pub Opens : VersionNo → List NamedCall → (old new : Since) → Type 0
+Opens version calls old new = (shape : List TypeShape) → kept shape new ≡ opened (kept shape old) version calls
 
-abbrev pub parent_number : Option VersionRow → ℕ
+-- the run with a number is changed, and nothing else
+abbrev pub Changes : (Run → Run) → ℕ → (old new : Since) → Type 0
+Changes f n old new = (shape : List TypeShape) → kept shape new ≡ with_run (kept shape old) n f (run_at (kept shape old) n)
+
+abbrev pub is_number : Kind → Bool
+is_number Int = true
+is_number (Pointer ty) = false
+
+-- ---- paths
+
+abbrev pub parent_number : Option Descent → ℕ
 parent_number None = 0
 parent_number (Some v) = v.parent.0
 
 -- the number of the parent of a version
-abbrev pub parent_in : List VersionRow → ℕ → ℕ
+abbrev pub parent_in : List Descent → ℕ → ℕ
 parent_in versions zero = 0
 parent_in versions (suc i) = parent_number (slice_get versions i)
 
 -- the versions from one down to another, without the other, each followed by its parent
-abbrev pub IsPath : List VersionRow → (from to : ℕ) → List ℕ → Type 0
+abbrev pub IsPath : List Descent → (from to : ℕ) → List ℕ → Type 0
 IsPath versions from to [] = to ≡ from
 IsPath versions from to (v ∷ path) = (v ≡ to) × (0 < v) × (v ≤ length versions) × IsPath versions from (parent_in versions v) path
 
 -- the last version of a path that ends with this one
-pub record IsFirst (versions : List VersionRow) (from to : ℕ) (path : List ℕ) (v : ℕ) : Type 0 where
+pub record IsFirst (versions : List Descent) (from to : ℕ) (path : List ℕ) (v : ℕ) : Type 0 where
   pub parent : parent_in versions v ≡ from
   pub above : 0 < v
   pub there : v ≤ length versions

@@ -1,74 +1,75 @@
 //! The answers to commands that are not refused.
 
-ghost use Rattle.std.specs.Prelude.{◌≡◌, ◌^◌, IfOk, IsSome, None, Some};
+ghost use Rattle.std.specs.Prelude.{◌≡◌, ◌^◌, IfOk, OnOk, IsSome, None, Some};
 ghost use Rattle.pst_program.specs.View.{routines_of};
 ghost use Rattle.pst_program.specs.Typed.{IsTyped};
-ghost use Rattle.pst_history.specs.declared.history.Run.{Run};
 ghost use Rattle.pst_program.specs.Sound.{CountsWithin};
-ghost use Rattle.pst_history.specs.Meaning.{counts_plus};
-ghost use Rattle.pst_history.specs.History.{heap_of, refusal, run_at, queried_as, work_of, new_run, next_run, run_counts, counts_of, answered, changed};
-ghost use Rattle.pst_history.specs.Accepted.{IsAccepted};
-ghost use Rattle.pst_history.specs.Sound.{IsSound};
+ghost use Rattle.pst_script.specs.declared.command.Command.TheVariants as command;
+ghost use Rattle.pst_history.specs.declared.history.Run.{Run};
+ghost use Rattle.pst_base.specs.Counts.{counts_plus};
+ghost use Rattle.pst_history.specs.History.{refusal, run_at, run_counts, counts_of, queried, answered, changed};
+ghost use Rattle.pst_history.specs.Sound.{IsSoundHistory};
 ghost use Rattle.pst_history.specs.Direct.{meaning_of};
+ghost use Rattle.pst_replay.specs.Replay.{kept_for};
 
-use crate::path::worked;
-use crate::rows::{copy_of, give_up, next_number, open, parents, run_of};
-use crate::runs::{close, run, step};
+use crate::path::{outcome_under, worked};
+use crate::rows::{give_up, next_number, one_call, parents};
+use crate::runs::{begin, call, close, run, step};
 use pst_base::{Counts, NoMemory, RunNo};
-use pst_history::History;
+use pst_eval::Outcome;
+use pst_history::{NamedCalls, Run, RunState, Since};
 use pst_program::{Ended, Program};
 use pst_script::{Call, Command, Reply};
 use std::alloc::Global;
 
-/// Answers a query, which is given the next run number and does not take it.
-fn query(
-    alloc: Global,
-    program: &Program,
-    history: &History,
-    call: &Call,
-) -> Result<Reply, NoMemory>
-    requires typed { IsTyped (routines_of program.now) }
-    requires sound { IsSound (meaning_of program.now) history.now }
-    requires accepted { IsAccepted history.now ((meaning_of program.now).query call.now.procedure) call.now }
-    ensures { IfOk result (λ r. r ≡ queried_as ((meaning_of program.now).outcome (work_of (next_run history.now) (new_run history.now call.now)) history.now.budget (heap_of (meaning_of program.now) history.now call.now.version.0))) }
+/// The answer to a query that came to this.
+fn queried(outcome: Outcome) -> Reply
+    ensures { result ≡ queried outcome.printed outcome.ended }
 {
-    let number = next_number(history);
-    let budget = history.budget;
-    let outcome = worked(alloc, program, history, number, call, budget, budget)?;
     match outcome.ended {
-        Ended::Trapped(trap) => Ok(Reply::Trapped {
+        Ended::Trapped(trap) => Reply::Trapped {
             printed: outcome.printed,
             trap,
-        }),
-        Ended::Done | Ended::Stopped => Ok(Reply::Answer {
+        },
+        Ended::Done | Ended::Stopped => Reply::Answer {
             printed: outcome.printed,
-        }),
+        },
     }
+}
+
+/// Answers a query, which is given the next run number and does not take it.
+fn query(alloc: Global, program: &Program, history: &Since, call: &Call) -> Result<Reply, NoMemory>
+    requires typed { IsTyped (routines_of program.now) }
+    requires sound { IsSoundHistory (meaning_of program.now) (kept_for program.now history.now) }
+    requires accepted { refusal (meaning_of program.now) (kept_for program.now history.now) (command.Query call.now) ≡ None }
+    ensures { IfOk result (λ r. r ≡ answered (meaning_of program.now) (kept_for program.now history.now) (command.Query call.now)) }
+{
+    let run = Run {
+        parent: call.version,
+        calls: one_call(alloc, call)?,
+        budget: history.budget,
+        granted: history.budget,
+        state: RunState::Open,
+    };
+    let outcome = worked(alloc, program, history, next_number(history), &run)?;
+    Ok(queried(outcome))
 }
 
 /// What a run counted under its grant.
 fn counts_under(
     alloc: Global,
     program: &Program,
-    history: &History,
+    history: &Since,
     number: RunNo,
 ) -> Result<Counts, NoMemory>
     requires typed { IsTyped (routines_of program.now) }
-    requires sound { IsSound (meaning_of program.now) history.now }
-    requires there { IsSome (run_at history.now number.0) }
-    ensures counts { IfOk result (λ c. (r : Run) → run_at history.now number.0 ≡ Some r → c ≡ run_counts (meaning_of program.now) history.now number.0 r) }
+    requires sound { IsSoundHistory (meaning_of program.now) (kept_for program.now history.now) }
+    requires there { IsSome (run_at (kept_for program.now history.now) number.0) }
+    ensures counts { IfOk result (λ c. (r : Run) → run_at (kept_for program.now history.now) number.0 ≡ Some r →
+        c ≡ run_counts (meaning_of program.now) (kept_for program.now history.now) number.0 r) }
     ensures few { IfOk result (λ c. CountsWithin c 4294967295) }
 {
-    let run = run_of(history, number);
-    let outcome = worked(
-        alloc,
-        program,
-        history,
-        number,
-        &run.call,
-        run.budget,
-        run.granted,
-    )?;
+    let outcome = outcome_under(alloc, program, history, number)?;
     Ok(outcome.counts)
 }
 
@@ -85,11 +86,12 @@ fn plus(a: Counts, b: Counts) -> Counts
     }
 }
 
-/// The root record, and what all runs counted, whether open, closed, trapped or dropped.
-fn stats(alloc: Global, program: &Program, history: &History) -> Result<Counts, NoMemory>
+/// The root record, and what all runs counted, whether open, closed, trapped or dropped. It executes each run once, and
+/// before it the runs on the path to its version.
+fn stats(alloc: Global, program: &Program, history: &Since) -> Result<Counts, NoMemory>
     requires typed { IsTyped (routines_of program.now) }
-    requires sound { IsSound (meaning_of program.now) history.now }
-    ensures { IfOk result (λ c. c ≡ counts_of (meaning_of program.now) history.now) }
+    requires sound { IsSoundHistory (meaning_of program.now) (kept_for program.now history.now) }
+    ensures { IfOk result (λ c. c ≡ counts_of (meaning_of program.now) (kept_for program.now history.now)) }
 {
     let mut total = Counts {
         records: 1,
@@ -107,24 +109,30 @@ fn stats(alloc: Global, program: &Program, history: &History) -> Result<Counts, 
 pub(crate) fn answer(
     alloc: Global,
     program: &Program,
-    history: &mut History,
+    history: &mut Since,
     line: &Command,
 ) -> Result<Reply, NoMemory>
     requires typed { IsTyped (routines_of program.now) }
-    requires sound { IsSound (meaning_of program.now) history.old }
-    requires accepted { refusal (meaning_of program.now) history.old line.now ≡ None }
-    ensures { IfOk result (λ r.
-        (r ≡ answered (meaning_of program.now) history.old line.now)
-        × (history.new ≡ changed (meaning_of program.now) history.old line.now)) }
+    requires sound { IsSoundHistory (meaning_of program.now) (kept_for program.now history.old) }
+    requires accepted { refusal (meaning_of program.now) (kept_for program.now history.old) line.now ≡ None }
+    ensures reply { IfOk result (λ r. r ≡ answered (meaning_of program.now) (kept_for program.now history.old) line.now) }
+    ensures changed { OnOk result (kept_for program.now history.new ≡ changed (meaning_of program.now) (kept_for program.now history.old) line.now) }
 {
     match line {
         Command::Run(call) => run(alloc, program, history, call),
         Command::Query(call) => query(alloc, program, history, call),
-        Command::OpenRun(call) => {
-            let number = next_number(history);
-            open(history, copy_of(call)?)?;
-            Ok(Reply::Opened { run: number })
+        Command::OpenRun(call) => begin(history, call.version, one_call(alloc, call)?),
+        Command::OpenEmpty { version } => {
+            let calls = NamedCalls {
+                items: Vec::new(alloc),
+            };
+            begin(history, *version, calls)
         }
+        Command::CallRun {
+            run,
+            procedure,
+            arguments,
+        } => call(alloc, program, history, *run, procedure, arguments),
         Command::StepRun { run, charges } => step(alloc, program, history, *run, *charges),
         Command::CloseRun { run } => close(alloc, program, history, *run),
         Command::DropRun { run } => {

@@ -1,29 +1,29 @@
 //! The heap of a version, by the path from version 0.
 
-ghost use Rattle.std.specs.Prelude.{◌≡◌, ◌<◌, ◌≤◌, ℕ, ◌⊎◌, IfOk, OnOk, IsTrue, length, Some, slice_get};
+ghost use Rattle.std.specs.Prelude.{◌≡◌, ◌<◌, ◌≤◌, ℕ, ◌+◌, IfOk, OnOk, IsSome, length, Some, slice_get};
 ghost use Rattle.pst_base.specs.Heap.{OrdinaryHeap};
 ghost use Rattle.pst_program.specs.View.{routines_of};
 ghost use Rattle.pst_program.specs.Typed.{IsTyped};
-ghost use Rattle.pst_history.specs.declared.history.VersionRow.{VersionRow};
-ghost use Rattle.pst_history.specs.Meaning.{IsLawful, IsWork};
-ghost use Rattle.pst_history.specs.History.{heap_of};
-ghost use Rattle.pst_history.specs.Sound.{IsSound, maker};
+ghost use Rattle.pst_history.specs.declared.history.Descent.{Descent};
+ghost use Rattle.pst_history.specs.declared.history.Run.{Run};
+ghost use Rattle.pst_history.specs.Meaning.{IsWork};
+ghost use Rattle.pst_history.specs.History.{heap_of, outcome_of, run_at, version_count, work_of};
+ghost use Rattle.pst_history.specs.Sound.{IsSoundHistory, made_below};
 ghost use Rattle.pst_history.specs.Direct.{meaning_of};
-ghost use Rattle.pst_replay.specs.Replay.{IsEnd, IsPath, parent_in, work_for};
+ghost use Rattle.pst_replay.specs.Replay.{IsEnd, IsPath, kept_for, parent_in};
 
 use crate::program::{execute, first_heap};
 use crate::rows::{run_of, version_of};
 use pst_base::{NoMemory, RunNo, VersionNo};
 use pst_eval::Outcome;
 use pst_heap::PlainHeap;
-use pst_history::History;
+use pst_history::{Run, Since};
 use pst_program::Program;
-use pst_script::Call;
 use std::alloc::Global;
 
 /// The versions from this one down to 1, each the parent of the one before.
-fn path_to(alloc: Global, history: &History, version: VersionNo) -> Result<Vec<u32>, NoMemory>
-    requires parents { (i : ℕ) (v : VersionRow) → slice_get history.now.versions i ≡ Some v → v.parent.0 ≤ i }
+fn path_to(alloc: Global, history: &Since, version: VersionNo) -> Result<Vec<u32>, NoMemory>
+    requires parents { (i : ℕ) (v : Descent) → slice_get history.now.versions i ≡ Some v → v.parent.0 ≤ i }
     requires there { version.0 ≤ length history.now.versions }
     ensures { IfOk result (λ path. IsPath history.now.versions 0 version.0 path.items) }
 {
@@ -40,22 +40,22 @@ fn path_to(alloc: Global, history: &History, version: VersionNo) -> Result<Vec<u
 fn carry(
     alloc: Global,
     program: &Program,
-    history: &History,
+    history: &Since,
     heap: &mut PlainHeap,
     version: u32,
 ) -> Result<(), NoMemory>
     requires typed { IsTyped (routines_of program.now) }
-    requires sound { IsSound (meaning_of program.now) history.now }
+    requires sound { IsSoundHistory (meaning_of program.now) (kept_for program.now history.now) }
     requires above { 0 < version }
     requires there { version ≤ length history.now.versions }
-    requires heap { heap.old ≡ record { shape = (meaning_of program.now).shape; heap = heap_of (meaning_of program.now) history.now (parent_in history.now.versions version) } }
-    ensures { OnOk result (heap.new ≡ record { shape = (meaning_of program.now).shape; heap = heap_of (meaning_of program.now) history.now version }) }
+    requires shape { heap.old.shape ≡ (meaning_of program.now).shape }
+    requires heap { heap.old.heap ≡ heap_of (meaning_of program.now) (kept_for program.now history.now) (parent_in history.now.versions version) }
+    ensures shape { OnOk result (heap.new.shape ≡ (meaning_of program.now).shape) }
+    ensures heap { OnOk result (heap.new.heap ≡ heap_of (meaning_of program.now) (kept_for program.now history.now) version) }
 {
     let made = version_of(history, version);
     let run = run_of(history, made.run);
-    execute(
-        alloc, program, heap, made.run, &run.call, run.budget, run.budget,
-    )?;
+    execute(alloc, program, heap, made.run, run, run.budget)?;
     Ok(())
 }
 
@@ -63,13 +63,14 @@ fn carry(
 fn heap_at(
     alloc: Global,
     program: &Program,
-    history: &History,
+    history: &Since,
     version: VersionNo,
 ) -> Result<PlainHeap, NoMemory>
     requires typed { IsTyped (routines_of program.now) }
-    requires sound { IsSound (meaning_of program.now) history.now }
+    requires sound { IsSoundHistory (meaning_of program.now) (kept_for program.now history.now) }
     requires there { version.0 ≤ length history.now.versions }
-    ensures { IfOk result (λ heap. heap ≡ record { shape = (meaning_of program.now).shape; heap = heap_of (meaning_of program.now) history.now version.0 }) }
+    ensures shape { IfOk result (λ heap. heap.shape ≡ (meaning_of program.now).shape) }
+    ensures heap { IfOk result (λ heap. heap.heap ≡ heap_of (meaning_of program.now) (kept_for program.now history.now) version.0) }
 {
     let mut path = path_to(alloc, history, version)?;
     let mut heap = first_heap(alloc, program)?;
@@ -82,23 +83,37 @@ fn heap_at(
     Ok(heap)
 }
 
-/// What a call comes to on the heap of its version, with the charges granted so far.
+/// What a run with a number comes to under its grant, on the heap of its parent.
 pub(crate) fn worked(
     alloc: Global,
     program: &Program,
-    history: &History,
+    history: &Since,
     number: RunNo,
-    call: &Call,
-    budget: u32,
-    granted: u32,
+    run: &Run,
 ) -> Result<Outcome, NoMemory>
     requires typed { IsTyped (routines_of program.now) }
-    requires sound { IsSound (meaning_of program.now) history.now }
-    requires there { call.now.version.0 ≤ length history.now.versions }
-    requires older { maker history.now.versions call.now.version.0 < number.0 }
-    requires work { IsWork (meaning_of program.now) (work_for number call.now budget) }
-    ensures { IfOk result (IsEnd ((meaning_of program.now).outcome (work_for number call.now budget) granted (heap_of (meaning_of program.now) history.now call.now.version.0))) }
+    requires sound { IsSoundHistory (meaning_of program.now) (kept_for program.now history.now) }
+    requires there { run.now.parent.0 < version_count (kept_for program.now history.now) }
+    requires older { made_below (kept_for program.now history.now).start history.now.versions run.now.parent.0 ≤ number.0 }
+    requires work { IsWork (meaning_of program.now) (work_of number.0 run.now) }
+    ensures { IfOk result (IsEnd (outcome_of (meaning_of program.now) (kept_for program.now history.now) number.0 run.now run.now.granted)) }
 {
-    let mut heap = heap_at(alloc, program, history, call.version)?;
-    execute(alloc, program, &mut heap, number, call, budget, granted)
+    let mut heap = heap_at(alloc, program, history, run.parent)?;
+    execute(alloc, program, &mut heap, number, run, run.granted)
+}
+
+/// What a run of the history comes to under its grant.
+pub(crate) fn outcome_under(
+    alloc: Global,
+    program: &Program,
+    history: &Since,
+    number: RunNo,
+) -> Result<Outcome, NoMemory>
+    requires typed { IsTyped (routines_of program.now) }
+    requires sound { IsSoundHistory (meaning_of program.now) (kept_for program.now history.now) }
+    requires there { IsSome (run_at (kept_for program.now history.now) number.0) }
+    ensures { IfOk result (λ o. (r : Run) → run_at (kept_for program.now history.now) number.0 ≡ Some r →
+        IsEnd (outcome_of (meaning_of program.now) (kept_for program.now history.now) number.0 r r.granted) o) }
+{
+    worked(alloc, program, history, number, run_of(history, number))
 }

@@ -1,52 +1,23 @@
 //! What a replayer asks of a program.
 
-ghost use Rattle.std.specs.Prelude.{◌≡◌, IfOk, MatchOption, Some, None, slice_get, position, bytes_eq};
+ghost use Rattle.std.specs.Prelude.{◌≡◌, ◌≤◌, IfOk, OnOk, length, map};
 ghost use Rattle.std.specs.List.{list_all};
 ghost use Rattle.pst_base.specs.Heap.{OrdinaryHeap, initial_heap};
-ghost use Rattle.pst_program.specs.View.{routines_of, procedure_of};
-ghost use Rattle.pst_program.specs.Typed.{IsTyped, parameters_of, parameters_if, parameters_named};
-ghost use Rattle.pst_history.specs.Meaning.{IsReady, fits, kinds_refusal};
-ghost use Rattle.pst_history.specs.Direct.{meaning_of};
-ghost use Rattle.pst_replay.specs.Replay.{IsEnd, work_for, number_in, is_number};
+ghost use Rattle.pst_program.specs.View.{routines_of};
+ghost use Rattle.pst_program.specs.Typed.{IsTyped, parameters_named};
+ghost use Rattle.pst_history.specs.Meaning.{CanBeDone, fits, kinds_refusal};
+ghost use Rattle.pst_history.specs.History.{work_of};
+ghost use Rattle.pst_history.specs.Direct.{direct_call, meaning_of, procedure_number};
+ghost use Rattle.pst_program.specs.Outcome.{calls_of, task_call};
+ghost use Rattle.pst_replay.specs.Replay.{IsEnd, is_number};
 
 use pst_base::{Kind, NoMemory, ProcNo, RunNo};
 use pst_eval::{Outcome, RunSpec, evaluate};
 use pst_heap::PlainHeap;
-use pst_program::{Program, TypedProc};
-use pst_script::{Call, Refusal};
+use pst_history::{NamedCall, NamedCalls, Run};
+use pst_program::{Calls, ProcCall, Program};
+use pst_script::Refusal;
 use std::alloc::Global;
-
-/// Whether the procedure or query has the name.
-fn is_named(procedure: &TypedProc, name: &[u8]) -> bool
-    ensures { result ≡ bytes_eq procedure.now.name name.now }
-{
-    procedure.name.as_slice() == name
-}
-
-/// The number of the procedure or query with the name.
-fn find(procedures: &[TypedProc], name: &[u8]) -> Option<usize>
-    ensures { result ≡ position (λ p. bytes_eq p.name name.now) procedures.now }
-{
-    procedures
-        .iter()
-        .position(|procedure| is_named(procedure, name))
-}
-
-/// The number of the procedure or query that is called: past the last, where none has the name.
-fn number_of(program: &Program, call: &Call) -> usize
-    ensures { result ≡ number_in program.now.procedures.items.items call.now.procedure }
-{
-    let procedures = program.procedures.items.as_slice();
-    find(procedures, call.procedure.as_slice()).unwrap_or(procedures.len())
-}
-
-/// The kinds of the parameters of a procedure.
-fn parameters_of(procedure: &TypedProc) -> &[Kind]
-    ensures { result.now ≡ parameters_of (procedure_of procedure.now) }
-{
-    let kinds = procedure.kinds.as_slice();
-    &kinds[..(procedure.arguments as usize).min(kinds.len())]
-}
 
 /// Whether each parameter is a number.
 fn all_numbers(parameters: &[Kind]) -> bool
@@ -62,84 +33,120 @@ fn fits(parameters: &[Kind], arguments: &[i64]) -> bool
     parameters.len() == arguments.len() && all_numbers(parameters)
 }
 
-/// The procedure or query that is called, if there is one.
-fn called<'a>(program: &'a Program, call: &Call) -> Option<&'a TypedProc>
-    ensures { MatchOption result (slice_get program.now.procedures.items.items (number_in program.now.procedures.items.items call.now.procedure) ≡ None) (λ p. slice_get program.now.procedures.items.items (number_in program.now.procedures.items.items call.now.procedure) ≡ Some p.now) }
+/// Whether no query, or no procedure that may write, has the name, or the arguments do not fit it.
+fn kinds_refused(
+    program: &Program,
+    query: bool,
+    procedure: &[u8],
+    arguments: &[i64],
+) -> Option<Refusal>
+    requires { length program.now.procedures.items.items ≤ 65536 }
+    ensures { result ≡ kinds_refusal (parameters_named query (routines_of program.now) procedure.now) arguments.now }
 {
-    program.procedures.items.get(number_of(program, call))
-}
-
-/// Whether the procedure is no query, or not one that may write, as is asked for, or the arguments do not fit it.
-fn procedure_refused(procedure: &TypedProc, query: bool, call: &Call) -> Option<Refusal>
-    ensures { result ≡ kinds_refusal (parameters_if query (procedure_of procedure.now)) call.now.arguments }
-{
-    if procedure.query != query {
+    let Some(number) = program.procedure(procedure) else {
+        return Some(Refusal::Name);
+    };
+    if program.is_query(number) != query {
         return Some(Refusal::Name);
     }
-    if !fits(parameters_of(procedure), call.arguments.as_slice()) {
+    if !fits(program.parameters(number), arguments) {
         return Some(Refusal::Arguments);
     }
     None
 }
 
-/// Whether no query, or no procedure that may write, has the name, or the arguments do not fit it.
-fn kinds_refused(program: &Program, query: bool, call: &Call) -> Option<Refusal>
-    ensures { result ≡ kinds_refusal (parameters_named query (routines_of program.now) call.now.procedure) call.now.arguments }
-{
-    match called(program, call) {
-        Some(procedure) => procedure_refused(procedure, query, call),
-        None => Some(Refusal::Name),
-    }
-}
-
 /// The refusal of a call of a procedure that may write, by its name and arguments.
 #[tactic(auto, unfolding(pst_history::specs::Direct::direct))]
-pub(crate) fn proc_refused(program: &Program, call: &Call) -> Option<Refusal>
-    ensures { result ≡ kinds_refusal ((meaning_of program.now).proc call.now.procedure) call.now.arguments }
+pub(crate) fn proc_refused(
+    program: &Program,
+    procedure: &[u8],
+    arguments: &[i64],
+) -> Option<Refusal>
+    requires { length program.now.procedures.items.items ≤ 65536 }
+    ensures { result ≡ kinds_refusal ((meaning_of program.now).proc procedure.now) arguments.now }
 {
-    kinds_refused(program, false, call)
+    kinds_refused(program, false, procedure, arguments)
 }
 
 /// The refusal of a call of a query, by its name and arguments.
 #[tactic(auto, unfolding(pst_history::specs::Direct::direct))]
-pub(crate) fn query_refused(program: &Program, call: &Call) -> Option<Refusal>
-    ensures { result ≡ kinds_refusal ((meaning_of program.now).query call.now.procedure) call.now.arguments }
+pub(crate) fn query_refused(
+    program: &Program,
+    procedure: &[u8],
+    arguments: &[i64],
+) -> Option<Refusal>
+    requires { length program.now.procedures.items.items ≤ 65536 }
+    ensures { result ≡ kinds_refusal ((meaning_of program.now).query procedure.now) arguments.now }
 {
-    kinds_refused(program, true, call)
+    kinds_refused(program, true, procedure, arguments)
+}
+
+/// The number of the procedure or query with a name: past the last, where none has it.
+fn number_of(program: &Program, name: &[u8]) -> ProcNo
+    requires { length program.now.procedures.items.items ≤ 256 }
+    ensures { result.0 ≡ procedure_number (routines_of program.now) name.now }
+{
+    match program.procedure(name) {
+        Some(number) => number,
+        None => ProcNo(program.procedures.items.len() as u16),
+    }
+}
+
+/// A call by the number of its procedure.
+fn numbered_call(program: &Program, call: &NamedCall) -> Result<ProcCall, NoMemory>
+    requires { length program.now.procedures.items.items ≤ 256 }
+    ensures { IfOk result (λ c. task_call c ≡ direct_call (routines_of program.now) call.now) }
+{
+    Ok(ProcCall {
+        procedure: number_of(program, call.procedure.as_slice()),
+        arguments: call.arguments.copy()?,
+    })
+}
+
+/// Calls by the numbers of their procedures.
+fn numbered_calls(alloc: Global, program: &Program, calls: &NamedCalls) -> Result<Calls, NoMemory>
+    requires { length program.now.procedures.items.items ≤ 256 }
+    ensures { IfOk result (λ cs. calls_of cs ≡ map (direct_call (routines_of program.now)) calls.now) }
+{
+    let mut items = Vec::with_capacity(alloc, calls.items.len())?;
+    for call in &calls.items {
+        items.push(numbered_call(program, call)?)?;
+    }
+    Ok(Calls::from_vec(items))
 }
 
 /// The heap of version 0.
 #[tactic(auto, unfolding(pst_history::specs::Direct::direct))]
 pub(crate) fn first_heap(alloc: Global, program: &Program) -> Result<PlainHeap, NoMemory>
     requires typed { IsTyped (routines_of program.now) }
-    ensures { IfOk result (λ heap. heap ≡ record { shape = (meaning_of program.now).shape; heap = initial_heap (meaning_of program.now).shape }) }
+    ensures shape { IfOk result (λ heap. heap.shape ≡ (meaning_of program.now).shape) }
+    ensures heap { IfOk result (λ heap. heap.heap ≡ initial_heap (meaning_of program.now).shape) }
 {
     PlainHeap::initial(alloc, &program.shape)
 }
 
-/// Executes a call on a heap, which becomes the heap that the run leaves.
+/// Executes the calls of a run on a heap, which becomes the heap that they leave.
 #[tactic(auto, unfolding(pst_history::specs::Direct::direct))]
 pub(crate) fn execute(
     alloc: Global,
     program: &Program,
     heap: &mut PlainHeap,
-    run: RunNo,
-    call: &Call,
-    budget: u32,
+    number: RunNo,
+    run: &Run,
     granted: u32,
 ) -> Result<Outcome, NoMemory>
     requires typed { IsTyped (routines_of program.now) }
     requires shape { heap.old.shape ≡ (meaning_of program.now).shape }
-    requires ready { IsReady (meaning_of program.now) (work_for run call.now budget) heap.old.heap }
-    ensures ended { IfOk result (IsEnd ((meaning_of program.now).outcome (work_for run call.now budget) granted heap.old.heap)) }
-    ensures heap { IfOk result (λ e. heap.new ≡ record heap.old { heap = ((meaning_of program.now).outcome (work_for run call.now budget) granted heap.old.heap).heap }) }
+    requires ready { CanBeDone (meaning_of program.now) (work_of number.0 run.now) heap.old.heap }
+    ensures ended { IfOk result (IsEnd ((meaning_of program.now).outcome (work_of number.0 run.now) granted heap.old.heap)) }
+    ensures heap { OnOk result (heap.new.heap ≡ ((meaning_of program.now).outcome (work_of number.0 run.now) granted heap.old.heap).heap) }
+    ensures shape { OnOk result (heap.new.shape ≡ heap.old.shape) }
 {
     let spec = RunSpec {
-        run,
-        procedure: ProcNo(number_of(program, call) as u16),
-        arguments: call.arguments.copy()?,
-        budget,
+        run: number,
+        budget: run.budget,
         granted,
+        calls: numbered_calls(alloc, program, &run.calls)?,
     };
     let outcome = evaluate(alloc, program, heap, &spec)?;
     Ok(outcome)

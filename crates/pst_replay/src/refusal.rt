@@ -1,46 +1,37 @@
 //! Why a command is refused.
 
-ghost use Rattle.std.specs.Prelude.{◌≡◌, length, nat_lt};
+ghost use Rattle.std.specs.Prelude.{◌≡◌, ◌+◌, length, count_by, nat_le, nat_lt, not};
+ghost use Rattle.pst_program.specs.View.{routines_of};
+ghost use Rattle.pst_program.specs.Typed.{IsTyped};
 ghost use Rattle.pst_script.specs.declared.reply.Refusal.TheVariants as because;
 ghost use Rattle.pst_history.specs.Meaning.{when};
-ghost use Rattle.pst_history.specs.History.{refusal, first, runs_refusal, open_refusal, run_refusal, is_open};
+ghost use Rattle.pst_history.specs.History.{first, is_full_run, is_open, is_open_run, numbered, refusal};
 ghost use Rattle.pst_history.specs.Direct.{meaning_of};
+ghost use Rattle.pst_replay.specs.Replay.{kept_for};
 
 use crate::program::{proc_refused, query_refused};
-use pst_base::RunNo;
-use pst_history::{History, OPEN_RUNS, RUNS, Run, RunState};
+use pst_base::{RunNo, VersionNo};
+use pst_history::{CALLS, OPEN_RUNS, RUNS, Run, RunState, Since};
 use pst_program::Program;
-use pst_script::{Call, Command, Refusal};
+use pst_script::{Command, Refusal};
 
-/// The refusal of a call, where this is that of its procedure: the version has to be there too.
-fn call_refused(history: &History, procedure: Option<Refusal>, call: &Call) -> Option<Refusal>
-    ensures { result ≡ first procedure (when (nat_lt (length history.now.versions) call.now.version.0) because.Version) }
+/// Whether no version has the number.
+fn version_refused(history: &Since, version: VersionNo) -> Option<Refusal>
+    ensures { result ≡ when (nat_le (1 + length history.now.versions) version.0) because.Version }
 {
-    if procedure.is_some() {
-        return procedure;
-    }
-    if history.versions.items.len() < call.version.0 as usize {
+    if history.versions.items.len() < version.0 as usize {
         return Some(Refusal::Version);
     }
     None
 }
 
-/// Whether all run numbers are taken.
-fn runs_refused(history: &History) -> Option<Refusal>
-    ensures { result ≡ runs_refusal history.now }
+/// Whether no open run has the number.
+fn run_refused(history: &Since, number: RunNo) -> Option<Refusal>
+    ensures { result ≡ when (not (is_open_run (numbered 1 history.now.runs number.0))) because.Run }
 {
-    if history.runs.items.len() >= RUNS {
-        return Some(Refusal::Runs);
-    }
-    None
-}
-
-/// Whether as many runs are open as may be.
-fn open_refused(history: &History) -> Option<Refusal>
-    ensures { result ≡ open_refusal history.now }
-{
-    if history.runs.items.iter().filter(|run| is_open(run)).count() >= OPEN_RUNS {
-        return Some(Refusal::RunsOpen);
+    let at = number.0 as usize;
+    if at == 0 || at > history.runs.items.len() || !is_open(&history.runs.items[at - 1]) {
+        return Some(Refusal::Run);
     }
     None
 }
@@ -56,13 +47,36 @@ fn is_open(run: &Run) -> bool
     }
 }
 
-/// Whether no open run has the number.
-fn run_refused(history: &History, number: RunNo) -> Option<Refusal>
-    ensures { result ≡ run_refusal history.now number }
+/// Whether all run numbers are taken.
+fn runs_refused(history: &Since) -> Option<Refusal>
+    ensures { result ≡ when (nat_lt 1048576 (1 + length history.now.runs)) because.Runs }
+{
+    if history.runs.items.len() >= RUNS {
+        return Some(Refusal::Runs);
+    }
+    None
+}
+
+/// Whether as many runs are open as may be.
+fn open_refused(open_runs: usize) -> Option<Refusal>
+    ensures { result ≡ when (nat_le 64 open_runs) because.RunsOpen }
+{
+    if open_runs >= OPEN_RUNS {
+        return Some(Refusal::RunsOpen);
+    }
+    None
+}
+
+/// Whether a run has as many calls as may be.
+fn calls_refused(history: &Since, number: RunNo) -> Option<Refusal>
+    ensures { result ≡ when (is_full_run (numbered 1 history.now.runs number.0)) because.Calls }
 {
     let at = number.0 as usize;
-    if at == 0 || at > history.runs.items.len() || !is_open(&history.runs.items[at - 1]) {
-        return Some(Refusal::Run);
+    if at == 0 || at > history.runs.items.len() {
+        return None;
+    }
+    if history.runs.items[at - 1].calls.items.len() >= CALLS {
+        return Some(Refusal::Calls);
     }
     None
 }
@@ -79,18 +93,58 @@ fn first_of(one: Option<Refusal>, next: Option<Refusal>) -> Option<Refusal>
 
 /// The first refusal of a command that holds, if one does.
 #[tactic(auto, unfolding(pst_history::specs::History::refusal))]
-pub(crate) fn refused(program: &Program, history: &History, command: &Command) -> Option<Refusal>
-    ensures { result ≡ refusal (meaning_of program.now) history.now command.now }
+pub(crate) fn refused(
+    program: &Program,
+    history: &Since,
+    open_runs: usize,
+    command: &Command,
+) -> Option<Refusal>
+    requires typed { IsTyped (routines_of program.now) }
+    requires counted { open_runs ≡ count_by is_open history.now.runs }
+    ensures { result ≡ refusal (meaning_of program.now) (kept_for program.now history.now) command.now }
 {
     match command {
         Command::Run(call) => first_of(
-            call_refused(history, proc_refused(program, call), call),
+            first_of(
+                proc_refused(
+                    program,
+                    call.procedure.as_slice(),
+                    call.arguments.as_slice(),
+                ),
+                version_refused(history, call.version),
+            ),
             runs_refused(history),
         ),
-        Command::Query(call) => call_refused(history, query_refused(program, call), call),
+        Command::Query(call) => first_of(
+            query_refused(
+                program,
+                call.procedure.as_slice(),
+                call.arguments.as_slice(),
+            ),
+            version_refused(history, call.version),
+        ),
         Command::OpenRun(call) => first_of(
-            call_refused(history, proc_refused(program, call), call),
-            first_of(runs_refused(history), open_refused(history)),
+            first_of(
+                proc_refused(
+                    program,
+                    call.procedure.as_slice(),
+                    call.arguments.as_slice(),
+                ),
+                version_refused(history, call.version),
+            ),
+            first_of(runs_refused(history), open_refused(open_runs)),
+        ),
+        Command::OpenEmpty { version } => first_of(
+            version_refused(history, *version),
+            first_of(runs_refused(history), open_refused(open_runs)),
+        ),
+        Command::CallRun {
+            run,
+            procedure,
+            arguments,
+        } => first_of(
+            proc_refused(program, procedure.as_slice(), arguments.as_slice()),
+            first_of(run_refused(history, *run), calls_refused(history, *run)),
         ),
         Command::StepRun { run, .. } => run_refused(history, *run),
         Command::CloseRun { run } => run_refused(history, *run),

@@ -1,19 +1,22 @@
 //! The replayer.
 
-ghost use Rattle.std.specs.Prelude.{◌≡◌, IfOk, OnErr, IsErr, true, false};
+ghost use Rattle.std.specs.Prelude.{◌≡◌, ◌+◌, ◌≤◌, IfOk, OnErr, IsErr, None, count_by, true, false, List};
+ghost use Rattle.pst_base.specs.declared.shape.TypeShape.{TypeShape};
+ghost use Rattle.pst_program.specs.declared.program.Program.{Program};
 ghost use Rattle.pst_program.specs.View.{routines_of};
 ghost use Rattle.pst_program.specs.Typed.{IsTyped};
 ghost use Rattle.pst_script.specs.declared.reply.Reply.TheVariants as answer;
 ghost use Rattle.pst_script.specs.declared.reply.Refusal.{Refusal};
-ghost use Rattle.pst_history.specs.History.{opening};
-ghost use Rattle.pst_history.specs.Sound.{IsSound};
+ghost use Rattle.pst_script.specs.Commands.{in_range};
+ghost use Rattle.pst_history.specs.History.{History, begun, opening, refusal, changed, is_open};
+ghost use Rattle.pst_history.specs.Meaning.{Meaning};
 ghost use Rattle.pst_history.specs.Direct.{meaning_of};
-ghost use Rattle.pst_replay.specs.Replay.{Answers};
+ghost use Rattle.pst_replay.specs.Replay.{Answers, MayApply, kept, kept_for, open_after};
 
 use crate::answer::answer;
 use crate::refusal::refused;
 use pst_base::NoMemory;
-use pst_history::History;
+use pst_history::Since;
 use pst_program::Program;
 use pst_script::{Command, Reply};
 use std::alloc::Global;
@@ -24,43 +27,70 @@ pub struct Replayer {
     alloc: Global,
     /// Memory was wanting: no more is answered.
     pub failed: bool,
-    pub history: History,
+    /// What has happened since the opening with version 0 alone.
+    pub history: Since,
+    /// How many runs are open, so that they need not be counted at each line.
+    pub open_runs: usize,
+}
+
+/// How many runs are open after a command that is not refused.
+fn open_after(open_runs: usize, line: &Command) -> usize
+    requires { open_runs ≤ 1048577 }
+    ensures { result ≡ open_after open_runs line.now }
+{
+    match line {
+        Command::OpenRun(_) => open_runs + 1,
+        Command::OpenEmpty { .. } => open_runs + 1,
+        Command::CloseRun { .. } => open_runs.saturating_sub(1),
+        Command::DropRun { .. } => open_runs.saturating_sub(1),
+        Command::Run(_) => open_runs,
+        Command::Query(_) => open_runs,
+        Command::CallRun { .. } => open_runs,
+        Command::StepRun { .. } => open_runs,
+        Command::Budget { .. } => open_runs,
+        Command::Versions => open_runs,
+        Command::Stats => open_runs,
+    }
 }
 
 impl Replayer {
-    /// A replayer with the opening history. It takes no memory.
+    /// A replayer with the history of the opening, in which version 0 is alone. It takes no memory.
     pub fn new(alloc: Global) -> Replayer
         ensures failed { result.failed ≡ false }
-        ensures history { result.history ≡ opening }
+        ensures history { (shape : List TypeShape) → kept shape result.history ≡ begun (opening shape) }
+        ensures may { (program : Program) → IsTyped (routines_of program) → MayApply program result }
     {
         Replayer {
             alloc,
             failed: false,
-            history: History::opening(alloc),
+            history: Since::nothing(alloc),
+            open_runs: 0,
         }
     }
 
     /// Answers a command of the history kept, which becomes the history after the command. A refused command changes
     /// nothing. Want of memory is the one fault: the replayer is failed then, answers the same from then on, and stays as
-    /// it is. The program is the same at each call.
+    /// it is. The program is the same at each call, and the numbers of the commands before are such as a line can give.
     #[tactic(auto, unfolding(pst_history::specs::History::reply, pst_history::specs::History::after))]
     pub fn apply(&mut self, program: &Program, line: &Command) -> Result<Reply, NoMemory>
         requires typed { IsTyped (routines_of program.now) }
-        requires sound { self.old.failed ≡ false → IsSound (meaning_of program.now) self.old.history }
-        ensures ok { IfOk result (λ r. (self.old.failed ≡ false) × Answers (meaning_of program.now) self.old.history line.now r self.new.history × (self.new.failed ≡ false)) }
-        ensures refused { IfOk result (λ r. (why : Refusal) → r ≡ answer.Refused why → self.new.history ≡ self.old.history) }
-        ensures sound { IfOk result (λ r. IsSound (meaning_of program.now) self.new.history) }
+        requires may { self.old.failed ≡ false → MayApply program.now self.old }
+        ensures ok { IfOk result (λ r. (self.old.failed ≡ false) × (self.new.failed ≡ false)) }
+        ensures answers { IfOk result (λ r. Answers (meaning_of program.now) (kept_for program.now self.old.history) line.now r (kept_for program.now self.new.history)) }
+        ensures refused { IfOk result (λ r. (why : Refusal) → r ≡ answer.Refused why → self.new ≡ self.old) }
+        ensures may { IfOk result (λ r. in_range line.now ≡ true → MayApply program.now self.new) }
         ensures err { OnErr result (self.new.failed ≡ true) }
         ensures failed { self.old.failed ≡ true → OnErr result (self.new ≡ self.old) × IsErr result }
     {
         if self.failed {
             return Err(NoMemory);
         }
-        if let Some(refusal) = refused(program, &self.history, line) {
+        if let Some(refusal) = refused(program, &self.history, self.open_runs, line) {
             return Ok(Reply::Refused(refusal));
         }
         self.failed = true;
         let reply = answer(self.alloc, program, &mut self.history, line)?;
+        self.open_runs = open_after(self.open_runs, line);
         self.failed = false;
         Ok(reply)
     }

@@ -1,67 +1,109 @@
-//! Runs: a grant, an end, and both at once.
+//! Runs: a call more, more charges, an end, and all at once.
 
-ghost use Rattle.std.specs.Prelude.{◌≡◌, IfOk, IsTrue, None};
+ghost use Rattle.std.specs.Prelude.{◌≡◌, ◌+◌, ◌≤◌, IfOk, OnOk, IsSome, IsTrue, List, None, Some, length};
 ghost use Rattle.pst_script.specs.declared.command.Command.TheVariants as command;
+ghost use Rattle.pst_script.specs.declared.reply.Reply.TheVariants as answer;
+ghost use Rattle.pst_base.specs.declared.shape.TypeShape.{TypeShape};
 ghost use Rattle.pst_program.specs.View.{routines_of};
 ghost use Rattle.pst_program.specs.Typed.{IsTyped};
-ghost use Rattle.pst_history.specs.History.{refusal, run_at, is_open_run, close_reply, closed, with_run, granted_more, step_reply, answered, changed};
-ghost use Rattle.pst_history.specs.Sound.{IsSound};
+ghost use Rattle.pst_history.specs.declared.history.Run.{Run};
+ghost use Rattle.pst_history.specs.History.{refusal, run_at, is_open_run, outcome_of, stepped, step_reply, close_reply, closed, ended, with_run, with_version, granted_more, called_more, answered, changed};
+ghost use Rattle.pst_history.specs.Sound.{IsSoundHistory};
 ghost use Rattle.pst_history.specs.Direct.{meaning_of};
+ghost use Rattle.pst_replay.specs.Replay.{Opens, kept, kept_for};
 
-use crate::path::worked;
-use crate::rows::{copy_of, grant, next_number, open, publish, run_of, shut};
-use pst_base::{NoMemory, RunNo};
-use pst_history::History;
+use crate::path::outcome_under;
+use crate::rows::{add, grant, named_call, next_number, one_call, open, publish, run_of, shut};
+use pst_base::{NoMemory, Numbers, RunNo, Text, VersionNo};
+use pst_eval::Outcome;
+use pst_history::{NamedCalls, Since};
 use pst_program::{Ended, Program};
 use pst_script::{Call, Reply};
 use std::alloc::Global;
 
-/// Grants an open run more charges.
-pub(crate) fn step(
+/// Opens a run on a version, and gives its number.
+pub(crate) fn begin(
+    history: &mut Since,
+    version: VersionNo,
+    calls: NamedCalls,
+) -> Result<Reply, NoMemory>
+    requires { length history.old.runs ≤ 1048576 }
+    ensures number { IfOk result (λ r. r ≡ answer.Opened (record { 0 = 1 + length history.old.runs })) }
+    ensures opens { OnOk result (Opens version calls history.old history.new) }
+{
+    let run = next_number(history);
+    open(history, version, calls)?;
+    Ok(Reply::Opened { run })
+}
+
+/// Whether a run has ended under its grant.
+fn progress(
     alloc: Global,
     program: &Program,
-    history: &mut History,
+    history: &Since,
     number: RunNo,
-    charges: u32,
 ) -> Result<Reply, NoMemory>
     requires typed { IsTyped (routines_of program.now) }
-    requires sound { IsSound (meaning_of program.now) history.old }
-    requires open { IsTrue (is_open_run (run_at history.old number.0)) }
-    ensures { IfOk result (λ r.
-        (r ≡ step_reply (meaning_of program.now) history.old number charges (run_at history.old number.0))
-        × (history.new ≡ with_run history.old number.0 (granted_more charges) (run_at history.old number.0))) }
+    requires sound { IsSoundHistory (meaning_of program.now) (kept_for program.now history.now) }
+    requires there { IsSome (run_at (kept_for program.now history.now) number.0) }
+    ensures { IfOk result (λ reply. (r : Run) → run_at (kept_for program.now history.now) number.0 ≡ Some r →
+        reply ≡ stepped number (outcome_of (meaning_of program.now) (kept_for program.now history.now) number.0 r r.granted).end) }
 {
-    let run = run_of(history, number);
-    let granted = run.granted.saturating_add(charges).min(run.budget);
-    let outcome = worked(
-        alloc, program, history, number, &run.call, run.budget, granted,
-    )?;
-    grant(history, number, charges);
+    let outcome = outcome_under(alloc, program, history, number)?;
     match outcome.ended {
         Ended::Stopped => Ok(Reply::Running { run: number }),
         Ended::Done | Ended::Trapped(_) => Ok(Reply::Finished { run: number }),
     }
 }
 
-/// Carries an open run to its end, and publishes its version where it is done.
-pub(crate) fn close(
+/// Grants an open run more charges.
+pub(crate) fn step(
     alloc: Global,
     program: &Program,
-    history: &mut History,
+    history: &mut Since,
     number: RunNo,
+    charges: u32,
 ) -> Result<Reply, NoMemory>
     requires typed { IsTyped (routines_of program.now) }
-    requires sound { IsSound (meaning_of program.now) history.old }
-    requires open { IsTrue (is_open_run (run_at history.old number.0)) }
-    ensures { IfOk result (λ r.
-        (r ≡ close_reply (meaning_of program.now) history.old number (run_at history.old number.0))
-        × (history.new ≡ closed (meaning_of program.now) history.old number.0)) }
+    requires sound { IsSoundHistory (meaning_of program.now) (kept_for program.now history.old) }
+    requires accepted { refusal (meaning_of program.now) (kept_for program.now history.old) (command.StepRun number charges) ≡ None }
+    ensures reply { IfOk result (λ r. r ≡ answered (meaning_of program.now) (kept_for program.now history.old) (command.StepRun number charges)) }
+    ensures changed { OnOk result (kept_for program.now history.new ≡ changed (meaning_of program.now) (kept_for program.now history.old) (command.StepRun number charges)) }
 {
-    let run = run_of(history, number);
-    let parent = run.call.version;
-    let budget = run.budget;
-    let outcome = worked(alloc, program, history, number, &run.call, budget, budget)?;
-    shut(history, number);
+    grant(history, number, charges);
+    progress(alloc, program, history, number)
+}
+
+/// Adds a call to an open run.
+pub(crate) fn call(
+    alloc: Global,
+    program: &Program,
+    history: &mut Since,
+    number: RunNo,
+    procedure: &Text,
+    arguments: &Numbers,
+) -> Result<Reply, NoMemory>
+    requires typed { IsTyped (routines_of program.now) }
+    requires sound { IsSoundHistory (meaning_of program.now) (kept_for program.now history.old) }
+    requires accepted { refusal (meaning_of program.now) (kept_for program.now history.old) (command.CallRun number procedure.now arguments.now) ≡ None }
+    ensures reply { IfOk result (λ r. r ≡ answered (meaning_of program.now) (kept_for program.now history.old) (command.CallRun number procedure.now arguments.now)) }
+    ensures changed { OnOk result (kept_for program.now history.new ≡ changed (meaning_of program.now) (kept_for program.now history.old) (command.CallRun number procedure.now arguments.now)) }
+{
+    add(history, number, named_call(procedure, arguments)?)?;
+    progress(alloc, program, history, number)
+}
+
+/// Publishes the version of a run that was carried to its end, where it is done.
+fn finish(
+    history: &mut Since,
+    number: RunNo,
+    parent: VersionNo,
+    outcome: Outcome,
+) -> Result<Reply, NoMemory>
+    requires { length history.old.versions ≤ 1048576 }
+    ensures reply { IfOk result (λ r. r ≡ ended (1 + length history.old.versions) outcome.printed outcome.ended) }
+    ensures version { OnOk result ((shape : List TypeShape) → kept shape history.new ≡ with_version (kept shape history.old) number.0 parent outcome.ended) }
+{
     match outcome.ended {
         Ended::Done => {
             let version = publish(history, number, parent)?;
@@ -80,21 +122,39 @@ pub(crate) fn close(
     }
 }
 
+/// Carries an open run to its end, and publishes its version where it is done.
+pub(crate) fn close(
+    alloc: Global,
+    program: &Program,
+    history: &mut Since,
+    number: RunNo,
+) -> Result<Reply, NoMemory>
+    requires typed { IsTyped (routines_of program.now) }
+    requires sound { IsSoundHistory (meaning_of program.now) (kept_for program.now history.old) }
+    requires open { IsTrue (is_open_run (run_at (kept_for program.now history.old) number.0)) }
+    ensures reply { IfOk result (λ r. r ≡ close_reply (meaning_of program.now) (kept_for program.now history.old) number (run_at (kept_for program.now history.old) number.0)) }
+    ensures closed { OnOk result (kept_for program.now history.new ≡ closed (meaning_of program.now) (kept_for program.now history.old) number.0) }
+{
+    shut(history, number);
+    let outcome = outcome_under(alloc, program, history, number)?;
+    let parent = run_of(history, number).parent;
+    finish(history, number, parent, outcome)
+}
+
 /// Opens a run and closes it at once.
 pub(crate) fn run(
     alloc: Global,
     program: &Program,
-    history: &mut History,
+    history: &mut Since,
     call: &Call,
 ) -> Result<Reply, NoMemory>
     requires typed { IsTyped (routines_of program.now) }
-    requires sound { IsSound (meaning_of program.now) history.old }
-    requires accepted { refusal (meaning_of program.now) history.old (command.Run call.now) ≡ None }
-    ensures { IfOk result (λ r.
-        (r ≡ answered (meaning_of program.now) history.old (command.Run call.now))
-        × (history.new ≡ changed (meaning_of program.now) history.old (command.Run call.now))) }
+    requires sound { IsSoundHistory (meaning_of program.now) (kept_for program.now history.old) }
+    requires accepted { refusal (meaning_of program.now) (kept_for program.now history.old) (command.Run call.now) ≡ None }
+    ensures reply { IfOk result (λ r. r ≡ answered (meaning_of program.now) (kept_for program.now history.old) (command.Run call.now)) }
+    ensures changed { OnOk result (kept_for program.now history.new ≡ changed (meaning_of program.now) (kept_for program.now history.old) (command.Run call.now)) }
 {
     let number = next_number(history);
-    open(history, copy_of(call)?)?;
+    open(history, call.version, one_call(alloc, call)?)?;
     close(alloc, program, history, number)
 }

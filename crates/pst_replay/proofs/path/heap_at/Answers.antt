@@ -1,21 +1,21 @@
-use Rattle.std.proofs.Common.{List, ℕ, ap, sym, ◌∙◌, subst}
-use Rattle.pst_base.specs.Heap.{Heap}
+use Rattle.std.proofs.Common.{List, ℕ, ap, sym, ◌∙◌, subst, arith}
 use Rattle.pst_history.specs.History.{heap_of}
-use Rattle.pst_history.proofs.Heaps.{heap_of-start}
-use Rattle.pst_replay.specs.Replay.{IsPath}
 use Rattle.pst_history.specs.Direct.{meaning_of}
+use Rattle.pst_history.proofs.Heaps.{heap_of-given}
+use Rattle.pst_replay.specs.Replay.{IsPath, kept_for}
 use Rattle.pst_replay.proofs.Paths.{path-last}
 use Rattle.pst_replay.proofs.path.heap_at.Goals as goal
 
 pub path_to-requires-clause-parents : goal.path_to-requires-clause-parents
-path_to-requires-clause-parents c = λ i v e. (c.requires.sound.versions i v e).parent
+path_to-requires-clause-parents c = λ i v e. let below = (c.requires.sound.versions i v e).parent in omega arith
 
 pub loop-next-init : goal.loop-next-init
 loop-next-init c =
     let m = meaning_of c.args.program.now in
     record {
       path = c.in_ok-path.ensures;
-      heap = c.in_ok-heap.ensures ∙ ap (λ (x : Heap). record { shape = m.shape; heap = x }) (sym (heap_of-start m c.args.history.now));
+      shape = c.in_ok-heap.ensures.shape;
+      heap = c.in_ok-heap.ensures.heap ∙ sym (heap_of-given m (kept_for c.args.program.now c.args.history.now) 0 (omega arith));
     }
 
 pub carry-requires-clause-above : goal.carry-requires-clause-above
@@ -33,10 +33,10 @@ carry-requires-clause-heap c =
     let m = meaning_of c.args.program.now in
     let P : List ℕ → Type 0 = λ xs. IsPath c.args.history.now.versions c.loop-next.at c.args.version.0 xs in
     let last = path-last c.args.history.now.versions c.loop-next.at c.args.version.0 c.pop.new.self.items c.in-Some.next (subst P c.in-Some.ensures.items c.loop-next.invariant.path) in
-    c.loop-next.invariant.heap ∙ ap (λ (k : ℕ). record { shape = m.shape; heap = heap_of m c.args.history.now k }) (sym last.parent)
+    c.loop-next.invariant.heap ∙ ap (heap_of m (kept_for c.args.program.now c.args.history.now)) (sym last.parent)
 
 pub loop-next-preserved : goal.loop-next-preserved
 loop-next-preserved c =
     let P : List ℕ → Type 0 = λ xs. IsPath c.args.history.now.versions c.loop-next.at c.args.version.0 xs in
     let last = path-last c.args.history.now.versions c.loop-next.at c.args.version.0 c.pop.new.self.items c.in-Some.next (subst P c.in-Some.ensures.items c.loop-next.invariant.path) in
-    record { path = last.rest; heap = c.in_ok-carry.ensures }
+    record { path = last.rest; shape = c.in_ok-carry.ensures.shape; heap = c.in_ok-carry.ensures.heap }
