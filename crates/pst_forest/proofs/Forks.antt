@@ -10,12 +10,11 @@ use Rattle.std.proofs.Math.ListN.{set}
 use Rattle.std.specs.FinMap.{empty}
 use Rattle.pst_base.specs.Heap.{Heap, OrdinaryHeap, type_in}
 use Rattle.pst_base.specs.Heap as plain
-use Rattle.pst_places.specs.State.{VersionRow, ForkRow, Forked, IsVersioned, IsPublished, IsOpenFork}
+use Rattle.pst_places.specs.State.{ForkRow, Forked, IsVersioned, IsOpenFork}
 use Rattle.pst_places.specs.declared.versioned.TheConstants.{MOST_FORKS}
-use Rattle.pst_versions.specs.Rows.{IsVersionTree}
 use Rattle.pst_forest.specs.declared.place.PlaceNo.{PlaceNo}
 use Rattle.pst_forest.specs.declared.place.Fork.{Fork}
-use Rattle.pst_forest.specs.Forest.{published_count, ForestOf, heap_at, IsOpen, as_version, as_fork, state_of, IsForest}
+use Rattle.pst_forest.specs.Forest.{published_count, ForestOf, heap_at, IsOpen, as_fork, state_of, IsForest}
 use Rattle.pst_forest.proofs.Edited.{heap_at_is}
 
 pub slice_get-front : {A : Type 0} (xs ys : List A) (k : ℕ) → k < length xs → slice_get (xs ++ ys) k ≡ slice_get xs k
@@ -99,11 +98,11 @@ open_kept forks fork p o =
       | Some k ↦ λ e h. (o.0, subst (λ (r : Option Fork). IsSomeAnd r (λ k. k.published ≡ false)) (sym (slice_get-front forks (fork ∷ []) (p.0 - 1) (slice_get_within forks (p.0 - 1) k e) ∙ e)) h)
     ] refl o.1
 
-pub IsForest-forked : (f : ForestOf) (from : PlaceNo) (o : OrdinaryHeap) → IsForest f → f.calls < MOST_FORKS → plain.IsSound o → o.shape ≡ f.shape → IsForest (forked f from o)
+pub IsForest-forked : (f : ForestOf) (from : PlaceNo) (o : OrdinaryHeap) → IsForest f → f.calls < MOST_FORKS → plain.IsOrdinary o → o.shape ≡ f.shape → IsForest (forked f from o)
 IsForest-forked f from o w l s e = record {
   heaps = λ k h is. elim (slice_get-push f.heaps o k h is) [
     | inl a ↦ w.heaps k h a
-    | inr b ↦ subst (λ (h : OrdinaryHeap). plain.IsSound h × (h.shape ≡ f.shape)) b.1 (s, e)
+    | inr b ↦ subst (λ (h : OrdinaryHeap). plain.IsOrdinary h × (h.shape ≡ f.shape)) b.1 (s, e)
   ];
   places = omega (arith, w.places, length_push f.heaps o, length_push f.forks (record { place = record { 0 = length f.heaps }; from = from; published = false }));
   numbered = λ k fork is. elim (slice_get-push f.forks (record { place = record { 0 = length f.heaps }; from = from; published = false }) k fork is) [
@@ -166,7 +165,7 @@ forked_is f from o n heaps forks e a b =
     ∙ ap (λ (ks : List Fork). record f { heaps = f.heaps ++ o ∷ []; forks = ks; calls = f.calls + 1 }) (b ∙ ap (λ (n : ℕ). f.forks ++ record { place = record { 0 = n }; from = from; published = false } ∷ []) e)
 
 pub IsForest-made : (f : ForestOf) (from : PlaceNo) (o : OrdinaryHeap) (n : ℕ) (heaps : List OrdinaryHeap) (forks : List Fork) → n ≡ length f.heaps → heaps ≡ f.heaps ++ o ∷ [] → forks ≡ f.forks ++ record { place = record { 0 = n }; from = from; published = false } ∷ []
-    → IsForest f → f.calls < MOST_FORKS → plain.IsSound o → o.shape ≡ f.shape → IsForest (record f { heaps = heaps; forks = forks; calls = f.calls + 1 })
+    → IsForest f → f.calls < MOST_FORKS → plain.IsOrdinary o → o.shape ≡ f.shape → IsForest (record f { heaps = heaps; forks = forks; calls = f.calls + 1 })
 IsForest-made f from o n heaps forks e a b w l s sh = subst IsForest (sym (forked_is f from o n heaps forks e a b)) (IsForest-forked f from o w l s sh)
 
 pub Forked-made : (f g : ForestOf) (from : PlaceNo) (o : OrdinaryHeap) (n : ℕ) (heaps : List OrdinaryHeap) (forks : List Fork) → n ≡ length f.heaps → heaps ≡ f.heaps ++ o ∷ [] → forks ≡ f.forks ++ record { place = record { 0 = n }; from = from; published = false } ∷ []
@@ -184,10 +183,6 @@ pub slice_get-map : {A B : Type 0} (f : A → B) (xs : List A) (k : ℕ) (z : B)
 slice_get-map f [] k z e = absurd (cc)
 slice_get-map f (x ∷ xs) zero z e = (x, refl, cc)
 slice_get-map f (x ∷ xs) (suc k) z e = slice_get-map f xs k z e
-
-pub length-mapped : {A B : Type 0} (f : A → B) (xs : List A) → length (map f xs) ≡ length xs
-length-mapped f [] = refl
-length-mapped f (x ∷ xs) = ap suc (length-mapped f xs)
 
 slice_get-map_to : {A B : Type 0} (f : A → B) (xs : List A) (k : ℕ) (x : A) → slice_get xs k ≡ Some x → slice_get (map f xs) k ≡ Some (f x)
 slice_get-map_to f [] k x e = absurd (cc)
@@ -220,15 +215,26 @@ fork_open f w p from o =
       subst (λ (r : Option Fork). IsSomeAnd r (λ k. k.published ≡ false)) (sym (ap (slice_get f.forks) index ∙ x.1)) (ap (λ (row : ForkRow PlaceNo). row.published) x.2),
     )
 
-pub IsVersioned_forest : (f : ForestOf) → IsVersionTree f.versions → IsForest f → IsVersioned (state_of f)
-IsVersioned_forest f tree w = record {
-  some = rw (length-mapped as_version f.versions) tree.some;
-  places = λ v row is. let x = slice_get-map as_version f.versions v row is in
-      subst (λ (row : VersionRow PlaceNo). IsPublished (state_of f) row.place) x.2 (record { has = (w.closed v x.0 x.1).0; closed = (w.closed v x.0 x.1).1 });
-  parents = λ v row is. let x = slice_get-map as_version f.versions (v + 1) row is in
-      subst (λ (row : VersionRow PlaceNo). row.parent.0 ≤ v) x.2 (tree.parents v x.0 x.1);
+-- the place of a fork, by its index
+fork_at : (f : ForestOf) → IsForest f → (i : ℕ) (row : ForkRow PlaceNo) → slice_get (state_of f).forks i ≡ Some row → (row.place.0 ≡ i + 1) × (i < length f.forks)
+fork_at f w i row e =
+    let x = slice_get-map as_fork f.forks i row e in
+    (ap (λ (r : ForkRow PlaceNo). r.place.0) (sym x.2) ∙ w.numbered i x.0 x.1, slice_get_within f.forks i x.0 x.1)
+
+pub IsVersioned_forest : (f : ForestOf) → IsForest f → IsVersioned (state_of f)
+IsVersioned_forest f w = record {
+  places = λ v row is. record { has = (w.closed v row is).0; closed = (w.closed v row is).1 };
   unpublished = λ p o. open_fork f w p o;
   writable = λ p from o. fork_open f w p from o;
-  few = rw (length-mapped as_version f.versions) w.few;
+  forked = λ i row e.
+      let at = fork_at f w i row e in
+      let all = w.places in
+      omega (arith, at.0, at.1);
+  apart = λ i j a b p q same.
+      let one = fork_at f w i a p in
+      let two = fork_at f w j b q in
+      let place : a.place.0 ≡ b.place.0 = ap (λ (p : PlaceNo). p.0) same in
+      omega (arith, one.0, two.0, place);
+  few = w.few;
   calls = w.calls;
 }
