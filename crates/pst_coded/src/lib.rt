@@ -1,0 +1,15 @@
+//! What code means by its machine: the bridge from the compiler's theorem to histories.
+//!
+//! The model is a relation of definitions, `IsMeaningOf`: a meaning, as histories need one, is that of a code where each
+//! outcome of work is the one to which the machine comes on that code. It is this project's own, and needs no bound on steps.
+//!
+//! The law: the code of a well-typed program has the program's meaning. That meaning is lawful, and queries write nothing in
+//! it; so all that is said of histories of a program holds of those of its code.
+//!
+//! For example `run 0 add 5` makes the same version, with the same heap and counts, whether it is replayed by the tree of
+//! `add` or executed by its instructions.
+#![tactic(auto)]
+
+mod laws;
+
+pub use laws::compiled_code_means_the_program;
