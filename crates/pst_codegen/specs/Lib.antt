@@ -2,3 +2,4 @@ pub mod Rows
 pub mod Ready
 pub mod Sizes
 pub mod Counting
+pub mod Made

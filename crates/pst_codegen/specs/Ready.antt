@@ -7,6 +7,7 @@ use Rattle.pst_base.specs.declared.names.Op.TheVariants as op
 use Rattle.pst_base.specs.declared.shape.TypeShape.{TypeShape}
 use Rattle.pst_program.specs.Syntax.{Expr, Action, Actions, Number, Null, Local, Root, Parens, Load, Negate, Not, Binary, Set, SetRoot, Store, New, Call, Print, If, Either, While, Return, Empty, Then, Procedure}
 use Rattle.pst_program.specs.Typed.{root_kind}
+use Rattle.pst_code.specs.declared.procedure.TheConstants.{MOST_REGISTERS}
 use Rattle.pst_compiled.specs.declared.need.Need.{Need}
 use Rattle.pst_compiled.specs.Code.{kind_or}
 use Rattle.pst_compiled.specs.Needs.{index_in, table_of}
@@ -46,7 +47,12 @@ IsTest shape has (Not e) = IsTest shape has e
 IsTest shape has (Binary op.And a b) = IsTest shape has a × IsTest shape has b
 IsTest shape has (Binary op.Or a b) = IsTest shape has a × IsTest shape has b
 IsTest shape has (Binary operator a b) = IsOperand shape has a 0 × IsOperand shape has b 1
-IsTest shape has e = ⊥
+IsTest shape has (Number n) = ⊥
+IsTest shape has (Null ty) = ⊥
+IsTest shape has (Local x) = ⊥
+IsTest shape has (Root slot) = ⊥
+IsTest shape has (Load e slot kind) = ⊥
+IsTest shape has (Negate e) = ⊥
 
 -- arguments, at levels one above another
 abbrev pub AreArguments : List TypeShape → Has → List Expr → (level : ℕ) → Type 0
@@ -87,4 +93,4 @@ pub record IsReadyProcedure (shape : List TypeShape) (p : Procedure) : Type 0 wh
   pub low : AreReady shape HasAll p.body
   pub noted : AreReady shape (HasNoted (table_of shape p)) p.body
   pub end : HasEnd (HasNoted (table_of shape p)) p.result
-  pub few : length p.kinds + length (table_of shape p) ≤ 65535
+  pub few : length p.kinds + length (table_of shape p) ≤ MOST_REGISTERS

@@ -2,10 +2,12 @@
 //! around it say where it ends.
 
 ghost use Rattle.std.specs.Prelude.{◌≡◌, ◌+◌, ◌++◌, length, IfOk, OnOk};
+ghost use Rattle.pst_program.specs.Syntax.{If, Either, While};
 ghost use Rattle.pst_program.specs.View.{expr_of, action_of, actions_of};
-ghost use Rattle.pst_compiled.specs.Code.{if_code, either_code, while_code, action_code, block_code};
+ghost use Rattle.pst_compiled.specs.Code.{block_code};
 ghost use Rattle.pst_compiled.specs.Needs.{temp_of};
 ghost use Rattle.pst_codegen.specs.Ready.{HasNoted, IsTest, IsReady, AreReady};
+ghost use Rattle.pst_codegen.specs.Made.{code_by};
 
 use crate::conditions::{after, emit_test, test_len};
 use crate::expressions::put;
@@ -55,7 +57,7 @@ fn emit_statement(
     at: u32,
 ) -> Result<(), NoMemory>
     requires { IsReady layout.now.shape.now (HasNoted layout.now.table) (action_of statement.now.form) }
-    ensures { OnOk result (code.new.items ≡ code.old.items ++ action_code layout.now.shape.now (temp_of layout.now.locals layout.now.table) (action_of statement.now.form) statement.now.line at) }
+    ensures { OnOk result (code.new.items ≡ code.old.items ++ code_by layout.now (action_of statement.now.form) statement.now.line at) }
 {
     let line = statement.line;
     match &statement.form {
@@ -106,7 +108,7 @@ fn emit_if(
 ) -> Result<(), NoMemory>
     requires condition { IsTest layout.now.shape.now (HasNoted layout.now.table) (expr_of condition.now) }
     requires yes { AreReady layout.now.shape.now (HasNoted layout.now.table) (actions_of yes.now) }
-    ensures { OnOk result (code.new.items ≡ code.old.items ++ if_code layout.now.shape.now (temp_of layout.now.locals layout.now.table) (expr_of condition.now) (block_code layout.now.shape.now (temp_of layout.now.locals layout.now.table) (actions_of yes.now)) line at) }
+    ensures { OnOk result (code.new.items ≡ code.old.items ++ code_by layout.now (If (expr_of condition.now) (actions_of yes.now)) line at) }
 {
     let test = after(at, 1)?;
     let start = after(test, test_len(layout, condition)?)?;
@@ -132,7 +134,7 @@ fn emit_either(
     requires condition { IsTest layout.now.shape.now (HasNoted layout.now.table) (expr_of condition.now) }
     requires yes { AreReady layout.now.shape.now (HasNoted layout.now.table) (actions_of yes.now) }
     requires no { AreReady layout.now.shape.now (HasNoted layout.now.table) (actions_of no.now) }
-    ensures { OnOk result (code.new.items ≡ code.old.items ++ either_code layout.now.shape.now (temp_of layout.now.locals layout.now.table) (expr_of condition.now) (block_code layout.now.shape.now (temp_of layout.now.locals layout.now.table) (actions_of yes.now)) (block_code layout.now.shape.now (temp_of layout.now.locals layout.now.table) (actions_of no.now)) line at) }
+    ensures { OnOk result (code.new.items ≡ code.old.items ++ code_by layout.now (Either (expr_of condition.now) (actions_of yes.now) (actions_of no.now)) line at) }
 {
     let test = after(at, 1)?;
     let start = after(test, test_len(layout, condition)?)?;
@@ -160,7 +162,7 @@ fn emit_while(
 ) -> Result<(), NoMemory>
     requires condition { IsTest layout.now.shape.now (HasNoted layout.now.table) (expr_of condition.now) }
     requires body { AreReady layout.now.shape.now (HasNoted layout.now.table) (actions_of body.now) }
-    ensures { OnOk result (code.new.items ≡ code.old.items ++ while_code layout.now.shape.now (temp_of layout.now.locals layout.now.table) (expr_of condition.now) (block_code layout.now.shape.now (temp_of layout.now.locals layout.now.table) (actions_of body.now)) line at) }
+    ensures { OnOk result (code.new.items ≡ code.old.items ++ code_by layout.now (While (expr_of condition.now) (actions_of body.now)) line at) }
 {
     let test = after(at, 1)?;
     let start = after(test, test_len(layout, condition)?)?;

@@ -47,7 +47,14 @@ fn arithmetic_len(op: Op) -> u32
 {
     match op {
         Op::Add | Op::Sub | Op::Mul | Op::Div | Op::Rem => 1,
-        _ => 0,
+        Op::Equal
+        | Op::NotEqual
+        | Op::Less
+        | Op::LessEqual
+        | Op::Greater
+        | Op::GreaterEqual
+        | Op::And
+        | Op::Or => 0,
     }
 }
 
@@ -57,7 +64,7 @@ fn compare_len(op: Op) -> u32
 {
     match op {
         Op::Equal | Op::NotEqual | Op::Less | Op::LessEqual | Op::Greater | Op::GreaterEqual => 1,
-        _ => 0,
+        Op::Add | Op::Sub | Op::Mul | Op::Div | Op::Rem | Op::And | Op::Or => 0,
     }
 }
 
@@ -75,7 +82,16 @@ pub fn test_len(layout: &Layout<'_>, e: &Typed) -> Result<u32, NoMemory>
                 after(operands, compare_len(*op))
             }
         },
-        _ => Ok(0),
+        Typed::Number(_)
+        | Typed::Null(_)
+        | Typed::Local(_)
+        | Typed::Root(_)
+        | Typed::Load {
+            object: _,
+            field: _,
+            kind: _,
+        }
+        | Typed::Negate(_) => Ok(0),
     }
 }
 
@@ -90,7 +106,7 @@ fn opposite(op: Op) -> Op
         Op::LessEqual => Op::Greater,
         Op::Greater => Op::LessEqual,
         Op::GreaterEqual => Op::Less,
-        other => other,
+        Op::Add | Op::Sub | Op::Mul | Op::Div | Op::Rem | Op::And | Op::Or => op,
     }
 }
 
@@ -105,7 +121,7 @@ fn put_jump(code: &mut Vec<Instr>, op: Op, a: Reg, b: Reg, to: u32) -> Result<()
         Op::LessEqual => put(code, Instr::Jumple(a, b, to)),
         Op::Greater => put(code, Instr::Jumpgt(a, b, to)),
         Op::GreaterEqual => put(code, Instr::Jumpge(a, b, to)),
-        _ => Ok(()),
+        Op::Add | Op::Sub | Op::Mul | Op::Div | Op::Rem | Op::And | Op::Or => Ok(()),
     }
 }
 
@@ -168,6 +184,15 @@ pub fn emit_test(
             }
         },
         // A typed program has no other conditions.
-        _ => unreachable!(),
+        Typed::Number(_)
+        | Typed::Null(_)
+        | Typed::Local(_)
+        | Typed::Root(_)
+        | Typed::Load {
+            object: _,
+            field: _,
+            kind: _,
+        }
+        | Typed::Negate(_) => unreachable!(),
     }
 }

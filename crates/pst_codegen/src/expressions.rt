@@ -91,6 +91,13 @@ fn emit_arithmetic(code: &mut Vec<Instr>, op: Op, d: Reg, a: Reg, b: Reg) -> Res
         Op::Mul => put(code, Instr::Mul(d, a, b)),
         Op::Div => put(code, Instr::Div(d, a, b)),
         Op::Rem => put(code, Instr::Rem(d, a, b)),
-        _ => Ok(()),
+        Op::Equal
+        | Op::NotEqual
+        | Op::Less
+        | Op::LessEqual
+        | Op::Greater
+        | Op::GreaterEqual
+        | Op::And
+        | Op::Or => Ok(()),
     }
 }

@@ -1,6 +1,7 @@
 //! What the code of a procedure is made by.
 
 ghost use Rattle.std.specs.Prelude.{◌+◌, ◌≤◌, length};
+ghost use Rattle.pst_code.specs.declared.procedure.TheConstants.{MOST_REGISTERS};
 
 use crate::table::Table;
 use pst_base::{Kind, TypeShape};
@@ -12,7 +13,7 @@ pub struct Layout<'a> {
     pub shape: &'a [TypeShape],
     pub locals: u16,
     pub table: Table,
-    ghost few: { locals + length table ≤ 65535 },
+    ghost few: { locals + length table ≤ MOST_REGISTERS },
 }
 
 impl Layout<'_> {

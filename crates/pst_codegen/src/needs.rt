@@ -87,7 +87,16 @@ fn note_test(
             }
         },
         // A typed program has no other conditions.
-        _ => unreachable!(),
+        Typed::Number(_)
+        | Typed::Null(_)
+        | Typed::Local(_)
+        | Typed::Root(_)
+        | Typed::Load {
+            object: _,
+            field: _,
+            kind: _,
+        }
+        | Typed::Negate(_) => unreachable!(),
     }
 }
 

@@ -10,7 +10,7 @@ use std::marker::Model;
 
 /// What a temporary register holds, and its index in the table.
 #[derive(Clone, Copy, Debug)]
-struct Place {
+struct Temporary {
     kind: Kind,
     index: usize,
 }
@@ -18,16 +18,16 @@ struct Place {
 /// The temporary registers of a level.
 #[derive(Debug, Drop)]
 struct Row {
-    places: Vec<Place>,
+    temporaries: Vec<Temporary>,
 }
 
 impl Model for Row {
     ghost use Rattle.std.specs.Prelude.{List};
-    ghost use Rattle.pst_codegen.specs.declared.table.Place.{Place};
+    ghost use Rattle.pst_codegen.specs.declared.table.Temporary.{Temporary};
 
-    ghost Value = { List Place };
+    ghost Value = { List Temporary };
 
-    ghost view = { λ a. a.places.items };
+    ghost view = { λ a. a.temporaries.items };
 }
 
 impl Row {
@@ -39,7 +39,7 @@ impl Row {
         ensures { result ≡ [] }
     {
         Row {
-            places: Vec::new(alloc),
+            temporaries: Vec::new(alloc),
         }
     }
 
@@ -47,19 +47,19 @@ impl Row {
     fn find(&self, kind: Kind) -> Option<usize>
         ensures { result ≡ found_in self.now kind }
     {
-        for place in &self.places {
-            if place.kind == kind {
-                return Some(place.index);
+        for temporary in &self.temporaries {
+            if temporary.kind == kind {
+                return Some(temporary.index);
             }
         }
         None
     }
 
     /// Adds a register at the end. Want of memory changes nothing.
-    fn push(&mut self, place: Place) -> Result<(), NoMemory>
-        ensures { MatchResult result (λ _. self.new ≡ self.old ++ place ∷ []) (λ _. self.new ≡ self.old) }
+    fn push(&mut self, temporary: Temporary) -> Result<(), NoMemory>
+        ensures { MatchResult result (λ _. self.new ≡ self.old ++ temporary ∷ []) (λ _. self.new ≡ self.old) }
     {
-        self.places.push(place)?;
+        self.temporaries.push(temporary)?;
         Ok(())
     }
 }
@@ -87,7 +87,7 @@ impl Model for Table {
 impl Table {
     ghost use Rattle.std.specs.Prelude.{◌≡◌, ◌<◌, OnOk, [], length};
     ghost use Rattle.pst_compiled.specs.Needs.{need, noted_one, index_in};
-    ghost use Rattle.pst_codegen.specs.Rows.{place_in};
+    ghost use Rattle.pst_codegen.specs.Rows.{index_noted};
 
     /// A table with no register.
     pub fn new(alloc: Global) -> Self
@@ -108,7 +108,7 @@ impl Table {
 
     /// The index of the register for a level and a kind, if there is one.
     fn find(&self, level: u16, kind: Kind) -> Option<usize>
-        ensures { result ≡ place_in self.now level kind }
+        ensures { result ≡ index_noted self.now level kind }
     {
         match self.rows.get(usize::from(level)) {
             None => None,
@@ -135,7 +135,7 @@ impl Table {
         lengthen(alloc, &mut self.rows, row)?;
         let index = self.needs.len();
         self.needs.push(Need { level, kind })?;
-        let added = self.rows[row].push(Place { kind, index });
+        let added = self.rows[row].push(Temporary { kind, index });
         if added.is_err() {
             self.needs.pop();
         }

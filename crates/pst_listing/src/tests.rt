@@ -114,7 +114,7 @@ fn every_instruction_is_listed_with_its_operands(rt: HostRuntime) -> Result<(), 
     let program = program(rt.alloc())?;
     let procedures = procedures(rt.alloc())?;
     let listing = listing_of(rt.alloc(), procedures.as_slice(), &program)?;
-    let wanted = b"query see args 2 gives int regs List int N
+    let wanted: &[u8] = b"query see args 2 gives int regs List int N
 0 charge 4294967295
 1 const r0 -9223372036854775808
 2 null r65534
@@ -146,6 +146,6 @@ proc put args 0 gives List regs
 12 return
 proc rest args 0 gives none regs int
 ";
-    assert!(rt; listing.is(wanted));
+    assert!(rt; listing.as_slice() == wanted);
     Ok(())
 }
