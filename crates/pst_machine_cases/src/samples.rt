@@ -1,125 +1,120 @@
-//! The programs of the tests.
+//! The code of the tests.
 
-/// A list of numbers with their sum, a procedure that traps behind two prints, and a loop of calls.
-pub(crate) fn list() -> &'static [u8] {
-    b"\
-record N 2 { val key: int; ptr next: N; }
-root first: N;
-proc add(k: int) {
-  var n: N;
-  n = new N;
-  n.key = k;
-  n.next = first;
-  first = n;
-}
-query sum() {
-  var p: N;
-  var s: int;
-  p = first;
-  while p != null {
-    s = s + p.key;
-    p = p.next;
-  }
-  print s;
-}
-proc bad() {
-  var p: N;
-  print 1;
-  print 2;
-  p.key = 3;
-}
-proc fill(k: int) {
-  var i: int;
-  while i < k {
-    call add(i);
-    i = i + 1;
-  }
-}
-"
+use pst_base::{Kind, Kinds, NoMemory, ProcNo, Shape, SlotNo, Targets, Text, TypeNo, TypeShape};
+use pst_code::{Code, Instr, Instrs, Parts, Procedure, ProcedureList, Reg, Regs};
+use std::alloc::Global;
+
+/// The type of all records but the root record: a number, and a pointer to an item.
+const ITEM: TypeNo = TypeNo(1);
+
+/// A list of items, with a root to its first one, and procedures that are called `add`, `fill` and `count`.
+pub(crate) fn list(alloc: Global) -> Result<Option<Code>, NoMemory> {
+    let shape = Shape::from_vec(Vec::from_array(
+        alloc,
+        [record(alloc, 0, 1)?, record(alloc, 1, 2)?],
+    )?);
+    let procedures = Vec::from_array(alloc, [add(alloc)?, fill(alloc)?, count(alloc)?])?;
+    let parts = Parts {
+        shape,
+        procedures: ProcedureList::from_vec(procedures),
+    };
+    Code::new(alloc, parts)
 }
 
-/// Records with an in-degree limit of 2, of which some writes take one pointer too many.
-pub(crate) fn pair() -> &'static [u8] {
-    b"\
-record R 2 { val key: int; ptr next: R; ptr prev: R; }
-root first: R;
-proc one() {
-  var r: R;
-  r = new R;
-  first = r;
-  r.next = r;
-  r.next = r;
-  r.prev = r;
-}
-proc lone() {
-  var r: R;
-  r = new R;
-  r.next = r;
-  r.prev = r;
-  first = r;
-}
-"
+/// A type with this many numbers, a pointer to an item, and this limit.
+fn record(alloc: Global, values: u16, limit: u8) -> Result<TypeShape, NoMemory> {
+    Ok(TypeShape {
+        values,
+        targets: Targets::from_vec(Vec::from_array(alloc, [ITEM])?),
+        limit,
+    })
 }
 
-/// Procedures of no statement, of one and of two.
-pub(crate) fn small() -> &'static [u8] {
-    b"\
-proc empty() { }
-proc single() { print 1; }
-proc double() {
-  print 1;
-  print 2;
-}
-"
-}
-
-/// Arithmetic at the ends of the numbers of 64 bits.
-pub(crate) fn ends() -> &'static [u8] {
-    b"\
-query least() {
-  var a: int;
-  a = -9223372036854775807 - 1;
-  print a;
-  print a % -1;
-  print a / -1;
-}
-query zero(a: int) {
-  print a / 0;
-}
-query up(a: int) {
-  print a + 1;
-}
-"
+/// A procedure with one argument, a number.
+fn procedure(
+    alloc: Global,
+    name: &[u8],
+    kinds: Vec<Kind>,
+    instructions: Vec<Instr>,
+) -> Result<Procedure, NoMemory> {
+    Ok(Procedure {
+        name: Text::from_vec(name.to_vec(alloc)?),
+        query: false,
+        arguments: 1,
+        result: None,
+        kinds: Kinds::from_vec(kinds),
+        instructions: Instrs::from_vec(instructions),
+    })
 }
 
-/// Calls inside calls, and a loop of prints.
-pub(crate) fn deep() -> &'static [u8] {
-    b"\
-query down(k: int) {
-  print k;
-  if k < 256 {
-    call down(k + 1);
-  }
-}
-query flood(n: int) {
-  var i: int;
-  while i < n {
-    print i;
-    i = i + 1;
-  }
-}
-"
+/// Makes an item with the number, in front of the list. It takes four charges.
+fn add(alloc: Global) -> Result<Procedure, NoMemory> {
+    let (k, item, first) = (Reg(0), Reg(1), Reg(2));
+    let instructions = [
+        Instr::Charge(5),
+        Instr::New(item, ITEM),
+        Instr::Charge(6),
+        Instr::Store(item, SlotNo(0), k),
+        Instr::Charge(7),
+        Instr::Root(first, SlotNo(0)),
+        Instr::Store(item, SlotNo(1), first),
+        Instr::Charge(8),
+        Instr::Setroot(SlotNo(0), item),
+        Instr::Return(None),
+    ];
+    let kinds = [Kind::Int, Kind::Pointer(ITEM), Kind::Pointer(ITEM)];
+    procedure(
+        alloc,
+        b"add",
+        Vec::from_array(alloc, kinds)?,
+        Vec::from_array(alloc, instructions)?,
+    )
 }
 
-/// A loop that counts.
-pub(crate) fn counting() -> &'static [u8] {
-    b"\
-query count(n: int) {
-  var i: int;
-  while i < n {
-    i = i + 1;
-  }
-  print i;
+/// Adds the numbers below the argument. It takes seven charges a turn, and one for the last test.
+fn fill(alloc: Global) -> Result<Procedure, NoMemory> {
+    let (k, i, one) = (Reg(0), Reg(1), Reg(2));
+    let instructions = [
+        Instr::Charge(28),
+        Instr::Jumpge(i, k, 8),
+        Instr::Charge(29),
+        Instr::Call(
+            ProcNo(0),
+            None,
+            Regs::from_vec(Vec::from_array(alloc, [i])?),
+        ),
+        Instr::Charge(30),
+        Instr::Const(one, 1),
+        Instr::Add(i, i, one),
+        Instr::Jump(0),
+        Instr::Return(None),
+    ];
+    procedure(
+        alloc,
+        b"fill",
+        Vec::from_array(alloc, [Kind::Int, Kind::Int, Kind::Int])?,
+        Vec::from_array(alloc, instructions)?,
+    )
 }
-"
+
+/// Counts up to the argument, and prints it. It takes two charges a turn, one for the last test and one for the print.
+fn count(alloc: Global) -> Result<Procedure, NoMemory> {
+    let (n, i, one) = (Reg(0), Reg(1), Reg(2));
+    let instructions = [
+        Instr::Charge(4),
+        Instr::Jumpge(i, n, 6),
+        Instr::Charge(5),
+        Instr::Const(one, 1),
+        Instr::Add(i, i, one),
+        Instr::Jump(0),
+        Instr::Charge(7),
+        Instr::Print(i),
+        Instr::Return(None),
+    ];
+    procedure(
+        alloc,
+        b"count",
+        Vec::from_array(alloc, [Kind::Int, Kind::Int, Kind::Int])?,
+        Vec::from_array(alloc, instructions)?,
+    )
 }
