@@ -1,0 +1,19 @@
+//! The order of places: a list in which a new place may come in directly behind another, and comparisons of places that
+//! are counted.
+//!
+//! Model: the list of the places' numbers; the position of a place is its rank there.
+//!
+//! Contract: each call is exact by that list, and a refusal changes nothing. `partition` finds a place among `n` in at most `s`
+//! comparisons, where `2^s` is at most `2 * n + 1`. (The order list of Dietz and Sleator; `RowOrder` is a plain vector.)
+//!
+//!     let place = order.insert_after(order.first())?;
+//!     order.before(order.first(), place)
+#![tactic(auto)]
+
+mod compare;
+mod order;
+mod row;
+
+pub use compare::{Compare, Counting, PlaceList, partition};
+pub use order::{Order, Pos, ranks, ranks_rise};
+pub use row::RowOrder;
