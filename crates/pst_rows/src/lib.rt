@@ -1,21 +1,22 @@
-//! Whole inputs with what is written for them, on the top call.
+//! Rows of stamped values: what the slots of a node hold, at each place of the node's life.
+//!
+//! Model: what a row shows (`shown`): its life, a base for each slot, and the stamped values in the order of slot and then place.
+//!
+//! Contract: each call says which stretch of positions changes and that nothing else does, how many stamped values are added and
+//! what room is left; a read keeps the bound of a bisection. (The fat node of Driscoll, Sarnak, Sleator and Tarjan.)
+//!
+//!     row.reserve(2)?;
+//!     row.set_over(&order, slot, from, to, Content::Number(7));
 #![tactic(auto)]
 
-#[cfg(test)]
-mod faults;
-#[cfg(test)]
-mod limits;
-#[cfg(test)]
-mod listings;
-#[cfg(test)]
-mod printing;
-#[cfg(test)]
-mod runs;
-#[cfg(test)]
-mod samples;
-#[cfg(test)]
-mod scripts;
-#[cfg(test)]
-mod streams;
-#[cfg(test)]
-mod typing;
+mod content;
+mod laws;
+mod row;
+mod stamps;
+
+pub use content::{Content, Held, Slot, Stamp};
+pub use laws::{
+    cuts_hold, insertions_keep_rows, replacements_hold, rows_are_inside, rows_are_steady,
+    sets_hold, splits_hold,
+};
+pub use row::Row;

@@ -1,0 +1,434 @@
+//! Rows.
+
+ghost use Rattle.std.specs.Prelude.{◌≡◌, ℕ, ◌+◌, ◌-◌, ◌^◌, ◌<◌, ◌≤◌, ◌↔◌, IfOk, OnOk, IfErr, OnErr, IfSome, IsNone, length, false, unwrap_or, is_some};
+ghost use Rattle.pst_order.specs.Places.{rank, IsIn};
+ghost use Rattle.pst_order.specs.Search.{IsFewMore};
+ghost use Rattle.pst_rows.specs.Values.{before_slot};
+ghost use Rattle.pst_rows.specs.Rows.{stamps_of, width_of, content_at, row_edge, stamped_count, stamped_in, spare_of, IsRow, IsRowIn, IsInLife};
+ghost use Rattle.pst_rows.specs.Changes.{slot_count, first_content, IsNewRow, IsSegmentAround, IsSameRow, IsRowSet, IsRowCut, IsRowReplaced, IsRowSplit, IsSplitStamp, HasMore, needed, missing};
+ghost use Rattle.pst_rows.specs.Steps.{HasParts, IsLocated, IsStampAt, IsGap, IsInserted, IsRowPut, IsRowRestored, IsRowBegun, AreSlotsAt, AreFirstSlots};
+
+use crate::content::{Content, Held, Slot, Stamp};
+use crate::stamps::{
+    Located, StampPlaces, Stamps, count_slots, insert_stamp, is_middle, raise_starts, recount,
+    stamps_after, stamps_before, write_base, write_content,
+};
+use pst_base::{NoMemory, SlotNo, TypeShape};
+use pst_order::{Compare, Counting, Order, Pos, partition};
+use smallvec::SmallVec;
+use std::alloc::Global;
+
+/// What the slots of a node hold over its life, which begins at a place and ends before another. A slot holds a content
+/// from the begin of the life on, and each stamped one from its place on, up to the next or to the end of the life: these
+/// stretches are the segments of the slot. The stamped values stand in the order of slot and then place, and each slot
+/// knows where its own begin. A row keeps the numbers of places, and no order: each call is handed the order, and only
+/// `new`, `reserve` and `split_off` take memory.
+#[derive(Drop)]
+pub struct Row {
+    lo: Pos,
+    hi: Pos,
+    slots: Vec<Slot>,
+    stamps: Stamps,
+}
+
+impl Row {
+    /// A row of a type with the life from `lo` to `hi`, without `hi`: each number 0, each pointer null, each inverse slot
+    /// free. `NoMemory` where there is no memory for it.
+    pub fn new(alloc: Global, shape: &TypeShape, lo: Pos, hi: Pos) -> Result<Row, NoMemory>
+        requires { slot_count shape.now ≤ 65536 }
+        ensures { IfOk result (IsNewRow shape.now lo hi) }
+    {
+        Ok(Row {
+            lo,
+            hi,
+            slots: first_slots(alloc, shape)?,
+            stamps: SmallVec::new(alloc),
+        })
+    }
+
+    /// Where the life begins.
+    pub fn lo(&self) -> Pos
+        ensures { result ≡ self.now.lo }
+    {
+        self.lo
+    }
+
+    /// The place before which the life ends.
+    pub fn hi(&self) -> Pos
+        ensures { result ≡ self.now.hi }
+    {
+        self.hi
+    }
+
+    /// How many slots there are.
+    pub fn width(&self) -> usize
+        ensures { result ≡ width_of self.now }
+    {
+        self.slots.len()
+    }
+
+    /// How many stamped values there are.
+    pub fn stamped(&self) -> usize
+        ensures { result ≡ stamped_count self.now }
+    {
+        self.stamps.len()
+    }
+
+    /// How many stamped values more need no memory.
+    pub fn spare(&self) -> usize
+        ensures { result ≡ spare_of self.now }
+    {
+        self.stamps.capacity() - self.stamps.len()
+    }
+
+    /// Makes room for so many stamped values more. `NoMemory` where there is none: then nothing changes.
+    pub fn reserve(&mut self, count: usize) -> Result<(), NoMemory>
+        ensures same { IsSameRow self.old self.new }
+        ensures ok { OnOk result (count ≤ spare_of self.new) }
+        ensures as_well { spare_of self.old ≤ spare_of self.new }
+        ensures err { OnErr result (self.new ≡ self.old) }
+    {
+        self.stamps.reserve(count)
+    }
+
+    /// What a slot holds at a place of the life.
+    #[inline]
+    pub fn read<O: Order>(&self, order: &O, slot: SlotNo, at: Pos) -> Content
+        requires row { IsRowIn (O.places order.now) self.now }
+        requires slot { slot.0 < width_of self.now }
+        requires life { IsInLife (O.places order.now) self.now at.0 }
+        ensures { result ≡ content_at (rank (O.places order.now)) self.now slot.0 (rank (O.places order.now) at.0) }
+    {
+        self.read_with(&mut Counting::new(order), slot, at)
+    }
+
+    /// What a slot holds at a place of the life, found by bisection in at most `s` comparisons, where `2 ^ s` is at most
+    /// `2 * n + 1` for the `n` stamped values of the slot.
+    #[inline]
+    pub fn read_with<P: Compare>(&self, compare: &mut P, slot: SlotNo, at: Pos) -> Content
+        requires row { IsRowIn (P.list compare.old) self.now }
+        requires slot { slot.0 < width_of self.now }
+        requires life { IsInLife (P.list compare.old) self.now at.0 }
+        requires calls { P.calls compare.old ≤ 2 ^ 63 }
+        ensures content { result ≡ content_at (rank (P.list compare.old)) self.now slot.0 (rank (P.list compare.old) at.0) }
+        ensures list { P.list compare.new ≡ P.list compare.old }
+        ensures calls { IsFewMore (stamped_in self.now slot.0) (P.calls compare.old) (P.calls compare.new) }
+    {
+        let (start, stop) = self.part(slot);
+        if start < stop {
+            let stamps = self.stamps.as_slice();
+            let index = partition(compare, &StampPlaces { stamps }, start, stop, at);
+            if start < index {
+                return stamps[index - 1].content.content();
+            }
+        }
+        self.slots[usize::from(slot.0)].content.content()
+    }
+
+    /// Where the segment of a slot that covers a place of the life begins, and before which place it ends.
+    pub fn segment<O: Order>(&self, order: &O, slot: SlotNo, at: Pos) -> (Pos, Pos)
+        requires row { IsRowIn (O.places order.now) self.now }
+        requires slot { slot.0 < width_of self.now }
+        requires life { IsInLife (O.places order.now) self.now at.0 }
+        ensures { IsSegmentAround (rank (O.places order.now)) self.now slot.0 (rank (O.places order.now) at.0)
+            (rank (O.places order.now) result.0.0) (rank (O.places order.now) result.1.0) }
+    {
+        let located = self.locate(&mut Counting::new(order), slot, at);
+        let stamps = self.stamps.as_slice();
+        let begin = if located.index == located.start {
+            self.lo
+        } else {
+            stamps[located.index - 1].place
+        };
+        let end = if located.index == located.stop {
+            self.hi
+        } else {
+            stamps[located.index].place
+        };
+        (begin, end)
+    }
+
+    /// Sets a slot from a place to the one directly behind it: that stretch becomes a segment, and what the slot held
+    /// there before is held from its end on. It adds one stamped value at each end where no segment ended.
+    pub fn set_over<O: Order>(
+        &mut self,
+        order: &O,
+        slot: SlotNo,
+        from: Pos,
+        to: Pos,
+        content: Content,
+    )
+        requires row { IsRowIn (O.places order.now) self.old }
+        requires slot { slot.0 < width_of self.old }
+        requires life { IsInLife (O.places order.now) self.old from.0 }
+        requires behind { rank (O.places order.now) to.0 ≡ rank (O.places order.now) from.0 + 1 }
+        requires spare { 2 ≤ spare_of self.old }
+        ensures set { IsRowSet (rank (O.places order.now)) self.old self.new slot.0 (rank (O.places order.now) from.0) content }
+        ensures row { IsRowIn (O.places order.now) self.new }
+        ensures more { HasMore (needed (rank (O.places order.now)) self.old slot.0 (rank (O.places order.now) from.0)) self.old self.new }
+    {
+        let before = self.read(order, slot, from);
+        self.restore_behind(order, slot, to, before);
+        self.begin(order, slot, from, content);
+    }
+
+    /// Cuts a segment in two at a place strictly inside it. The later part gets a content. It adds one stamped value.
+    pub fn cut<O: Order>(&mut self, order: &O, slot: SlotNo, at: Pos, content: Content)
+        requires row { IsRowIn (O.places order.now) self.old }
+        requires slot { slot.0 < width_of self.old }
+        requires life { IsInLife (O.places order.now) self.old at.0 }
+        requires inside { row_edge (rank (O.places order.now)) self.old slot.0 (rank (O.places order.now) at.0) ≡ false }
+        requires spare { 1 ≤ spare_of self.old }
+        ensures cut { IsRowCut (rank (O.places order.now)) self.old self.new slot.0 (rank (O.places order.now) at.0) content }
+        ensures row { IsRowIn (O.places order.now) self.new }
+        ensures more { HasMore 1 self.old self.new }
+    {
+        let located = self.locate(&mut Counting::new(order), slot, at);
+        self.insert(located.index, slot, at, content);
+    }
+
+    /// Gives the segment of a slot that covers a place another content. It adds no stamped value.
+    pub fn replace<O: Order>(&mut self, order: &O, slot: SlotNo, at: Pos, content: Content)
+        requires row { IsRowIn (O.places order.now) self.old }
+        requires slot { slot.0 < width_of self.old }
+        requires life { IsInLife (O.places order.now) self.old at.0 }
+        ensures replaced { IsRowReplaced (rank (O.places order.now)) self.old self.new slot.0 (rank (O.places order.now) at.0) content }
+        ensures row { IsRowIn (O.places order.now) self.new }
+        ensures more { HasMore 0 self.old self.new }
+    {
+        let located = self.locate(&mut Counting::new(order), slot, at);
+        if located.index == located.start {
+            write_base(&mut self.slots, slot, content);
+        } else {
+            write_content(&mut self.stamps, located.index - 1, content);
+        }
+    }
+
+    /// A place at which something is stamped, with at most half of the stamped values before it and at most half after
+    /// it. There is none where nothing is stamped.
+    pub fn split_stamp<O: Order>(&self, order: &O) -> Option<Pos>
+        requires { IsRowIn (O.places order.now) self.now }
+        ensures some { IfSome result (λ place. IsSplitStamp (rank (O.places order.now)) self.now (rank (O.places order.now) place.0)) }
+        ensures none { IsNone result ↔ (stamped_count self.now ≡ 0) }
+    {
+        let stamps = self.stamps.as_slice();
+        for stamp in stamps {
+            if is_middle(order, stamps, stamp.place) {
+                return Some(stamp.place);
+            }
+        }
+        None
+    }
+
+    /// Cuts the row in two at a place strictly inside its life: leaves what is before it, and gives the rest, which holds
+    /// from the place on what the slots held there. `NoMemory` where there is no memory for the rest: then nothing changes.
+    pub fn split_off<O: Order>(&mut self, order: &O, at: Pos) -> Result<Row, NoMemory>
+        requires row { IsRowIn (O.places order.now) self.old }
+        requires after { rank (O.places order.now) self.old.lo.0 < rank (O.places order.now) at.0 }
+        requires before { rank (O.places order.now) at.0 < rank (O.places order.now) self.old.hi.0 }
+        ensures split { IfOk result (λ right. IsRowSplit (rank (O.places order.now)) self.old self.new right at) }
+        ensures left { OnOk result (IsRowIn (O.places order.now) self.new) }
+        ensures right { IfOk result (IsRowIn (O.places order.now)) }
+        ensures err { OnErr result (self.new ≡ self.old) }
+    {
+        let alloc = *self.slots.allocator();
+        let left = stamps_before(alloc, order, self.stamps.as_slice(), at)?;
+        let right = stamps_after(alloc, order, self.stamps.as_slice(), at)?;
+        let slots = self.slots_at(alloc, order, at, right.as_slice())?;
+        recount(&mut self.slots, left.as_slice());
+        let hi = self.hi;
+        self.hi = at;
+        self.stamps = left;
+        Ok(Row {
+            lo: at,
+            hi,
+            slots,
+            stamps: right,
+        })
+    }
+
+    // Where a slot's stamps are.
+    #[inline]
+    fn part(&self, slot: SlotNo) -> (usize, usize)
+        requires parts { HasParts self.now }
+        requires slot { slot.0 < width_of self.now }
+        ensures start { result.0 ≡ before_slot self.now.stamps.items slot.0 }
+        ensures stop { result.1 ≡ before_slot self.now.stamps.items (slot.0 + 1) }
+    {
+        let slot = usize::from(slot.0);
+        let stop = if slot + 1 < self.slots.len() {
+            self.slots[slot + 1].start
+        } else {
+            self.stamps.len()
+        };
+        (self.slots[slot].start, stop)
+    }
+
+    // Where a slot's stamps are, and which of them are not after a place.
+    #[inline]
+    fn locate<P: Compare>(&self, compare: &mut P, slot: SlotNo, at: Pos) -> Located
+        requires row { IsRowIn (P.list compare.old) self.now }
+        requires slot { slot.0 < width_of self.now }
+        requires at { IsIn (P.list compare.old) at.0 }
+        requires calls { P.calls compare.old ≤ 2 ^ 63 }
+        ensures located { IsLocated (rank (P.list compare.old)) self.now.stamps.items slot.0 (rank (P.list compare.old) at.0) result.start result.index result.stop }
+        ensures list { P.list compare.new ≡ P.list compare.old }
+        ensures calls { IsFewMore (stamped_in self.now slot.0) (P.calls compare.old) (P.calls compare.new) }
+    {
+        let (start, stop) = self.part(slot);
+        let places = StampPlaces {
+            stamps: self.stamps.as_slice(),
+        };
+        let index = partition(compare, &places, start, stop, at);
+        Located { start, index, stop }
+    }
+
+    // The index of the stamp of a slot and place, or the one at which it can come in.
+    fn find<O: Order>(&self, order: &O, slot: SlotNo, place: Pos) -> Result<usize, usize>
+        requires row { IsRowIn (O.places order.now) self.now }
+        requires slot { slot.0 < width_of self.now }
+        requires place { IsIn (O.places order.now) place.0 }
+        ensures ok { IfOk result (λ i. IsStampAt (rank (O.places order.now)) self.now.stamps.items i slot.0 (rank (O.places order.now) place.0)) }
+        ensures err { IfErr result (λ k. IsGap (rank (O.places order.now)) self.now.stamps.items k slot.0 (rank (O.places order.now) place.0)) }
+    {
+        let located = self.locate(&mut Counting::new(order), slot, place);
+        if located.start < located.index {
+            let last = located.index - 1;
+            if self.stamps.as_slice()[last].place == place {
+                return Ok(last);
+            }
+        }
+        Err(located.index)
+    }
+
+    // Puts a stamp at an index.
+    fn insert(&mut self, index: usize, slot: SlotNo, place: Pos, content: Content)
+        requires parts { HasParts self.old }
+        requires index { index ≤ stamped_count self.old }
+        requires spare { 1 ≤ spare_of self.old }
+        ensures { IsInserted self.old self.new index (record { slot = slot; place = place; content = content }) }
+    {
+        let _room = self.stamps.capacity();
+        let stamp = Stamp {
+            slot,
+            place,
+            content: Held::new(content),
+        };
+        insert_stamp(&mut self.stamps, index, stamp);
+        raise_starts(&mut self.slots, slot);
+    }
+
+    // Stamps a content at a place, in the place of one that is stamped there.
+    fn put<O: Order>(&mut self, order: &O, slot: SlotNo, place: Pos, content: Content)
+        requires row { IsRowIn (O.places order.now) self.old }
+        requires slot { slot.0 < width_of self.old }
+        requires after { rank (O.places order.now) self.old.lo.0 < rank (O.places order.now) place.0 }
+        requires before { rank (O.places order.now) place.0 < rank (O.places order.now) self.old.hi.0 }
+        requires spare { 1 ≤ spare_of self.old }
+        ensures put { IsRowPut (rank (O.places order.now)) self.old self.new slot.0 (rank (O.places order.now) place.0) content }
+        ensures row { IsRowIn (O.places order.now) self.new }
+        ensures more { HasMore (missing (is_some (stamps_of (rank (O.places order.now)) self.old slot.0 (rank (O.places order.now) place.0)))) self.old self.new }
+    {
+        match self.find(order, slot, place) {
+            Ok(index) => write_content(&mut self.stamps, index, content),
+            Err(index) => self.insert(index, slot, place, content),
+        }
+    }
+
+    // Stamps a content at a place, unless one is stamped there.
+    fn restore<O: Order>(&mut self, order: &O, slot: SlotNo, place: Pos, content: Content)
+        requires row { IsRowIn (O.places order.now) self.old }
+        requires slot { slot.0 < width_of self.old }
+        requires after { rank (O.places order.now) self.old.lo.0 < rank (O.places order.now) place.0 }
+        requires before { rank (O.places order.now) place.0 < rank (O.places order.now) self.old.hi.0 }
+        requires spare { 1 ≤ spare_of self.old }
+        ensures restored { IsRowPut (rank (O.places order.now)) self.old self.new slot.0 (rank (O.places order.now) place.0)
+            (unwrap_or (stamps_of (rank (O.places order.now)) self.old slot.0 (rank (O.places order.now) place.0)) content) }
+        ensures row { IsRowIn (O.places order.now) self.new }
+        ensures more { HasMore (missing (is_some (stamps_of (rank (O.places order.now)) self.old slot.0 (rank (O.places order.now) place.0)))) self.old self.new }
+    {
+        match self.find(order, slot, place) {
+            Ok(_) => {}
+            Err(index) => self.insert(index, slot, place, content),
+        }
+    }
+
+    // Restores a content at a place, unless the life ends there.
+    fn restore_behind<O: Order>(&mut self, order: &O, slot: SlotNo, to: Pos, content: Content)
+        requires row { IsRowIn (O.places order.now) self.old }
+        requires slot { slot.0 < width_of self.old }
+        requires after { rank (O.places order.now) self.old.lo.0 < rank (O.places order.now) to.0 }
+        requires before { rank (O.places order.now) to.0 ≤ rank (O.places order.now) self.old.hi.0 }
+        requires spare { 1 ≤ spare_of self.old }
+        ensures restored { IsRowRestored (rank (O.places order.now)) self.old self.new slot.0 (rank (O.places order.now) to.0) content }
+        ensures row { IsRowIn (O.places order.now) self.new }
+        ensures more { HasMore (missing (row_edge (rank (O.places order.now)) self.old slot.0 (rank (O.places order.now) to.0))) self.old self.new }
+    {
+        if to != self.hi {
+            self.restore(order, slot, to, content);
+        }
+    }
+
+    // Sets what a slot holds from a place on: at the begin of the life that of the slot, and else a stamp.
+    fn begin<O: Order>(&mut self, order: &O, slot: SlotNo, from: Pos, content: Content)
+        requires row { IsRowIn (O.places order.now) self.old }
+        requires slot { slot.0 < width_of self.old }
+        requires life { IsInLife (O.places order.now) self.old from.0 }
+        requires spare { 1 ≤ spare_of self.old }
+        ensures begun { IsRowBegun (rank (O.places order.now)) self.old self.new slot.0 (rank (O.places order.now) from.0) content }
+        ensures row { IsRowIn (O.places order.now) self.new }
+        ensures more { HasMore (missing (row_edge (rank (O.places order.now)) self.old slot.0 (rank (O.places order.now) from.0))) self.old self.new }
+    {
+        if from == self.lo {
+            write_base(&mut self.slots, slot, content);
+        } else {
+            self.put(order, slot, from, content);
+        }
+    }
+
+    // What each slot holds at a place, with where its stamps begin in another list.
+    fn slots_at<O: Order>(
+        &self,
+        alloc: Global,
+        order: &O,
+        at: Pos,
+        stamps: &[Stamp],
+    ) -> Result<Vec<Slot>, NoMemory>
+        requires row { IsRowIn (O.places order.now) self.now }
+        requires life { IsInLife (O.places order.now) self.now at.0 }
+        ensures { IfOk result (λ slots. AreSlotsAt (rank (O.places order.now)) self.now (rank (O.places order.now) at.0) stamps.now slots.items) }
+    {
+        let mut slots = Vec::with_capacity(alloc, self.slots.len())?;
+        for slot in 0..self.slots.len() {
+            slots.push(Slot {
+                content: Held::new(self.read(order, SlotNo(slot as u16), at)),
+                start: count_slots(stamps, slot),
+            })?;
+        }
+        Ok(slots)
+    }
+}
+
+// What the slots of a new row hold.
+fn first_slots(alloc: Global, shape: &TypeShape) -> Result<Vec<Slot>, NoMemory>
+    requires { slot_count shape.now ≤ 65536 }
+    ensures { IfOk result (λ slots. AreFirstSlots shape.now slots.items) }
+{
+    let fields = usize::from(shape.values) + shape.targets.as_slice().len();
+    let count = fields + usize::from(shape.limit);
+    let mut slots = Vec::with_capacity(alloc, count)?;
+    for slot in 0..count {
+        let content = if slot < usize::from(shape.values) {
+            Content::Number(0)
+        } else if slot < fields {
+            Content::Null
+        } else {
+            Content::Free
+        };
+        slots.push(Slot {
+            content: Held::new(content),
+            start: 0,
+        })?;
+    }
+    Ok(slots)
+}

@@ -1,0 +1,187 @@
+//! Work on the lists of a row.
+
+ghost use Rattle.std.specs.Prelude.{◌≡◌, ℕ, ◌+◌, ◌*◌, ◌-◌, ◌^◌, ◌<◌, ◌≤◌, ◌↔◌, ◌==◌, nat_lt, All, IsTrue, IfOk, length, get_or, filter, count_by, insert};
+ghost use Rattle.smallvec.specs.SmallVec.{HasRoomFor};
+ghost use Rattle.pst_order.specs.Places.{rank};
+ghost use Rattle.pst_rows.specs.Values.{no_slot, before_slot};
+ghost use Rattle.pst_rows.specs.Steps.{places_of, with_content, with_base, AreRaised, AreRecounted};
+
+use crate::content::{Content, Held, Slot, Stamp};
+use pst_base::{NoMemory, SlotNo};
+use pst_order::{Order, PlaceList, Pos};
+use smallvec::SmallVec;
+use std::alloc::Global;
+
+/// The stamped values of a row. Up to four stand in the row itself: with 24 bytes for each of them and for each slot, a row
+/// of four slots takes 240 bytes.
+pub type Stamps = SmallVec<Stamp, 4>;
+
+/// The places of stamps.
+#[derive(Drop)]
+pub struct StampPlaces<'a> {
+    pub stamps: &'a [Stamp],
+}
+
+impl<'a> PlaceList for StampPlaces<'a> {
+    ghost numbers = { λ s. places_of s.stamps.now };
+
+    #[inline]
+    fn place(&self, index: usize) -> Pos {
+        place_at(self.stamps, index)
+    }
+}
+
+/// The place of a stamp.
+#[inline]
+fn place_at(stamps: &[Stamp], index: usize) -> Pos
+    requires { index < length stamps.now }
+    ensures { result.0 ≡ get_or (places_of stamps.now) index 0 }
+{
+    stamps[index].place
+}
+
+/// Where a slot's stamps are, and of these the ones that are not after a place: those before `index`.
+#[derive(Clone, Copy)]
+pub struct Located {
+    pub start: usize,
+    pub index: usize,
+    pub stop: usize,
+}
+
+/// How many stamps are of slots before a number.
+pub fn count_slots(stamps: &[Stamp], slot: usize) -> usize
+    ensures { result ≡ before_slot stamps.now slot }
+{
+    stamps
+        .iter()
+        .filter(|stamp| usize::from(stamp.slot.0) < slot)
+        .count()
+}
+
+/// How many stamps lie before a place.
+pub fn count_before<O: Order>(order: &O, stamps: &[Stamp], at: Pos) -> usize
+    requires all { All (λ e. rank (O.places order.now) e.place.0 < length (O.places order.now)) stamps.now }
+    requires at { rank (O.places order.now) at.0 < length (O.places order.now) }
+    ensures { result ≡ count_by (λ e. nat_lt (rank (O.places order.now) e.place.0) (rank (O.places order.now) at.0)) stamps.now }
+{
+    let mut count = 0;
+    for stamp in stamps {
+        if order.before(stamp.place, at) {
+            count += 1;
+        }
+    }
+    count
+}
+
+/// How many stamps lie after a place.
+pub fn count_after<O: Order>(order: &O, stamps: &[Stamp], at: Pos) -> usize
+    requires all { All (λ e. rank (O.places order.now) e.place.0 < length (O.places order.now)) stamps.now }
+    requires at { rank (O.places order.now) at.0 < length (O.places order.now) }
+    ensures { result ≡ count_by (λ e. nat_lt (rank (O.places order.now) at.0) (rank (O.places order.now) e.place.0)) stamps.now }
+{
+    let mut count = 0;
+    for stamp in stamps {
+        if order.before(at, stamp.place) {
+            count += 1;
+        }
+    }
+    count
+}
+
+/// Whether at most half of the stamps lie before a place, and at most half after it.
+pub fn is_middle<O: Order>(order: &O, stamps: &[Stamp], at: Pos) -> bool
+    requires all { All (λ e. rank (O.places order.now) e.place.0 < length (O.places order.now)) stamps.now }
+    requires at { rank (O.places order.now) at.0 < length (O.places order.now) }
+    ensures { IsTrue result ↔
+        ((2 * count_by (λ e. nat_lt (rank (O.places order.now) e.place.0) (rank (O.places order.now) at.0)) stamps.now ≤ length stamps.now)
+        × (2 * count_by (λ e. nat_lt (rank (O.places order.now) at.0) (rank (O.places order.now) e.place.0)) stamps.now ≤ length stamps.now)) }
+{
+    let half = stamps.len() / 2;
+    count_before(order, stamps, at) <= half && count_after(order, stamps, at) <= half
+}
+
+/// The stamps before a place.
+pub fn stamps_before<O: Order>(
+    alloc: Global,
+    order: &O,
+    stamps: &[Stamp],
+    at: Pos,
+) -> Result<Stamps, NoMemory>
+    requires all { All (λ e. rank (O.places order.now) e.place.0 < length (O.places order.now)) stamps.now }
+    requires at { rank (O.places order.now) at.0 < length (O.places order.now) }
+    ensures { IfOk result (λ kept. kept.items ≡ filter (λ e. nat_lt (rank (O.places order.now) e.place.0) (rank (O.places order.now) at.0)) stamps.now) }
+{
+    let mut kept = SmallVec::new(alloc);
+    for earlier in stamps {
+        if order.before(earlier.place, at) {
+            kept.push(*earlier)?;
+        }
+    }
+    Ok(kept)
+}
+
+/// The stamps after a place.
+pub fn stamps_after<O: Order>(
+    alloc: Global,
+    order: &O,
+    stamps: &[Stamp],
+    at: Pos,
+) -> Result<Stamps, NoMemory>
+    requires all { All (λ e. rank (O.places order.now) e.place.0 < length (O.places order.now)) stamps.now }
+    requires at { rank (O.places order.now) at.0 < length (O.places order.now) }
+    ensures { IfOk result (λ kept. kept.items ≡ filter (λ e. nat_lt (rank (O.places order.now) at.0) (rank (O.places order.now) e.place.0)) stamps.now) }
+{
+    let mut kept = SmallVec::new(alloc);
+    for later in stamps {
+        if order.before(at, later.place) {
+            kept.push(*later)?;
+        }
+    }
+    Ok(kept)
+}
+
+/// Puts a stamp at an index.
+pub fn insert_stamp(stamps: &mut Stamps, index: usize, stamp: Stamp)
+    requires index { index ≤ length stamps.old.items }
+    requires room { HasRoomFor stamps.old 1 }
+    ensures items { stamps.new.items ≡ insert stamps.old.items index stamp }
+    ensures capacity { stamps.new.capacity ≡ stamps.old.capacity }
+{
+    let _there_is_room = stamps.insert(index, stamp);
+}
+
+/// Gives a stamp another content.
+pub fn write_content(stamps: &mut Stamps, index: usize, content: Content)
+    requires { index < length stamps.old.items }
+    ensures items { stamps.new.items ≡ with_content stamps.old.items index content }
+    ensures capacity { stamps.new.capacity ≡ stamps.old.capacity }
+{
+    stamps.as_mut_slice()[index].content = Held::new(content);
+}
+
+/// Gives a slot another content at the begin of the life.
+pub fn write_base(slots: &mut Vec<Slot>, slot: SlotNo, content: Content)
+    requires { slot.0 < length slots.old.items }
+    ensures { slots.new.items ≡ with_base slots.old.items slot.0 content }
+{
+    slots[usize::from(slot.0)].content = Held::new(content);
+}
+
+/// Each slot behind one has one stamp more before it.
+pub fn raise_starts(slots: &mut Vec<Slot>, slot: SlotNo)
+    requires few { All (λ s. s.start < 2 ^ 64 - 1) slots.old.items }
+    ensures { AreRaised slots.old.items slots.new.items slot.0 }
+{
+    for later in usize::from(slot.0) + 1..slots.len() {
+        slots[later].start += 1;
+    }
+}
+
+/// Counts anew where the stamps of each slot begin.
+pub fn recount(slots: &mut Vec<Slot>, stamps: &[Stamp])
+    ensures { AreRecounted slots.old.items slots.new.items stamps.now }
+{
+    for slot in 0..slots.len() {
+        slots[slot].start = count_slots(stamps, slot);
+    }
+}
