@@ -1,0 +1,156 @@
+//! Times insertions into an order, comparisons of its places, and reads of rows. With the word `times` it does much of each
+//! and prints how long that took. With no word it does less, and prints what holds alone.
+#![tactic(auto)]
+
+ghost use Rattle.std.specs.Prelude.{◌≤◌};
+
+mod bed;
+mod orders;
+mod reads;
+#[cfg(test)]
+mod tests;
+
+use bed::Bed;
+use orders::{are_reversed, compare_many, insert_behind, insert_behind_first};
+use pst_labels::LabelOrder;
+use pst_order::Order;
+use pst_rows::{Row, Slot};
+use reads::{fill, read_rows, scan_rows};
+use std::alloc::Global;
+use std::mem::size_of;
+use std::rt::Env;
+use std::time::{Duration, Instant};
+use std::{env, io};
+
+/// How much is done, and whether times are printed.
+#[derive(Clone, Copy)]
+struct Scale {
+    insertions: u32,
+    comparisons: u32,
+    reads: u32,
+    timed: bool,
+}
+
+const CHECKED: Scale = Scale {
+    insertions: 10_000,
+    comparisons: 10_000,
+    reads: 10_000,
+    timed: false,
+};
+
+const TIMED: Scale = Scale {
+    insertions: 1_000_000,
+    comparisons: 20_000_000,
+    reads: 20_000_000,
+    timed: true,
+};
+
+/// Whether the program was given the word `times`.
+fn is_timed<R: Env + AllocGlobal>(rt: &R) -> io::Result<bool> {
+    for word in env::args(rt)?.skip(1) {
+        if word.as_str() == "times" {
+            return Ok(true);
+        }
+    }
+    Ok(false)
+}
+
+/// Prints how long something took, where times are printed.
+fn print_time(rt: &HostRuntime, timed: bool, what: &str, time: Duration) -> io::Result<()> {
+    if timed {
+        println!(rt; "    {what}: {} us", time.as_micros())?;
+    }
+    Ok(())
+}
+
+/// Inserts behind the first place, and compares the places.
+fn time_first(rt: &HostRuntime, alloc: Global, scale: Scale) -> io::Result<()>
+    requires some { 1 ≤ scale.insertions }
+    requires few { scale.insertions ≤ 1000000 }
+{
+    let mut order = LabelOrder::new(alloc)?;
+    let start = Instant::now(rt)?;
+    let places = insert_behind_first(alloc, &mut order, scale.insertions)?;
+    let insertions = start.elapsed(rt)?;
+    println!(rt;
+        "{} behind the first place, in reverse order: {}",
+        scale.insertions,
+        are_reversed(&order, &places)
+    )?;
+    print_time(rt, scale.timed, "insertions", insertions)?;
+    for apart in [1, 61] {
+        let start = Instant::now(rt)?;
+        let earlier = compare_many(&order, &places, apart, scale.comparisons);
+        let comparisons = start.elapsed(rt)?;
+        println!(rt;
+            "{} comparisons of places {apart} apart, the first place earlier: {earlier}",
+            scale.comparisons
+        )?;
+        print_time(rt, scale.timed, "comparisons", comparisons)?;
+    }
+    Ok(())
+}
+
+/// Inserts behind the last place.
+fn time_last(rt: &HostRuntime, alloc: Global, scale: Scale) -> io::Result<()>
+    requires { scale.insertions ≤ 1000000 }
+{
+    let mut order = LabelOrder::new(alloc)?;
+    let first = order.first();
+    let start = Instant::now(rt)?;
+    let last = insert_behind(&mut order, first, scale.insertions)?;
+    let insertions = start.elapsed(rt)?;
+    println!(rt;
+        "{} behind the last place, the first before the last: {}",
+        scale.insertions,
+        order.before(order.first(), last)
+    )?;
+    print_time(rt, scale.timed, "insertions", insertions)
+}
+
+/// Reads a row with so many stamped values in its first slots, and goes over them all as well.
+fn time_reads(
+    rt: &HostRuntime,
+    alloc: Global,
+    scale: Scale,
+    count: u16,
+    slots: u16,
+) -> io::Result<()>
+    requires some { 1 ≤ slots }
+    requires few { slots ≤ 5 }
+    requires bound { count ≤ 1000 }
+{
+    let mut order = LabelOrder::new(alloc)?;
+    let mut bed = Bed::new(alloc, &mut order)?;
+    fill(&mut bed, &mut order, count, slots)?;
+    let stride = 61 % bed.places.len();
+    let start = Instant::now(rt)?;
+    let sum = read_rows(&bed, &order, slots, stride, scale.reads);
+    let rows = start.elapsed(rt)?;
+    let start = Instant::now(rt)?;
+    let scanned = scan_rows(&bed, &order, slots, stride, scale.reads);
+    let scans = start.elapsed(rt)?;
+    println!(rt;
+        "{} reads of {} stamped values over {slots} slots, as by scans: {}",
+        scale.reads,
+        bed.row.stamped(),
+        sum == scanned
+    )?;
+    print_time(rt, scale.timed, "reads", rows)?;
+    print_time(rt, scale.timed, "scans", scans)
+}
+
+fn main(rt: HostRuntime) -> io::Result<()> {
+    let scale = if is_timed(&rt)? { TIMED } else { CHECKED };
+    println!(rt;
+        "a row of 4 slots and 4 stamped values or fewer: {} bytes",
+        size_of::<Row>() + 4 * size_of::<Slot>()
+    )?;
+    time_first(&rt, rt.alloc(), scale)?;
+    time_last(&rt, rt.alloc(), scale)?;
+    for count in [0, 1, 4, 16, 64] {
+        time_reads(&rt, rt.alloc(), scale, count, 1)?;
+        time_reads(&rt, rt.alloc(), scale, count, 5)?;
+    }
+    Ok(())
+}

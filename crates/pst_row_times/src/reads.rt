@@ -1,0 +1,88 @@
+//! Reads of a row all over its life.
+
+ghost use Rattle.std.specs.Prelude.{◌≡◌, ◌<◌, ◌≤◌, length, IfOk};
+ghost use Rattle.pst_row_times.specs.Beds.{IsReady};
+
+use crate::bed::Bed;
+use pst_base::{NoMemory, NodeId, SlotNo};
+use pst_labels::LabelOrder;
+use pst_rows::Content;
+
+/// Stamps so many values in the first slots, by turns, with some places between.
+pub fn fill(bed: &mut Bed, order: &mut LabelOrder, count: u16, slots: u16) -> Result<(), NoMemory>
+    requires ready { IsReady order.old.places bed.old }
+    requires some { 1 ≤ slots }
+    requires few { slots ≤ 5 }
+    requires room { length order.old.places ≡ 2 }
+    requires bound { count ≤ 1000 }
+    ensures { IfOk result (λ _. IsReady order.new.places bed.new) }
+{
+    for turn in 0..count {
+        for _ in 0..16_u32 {
+            bed.add_place(order)?;
+        }
+        let content = Content::Target(NodeId(u64::from(turn)));
+        bed.stamp(order, SlotNo(turn % slots), content)?;
+    }
+    Ok(())
+}
+
+/// Reads the first slots by turns at many places. Gives the sum of what is read.
+pub fn read_rows(bed: &Bed, order: &LabelOrder, slots: u16, stride: usize, count: u32) -> u64
+    requires ready { IsReady order.now.places bed.now }
+    requires some { 1 ≤ slots }
+    requires few { slots ≤ 5 }
+    requires stride { stride ≤ length bed.now.places.items }
+{
+    let mut sum: u64 = 0;
+    let mut index = 0;
+    let mut slot: u16 = 0;
+    for _ in 0..count {
+        sum = sum.wrapping_add(number(bed.read(order, SlotNo(slot), index)));
+        index = next_index(index, stride, bed.places.len());
+        slot = if slot + 1 < slots { slot + 1 } else { 0 };
+    }
+    sum
+}
+
+/// The same by going over all stamped values.
+pub fn scan_rows(bed: &Bed, order: &LabelOrder, slots: u16, stride: usize, count: u32) -> u64
+    requires ready { IsReady order.now.places bed.now }
+    requires some { 1 ≤ slots }
+    requires few { slots ≤ 5 }
+    requires stride { stride ≤ length bed.now.places.items }
+{
+    let mut sum: u64 = 0;
+    let mut index = 0;
+    let mut slot: u16 = 0;
+    for _ in 0..count {
+        sum = sum.wrapping_add(number(bed.scan(order, SlotNo(slot), index)));
+        index = next_index(index, stride, bed.places.len());
+        slot = if slot + 1 < slots { slot + 1 } else { 0 };
+    }
+    sum
+}
+
+/// A number of a content, so that each read counts.
+fn number(content: Content) -> u64 {
+    match content {
+        Content::Number(_) => 1,
+        Content::Null => 2,
+        Content::Target(id) | Content::From(id, _) => id.0,
+        Content::Free => 3,
+    }
+}
+
+/// The index some way on, round the list.
+#[inline]
+fn next_index(index: usize, stride: usize, len: usize) -> usize
+    requires index { index < len }
+    requires stride { stride ≤ len }
+    ensures { result < len }
+{
+    if stride < len - index {
+        index + stride
+    } else {
+        stride - (len - index)
+    }
+}
