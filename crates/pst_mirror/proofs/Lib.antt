@@ -1,0 +1,16 @@
+pub mod ChartLemmas
+pub mod ChartSplit
+pub mod ChartReplace
+pub mod MirrorLemmas
+pub mod SegmentLemmas
+pub mod WriteLemmas
+pub mod PartnerLemmas
+pub mod SplitBodyLemmas
+pub mod SplitLemmas
+pub mod ValueLemmas
+pub mod LivesLemmas
+pub mod DegreeLemmas
+pub mod PotentialLemmas
+pub mod HeapLemmas
+pub mod ForkLemmas
+pub mod KindLemmas

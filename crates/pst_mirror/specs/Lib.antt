@@ -1,0 +1,12 @@
+pub mod Contents
+pub mod Mirror
+pub mod Segments
+pub mod Charts
+pub mod Partners
+pub mod SplitBody
+pub mod Lives
+pub mod Degree
+pub mod Potential
+pub mod Heap
+pub mod Fork
+pub mod Kinds
