@@ -1,0 +1,260 @@
+//! The arena: adding nodes, reading and changing one slot of one node.
+
+ghost use Rattle.std.specs.Prelude.{◌≡◌, ◌≢◌, ℕ, ◌+◌, ◌<◌, ◌≤◌, List, [], ◌∷◌, ◌++◌, length, IfOk, OnOk, OnErr, IfSome, IfNone, false, true, if◌then◌else◌, ◌==◌, ◌↔◌, IsTrue, IsOk};
+ghost use Rattle.std.proofs.Common.{rules};
+ghost use Rattle.pst_rows.specs.declared.row.Row.{Row};
+ghost use Rattle.pst_order.specs.Places.{rank};
+ghost use Rattle.pst_mirror.specs.Charts.{HasOneEdgeMore, IsSlotSet};
+ghost use Rattle.pst_mirror.specs.Lives.{AreChained, IsLive, IsIn};
+ghost use Rattle.pst_rows.specs.Rows.{stamped_count};
+ghost use Rattle.std.specs.Option.{option_map};
+ghost use Rattle.pst_nodes.specs.Arena.{spare_nodes, HasRoom, rows_of, row_at, frame_at, frames_of, link_at, AreRows, chart, lives, IsAlive, IsSlot, IsSegmentAt, IsTyped};
+ghost use Rattle.pst_nodes.specs.Changes.{HasStampedOver, IsSegmentReplaced, IsTouched, AreSameNodes, IsCutInTwo};
+
+use crate::node::{Node, Nodes};
+use pst_base::{Name, NoMemory, NodeId, Shape, SlotNo, TypeNo};
+use pst_order::{Order, Pos};
+use pst_queue::links::{Link, Links};
+use pst_rows::{Content, Row};
+use std::alloc::Global;
+
+impl Links for Nodes {
+    ghost count = { λ s. length s.list.items };
+
+    ghost link = { λ s. link_at s.list.items };
+
+    ghost same_rest = { λ s t. (rows_of t.list.items ≡ rows_of s.list.items) × (frames_of t.list.items ≡ frames_of s.list.items) };
+
+    ghost rest_itself = { λ s. Prim.search rules };
+
+    ghost rest_on = { λ s t u p q. Prim.search rules };
+
+    fn queue_link(&self, id: NodeId) -> Link {
+        self.list[id.0 as usize].link
+    }
+
+    fn set_queue_link(&mut self, id: NodeId, next: Link) {
+        self.list[id.0 as usize].link = next;
+    }
+}
+
+impl Nodes {
+    /// No nodes, and no memory taken.
+    pub fn new(alloc: Global) -> Nodes
+        ensures { result.list.items ≡ [] }
+    {
+        Nodes {
+            list: Vec::new(alloc),
+        }
+    }
+
+    /// How many nodes there are.
+    pub fn count(&self) -> u64
+        ensures { result ≡ length self.now.list.items }
+    {
+        self.list.len() as u64
+    }
+
+    /// How many nodes more need no memory.
+    pub fn spare(&self) -> usize
+        ensures { result ≡ spare_nodes self.now }
+    {
+        self.list.capacity() - self.list.len()
+    }
+
+    /// Makes room for so many more nodes. A refusal changes nothing.
+    pub fn reserve(&mut self, n: usize) -> Result<(), NoMemory>
+        ensures items { self.new.list.items ≡ self.old.list.items }
+        ensures room { OnOk result (n ≤ spare_nodes self.new) }
+    {
+        self.list.reserve(n)
+    }
+
+    /// Adds a node, which gets the next number and does not wait. It is not refused where there is spare room for one. A
+    /// refusal changes nothing.
+    pub fn add(&mut self, name: Name, ty: TypeNo, row: Row) -> Result<NodeId, NoMemory>
+        ensures id { IfOk result (λ id. id.0 ≡ length self.old.list.items) }
+        ensures added { OnOk result (self.new.list.items ≡ self.old.list.items ++ record { name = name; ty = ty; row = row; later = None; link = Link.Out } ∷ []) }
+        ensures err { OnErr result (self.new.list.items ≡ self.old.list.items) }
+        ensures succeeds { 1 ≤ spare_nodes self.old → IsOk result }
+    {
+        let id = NodeId(self.list.len() as u64);
+        self.list.push(Node {
+            name,
+            ty,
+            row,
+            later: None,
+            link: Link::Out,
+        })?;
+        Ok(id)
+    }
+
+    /// A node's row.
+    pub fn row(&self, id: NodeId) -> &Row
+        requires { id.0 < length self.now.list.items }
+        ensures { (d : Row) → result.now ≡ row_at self.now.list.items id.0 d }
+    {
+        &self.list[id.0 as usize].row
+    }
+
+    /// The record of a node.
+    pub fn name(&self, id: NodeId) -> Name
+        requires { id.0 < length self.now.list.items }
+        ensures { result ≡ (frame_at self.now.list.items id.0).name }
+    {
+        self.list[id.0 as usize].name
+    }
+
+    /// The type of a node.
+    pub fn ty(&self, id: NodeId) -> TypeNo
+        requires { id.0 < length self.now.list.items }
+        ensures { result.0 ≡ (frame_at self.now.list.items id.0).ty }
+    {
+        self.list[id.0 as usize].ty
+    }
+
+    /// The next node of the record.
+    pub fn later(&self, id: NodeId) -> Option<NodeId>
+        requires { id.0 < length self.now.list.items }
+        ensures { option_map (λ i. i.0) result ≡ (frame_at self.now.list.items id.0).later }
+    {
+        self.list[id.0 as usize].later
+    }
+
+    /// What a slot of a node holds at a place.
+    pub fn read<O: Order>(&self, order: &O, id: NodeId, slot: SlotNo, at: Pos) -> Content
+        requires rows { AreRows (O.places order.now) self.now.list.items }
+        requires slot { IsSlot (O.places order.now) self.now.list.items id.0 slot.0 (rank (O.places order.now) at.0) }
+        ensures { result ≡ (chart (O.places order.now) self.now.list.items).holds id.0 slot.0 (rank (O.places order.now) at.0) }
+    {
+        self.row(id).read(order, slot, at)
+    }
+
+    /// The segment of a slot that covers a place.
+    pub fn segment<O: Order>(&self, order: &O, id: NodeId, slot: SlotNo, at: Pos) -> (Pos, Pos)
+        requires rows { AreRows (O.places order.now) self.now.list.items }
+        requires slot { IsSlot (O.places order.now) self.now.list.items id.0 slot.0 (rank (O.places order.now) at.0) }
+        ensures { IsSegmentAt (O.places order.now) self.now.list.items id.0 slot.0 (rank (O.places order.now) at.0) result.0.0 result.1.0 }
+    {
+        self.row(id).segment(order, slot, at)
+    }
+
+    /// Makes room for so many more stamped values in a row. A refusal changes nothing.
+    pub fn reserve_row(&mut self, id: NodeId, n: usize) -> Result<(), NoMemory>
+        requires { id.0 < length self.old.list.items }
+        ensures same { AreSameNodes self.old.list.items self.new.list.items }
+        ensures room { OnOk result ((d : Row) → HasRoom (row_at self.new.list.items id.0 d) n) }
+        ensures spare { spare_nodes self.new ≡ spare_nodes self.old }
+    {
+        let node = &mut self.list[id.0 as usize];
+        node.row.reserve(n)
+    }
+
+    /// Sets a slot over one position, from a place to the one directly behind it.
+    pub fn set_over<O: Order>(
+        &mut self,
+        order: &O,
+        id: NodeId,
+        slot: SlotNo,
+        from: Pos,
+        to: Pos,
+        content: Content,
+    )
+        requires rows { AreRows (O.places order.now) self.old.list.items }
+        requires slot { IsSlot (O.places order.now) self.old.list.items id.0 slot.0 (rank (O.places order.now) from.0) }
+        requires behind { rank (O.places order.now) to.0 ≡ rank (O.places order.now) from.0 + 1 }
+        requires room { (d : Row) → HasRoom (row_at self.old.list.items id.0 d) 2 }
+        ensures set { IsSlotSet (chart (O.places order.now) self.old.list.items) (chart (O.places order.now) self.new.list.items) id.0 slot.0 (rank (O.places order.now) from.0) content }
+        ensures rows { AreRows (O.places order.now) self.new.list.items }
+        ensures touched { IsTouched 2 self.old.list.items self.new.list.items id.0 }
+        ensures stamped { HasStampedOver (O.places order.now) self.old.list.items self.new.list.items id.0 slot.0 (rank (O.places order.now) from.0) }
+    {
+        let node = &mut self.list[id.0 as usize];
+        node.row.set_over(order, slot, from, to, content);
+    }
+
+    /// Cuts the segment that covers a place, and begins another one there with the same content.
+    pub fn cut<O: Order>(&mut self, order: &O, id: NodeId, slot: SlotNo, at: Pos)
+        requires rows { AreRows (O.places order.now) self.old.list.items }
+        requires slot { IsSlot (O.places order.now) self.old.list.items id.0 slot.0 (rank (O.places order.now) at.0) }
+        requires inside { (chart (O.places order.now) self.old.list.items).edge id.0 slot.0 (rank (O.places order.now) at.0) ≡ false }
+        requires room { (d : Row) → HasRoom (row_at self.old.list.items id.0 d) 1 }
+        ensures cut { HasOneEdgeMore (chart (O.places order.now) self.old.list.items) (chart (O.places order.now) self.new.list.items) id.0 slot.0 (rank (O.places order.now) at.0) }
+        ensures rows { AreRows (O.places order.now) self.new.list.items }
+        ensures touched { IsTouched 1 self.old.list.items self.new.list.items id.0 }
+        ensures stamped { (d : Row) → stamped_count (row_at self.new.list.items id.0 d) ≡ stamped_count (row_at self.old.list.items id.0 d) + 1 }
+    {
+        let content = self.row(id).read(order, slot, at);
+        let node = &mut self.list[id.0 as usize];
+        node.row.cut(order, slot, at, content);
+    }
+
+    /// Sets the content of the segment that begins at a place.
+    pub fn replace<O: Order>(
+        &mut self,
+        order: &O,
+        id: NodeId,
+        slot: SlotNo,
+        at: Pos,
+        content: Content,
+    )
+        requires rows { AreRows (O.places order.now) self.old.list.items }
+        requires slot { IsSlot (O.places order.now) self.old.list.items id.0 slot.0 (rank (O.places order.now) at.0) }
+        ensures replaced { IsSegmentReplaced (O.places order.now) self.old.list.items self.new.list.items id.0 slot.0 (rank (O.places order.now) at.0) content }
+        ensures rows { AreRows (O.places order.now) self.new.list.items }
+        ensures touched { IsTouched 0 self.old.list.items self.new.list.items id.0 }
+        ensures stamped { (d : Row) → stamped_count (row_at self.new.list.items id.0 d) ≡ stamped_count (row_at self.old.list.items id.0 d) }
+    {
+        let node = &mut self.list[id.0 as usize];
+        node.row.replace(order, slot, at, content);
+    }
+
+    /// Cuts a node in two at a place. The node keeps what is before it, and the rest is a new node. A refusal changes nothing.
+    pub fn split_off<O: Order>(
+        &mut self,
+        order: &O,
+        id: NodeId,
+        at: Pos,
+    ) -> Result<NodeId, NoMemory>
+        requires rows { AreRows (O.places order.now) self.old.list.items }
+        requires there { id.0 < length self.old.list.items }
+        requires after { (d : Row) → rank (O.places order.now) (row_at self.old.list.items id.0 d).lo.0 < rank (O.places order.now) at.0 }
+        requires before { (d : Row) → rank (O.places order.now) at.0 < rank (O.places order.now) (row_at self.old.list.items id.0 d).hi.0 }
+        requires room { 1 ≤ spare_nodes self.old }
+        ensures split { IfOk result (λ z. IsCutInTwo (O.places order.now) self.old.list.items self.new.list.items id.0 z.0 at.0) }
+        ensures rows { AreRows (O.places order.now) self.new.list.items }
+        ensures err { OnErr result (self.new.list.items ≡ self.old.list.items) }
+    {
+        let right = NodeId(self.list.len() as u64);
+        let node = &mut self.list[id.0 as usize];
+        let row = node.row.split_off(order, at)?;
+        let part = Node {
+            name: node.name,
+            ty: node.ty,
+            row,
+            later: node.later,
+            link: Link::Out,
+        };
+        node.later = Some(right);
+        self.list.push_reserved(part);
+        Ok(right)
+    }
+
+    /// The node of the record that covers a place.
+    pub fn cover<O: Order>(&self, order: &O, id: NodeId, at: Pos) -> NodeId
+        requires rows { AreRows (O.places order.now) self.now.list.items }
+        requires chained { AreChained (lives (O.places order.now) self.now.list.items) }
+        requires live { IsLive (lives (O.places order.now) self.now.list.items) id.0 (rank (O.places order.now) at.0) }
+        ensures covers { IsIn (lives (O.places order.now) self.now.list.items) result.0 (rank (O.places order.now) at.0) }
+        ensures name { (frame_at self.now.list.items result.0).name ≡ (frame_at self.now.list.items id.0).name }
+    {
+        let mut node = id;
+        while !order.before(at, self.row(node).hi()) {
+            node = match self.later(node) {
+                Some(next) => next,
+                None => unreachable!(),
+            };
+        }
+        node
+    }
+}

@@ -1,0 +1,45 @@
+//! What no clause says: that the calls which take memory succeed, and how large a node is.
+
+use crate::node::{Node, Nodes};
+use pst_base::{Name, NoMemory, NodeId, RunNo, Targets, TypeNo, TypeShape};
+use pst_order::Pos;
+use pst_rows::{Row, Slot};
+use std::alloc::Global;
+use std::mem::size_of;
+
+/// How many slots an item of a list has: a number, a pointer and, for the limit 2, two inverse slots.
+const ITEM_SLOTS: usize = 4;
+
+fn row_of_item(alloc: Global) -> Result<Row, NoMemory> {
+    let item = TypeShape {
+        values: 1,
+        targets: Targets::from_vec(vec![in alloc; TypeNo(1)]?),
+        limit: 2,
+    };
+    Row::new(alloc, &item, Pos(0), Pos(1))
+}
+
+#[test]
+fn nodes_are_numbered_from_0(rt: HostRuntime) -> Result<(), NoMemory> {
+    let alloc = rt.alloc();
+    let name = Name {
+        run: RunNo(5),
+        ordinal: 0,
+    };
+    let mut nodes = Nodes::new(alloc);
+    nodes.reserve(2)?;
+    assert!(rt; nodes.spare() >= 2);
+    assert_eq!(rt; nodes.add(name, TypeNo(1), row_of_item(alloc)?)?, NodeId(0));
+    assert_eq!(rt; nodes.add(name, TypeNo(1), row_of_item(alloc)?)?, NodeId(1));
+    assert!(rt; nodes.count() == 2);
+    nodes.reserve_row(NodeId(1), 9)?;
+    assert!(rt; nodes.row(NodeId(1)).spare() >= 9);
+    assert_eq!(rt; nodes.row(NodeId(1)).width(), ITEM_SLOTS);
+    assert_eq!(rt; nodes.later(NodeId(1)), None);
+    Ok(())
+}
+
+#[test]
+fn an_item_with_four_stamped_values_takes_at_most_320_bytes(rt: HostRuntime) {
+    assert!(rt; size_of::<Node>() + ITEM_SLOTS * size_of::<Slot>() <= 320);
+}
