@@ -1,0 +1,190 @@
+-- What a store of fat nodes means, and what it keeps.
+use Rattle.std.specs.Prelude.{◌≡◌, ℕ, zero, suc, ◌+◌, ◌*◌, ◌<◌, ◌≤◌, ◌⊎◌, List, [], ◌∷◌, length, Some, None, slice_get, map, Contains, false, if◌then◌else◌}
+use Rattle.std.specs.Option.{option_map}
+use Rattle.pst_base.specs.declared.names.NodeId.{NodeId}
+use Rattle.pst_base.specs.declared.names.Counts.{Counts}
+use Rattle.pst_base.specs.declared.shape.TypeShape.{TypeShape}
+use Rattle.pst_base.specs.Name.{root_name}
+use Rattle.pst_base.specs.Shape.{type_at, root_type, field_count, IsValid}
+use Rattle.pst_versions.specs.Rows.{IsVersionTree}
+use Rattle.pst_places.specs.declared.versioned.TheConstants.{MOST_FORKS}
+use Rattle.pst_places.specs.State.{State, ForkRow}
+use Rattle.pst_versions.specs.declared.rows.VersionRow.{VersionRow}
+use Rattle.pst_rows.specs.Values.{RowValue}
+use Rattle.pst_order.specs.Places.{rank}
+use Rattle.pst_mirror.specs.Charts.{chart_of, AllRows}
+use Rattle.pst_mirror.specs.Potential.{Load, potential, half, capacity}
+use Rattle.pst_meaning.specs.declared.place.Place.{Place}
+use Rattle.pst_meaning.specs.declared.place.Fork.{Fork}
+use Rattle.pst_meaning.specs.declared.place.Head.{Head}
+use Rattle.pst_meaning.specs.Arena.{Arena, IsIn, IsLive, IsArena, heap_at}
+
+-- ---- nodes
+
+pub record Node : Type 0 where
+  pub head : Head
+  pub row : RowValue
+
+-- what the node with a number has, or something else where there is none
+abbrev pub of_node : {A : Type 0} → (Node → A) → A → List Node → ℕ → A
+of_node f other [] i = other
+of_node f other (n ∷ ns) zero = f n
+of_node f other (n ∷ ns) (suc i) = of_node f other ns i
+
+-- the nodes by number and position, where r gives the position of each place
+abbrev pub arena_of : (ℕ → ℕ) → List Node → Arena
+arena_of r nodes = record {
+  count = length nodes;
+  name = of_node (λ n. n.head.name) root_name nodes;
+  ty = of_node (λ n. n.head.ty) root_type nodes;
+  lo = of_node (λ n. r n.row.lo.0) 0 nodes;
+  hi = of_node (λ n. r n.row.hi.0) 0 nodes;
+  later = of_node (λ n. option_map (λ i. i.0) n.head.later) None nodes;
+  stamped = of_node (λ n. length n.row.stamps) 0 nodes;
+  chart = chart_of r (map (λ n. n.row) nodes);
+}
+
+-- ---- a store
+
+-- The record types; the order list; the nodes, and those that wait to be split; the place of version 0, the versions and
+-- the forks; how often a fork was asked for; and what was made and written.
+pub record Stored : Type 0 where
+  pub shape : List TypeShape
+  pub places : List ℕ
+  pub nodes : List Node
+  pub queue : List ℕ
+  pub start : Place
+  pub versions : List (VersionRow Place)
+  pub forks : List Fork
+  pub calls : ℕ
+  pub counts : Counts
+
+-- where a place is read, and where it ends
+abbrev pub begin_of : Stored → Place → ℕ
+begin_of s p = rank s.places p.begin.0
+
+abbrev pub end_of : Stored → Place → ℕ
+end_of s p = rank s.places p.end.0
+
+abbrev pub arena : Stored → Arena
+arena s = arena_of (rank s.places) s.nodes
+
+-- the place of a fork, and of one that is not published
+pub record IsForked (forks : List Fork) (p : Place) : Type 0 where
+  pub index : ℕ
+  pub fork : Fork
+  pub at : slice_get forks index ≡ Some fork
+  pub place : fork.place ≡ p
+
+pub record IsOpen (forks : List Fork) (p : Place) : Type 0 where
+  pub forked : IsForked forks p
+  pub unpublished : forked.fork.published ≡ false
+
+-- a place of the store: that of version 0, or of a fork. A place of the order list that a refused fork left is none.
+abbrev pub IsPlace : Stored → Place → Type 0
+IsPlace s p = (p ≡ s.start) ⊎ IsForked s.forks p
+
+-- ---- what a store means
+
+abbrev pub as_fork : Fork → ForkRow Place
+as_fork f = record { place = f.place; from = f.from; published = f.published }
+
+-- The heap of a place is that of the nodes which live where it begins. A reference is the number of any node of a record,
+-- and is live where that node has begun and the record lives. The unpublished forks can be written.
+abbrev pub state_of : Stored → State Place NodeId
+state_of s = record {
+  shape = s.shape;
+  has = IsPlace s;
+  heap = λ p. heap_at s.shape (arena s) (begin_of s p);
+  name = λ i. (arena s).name i.0;
+  live = λ p i. IsPlace s p × IsLive (arena s) i.0 (begin_of s p);
+  writable = IsOpen s.forks;
+  counts = s.counts;
+  versions = s.versions;
+  forks = map as_fork s.forks;
+  fork_calls = s.calls;
+}
+
+-- ---- what a store keeps
+
+-- how many slots a node of a type has: its fields, and one inverse slot for each unit of the limit
+abbrev pub width : TypeShape → ℕ
+width t = field_count t + t.limit
+
+-- each node has one base value for each slot of its type
+abbrev pub AreWide : List TypeShape → List Node → Type 0
+AreWide shape nodes = (i : ℕ) (n : Node) → slice_get nodes i ≡ Some n → length n.row.slots ≡ width (type_at shape n.head.ty)
+
+-- The forks in the list of places: version 0 has the first and the last; a fork begins and ends inside the one that it
+-- was made from, and before each earlier one that was made from it; one that is not published ends directly behind where
+-- it begins; no two begin at one place; and each bears its number.
+pub record AreNested (s : Stored) : Type 0 where
+  pub first : begin_of s s.start ≡ 0
+  pub some : begin_of s s.start < end_of s s.start
+  pub last : suc (end_of s s.start) ≡ length s.places
+  pub numbered : (k : ℕ) (f : Fork) → slice_get s.forks k ≡ Some f → f.place.number ≡ k
+  pub from : (k : ℕ) (f : Fork) → slice_get s.forks k ≡ Some f → IsPlace s f.from
+  pub inside : (k : ℕ) (f : Fork) → slice_get s.forks k ≡ Some f → (begin_of s f.from < begin_of s f.place) × (begin_of s f.place < end_of s f.place) × (end_of s f.place < end_of s f.from)
+  pub before : (j k : ℕ) (f g : Fork) → j < k → slice_get s.forks j ≡ Some f → slice_get s.forks k ≡ Some g → f.from ≡ g.from → end_of s g.place < begin_of s f.place
+  pub closed : (k : ℕ) (f : Fork) → slice_get s.forks k ≡ Some f → f.published ≡ false → end_of s f.place ≡ suc (begin_of s f.place)
+  pub apart : (j k : ℕ) (f g : Fork) → slice_get s.forks j ≡ Some f → slice_get s.forks k ≡ Some g → begin_of s f.place ≡ begin_of s g.place → j ≡ k
+
+-- how many forks are published
+abbrev pub published_count : List Fork → ℕ
+published_count [] = 0
+published_count (f ∷ fs) = (if f.published then 1 else 0) + published_count fs
+
+-- Versions and forks: version 0 is at the start; the place of each version is published; and each version but the first
+-- comes from a fork of its own.
+pub record AreVersions (s : Stored) : Type 0 where
+  pub tree : IsVersionTree s.versions
+  pub placed : (v : ℕ) (row : VersionRow Place) → slice_get s.versions v ≡ Some row → IsPlace s row.place
+  pub published : (v : ℕ) (row : VersionRow Place) → slice_get s.versions v ≡ Some row → IsOpen s.forks row.place → ⊥
+  pub counted : length s.versions ≡ published_count s.forks + 1
+  pub made : length s.forks ≤ s.calls
+  pub calls : s.calls ≤ MOST_FORKS
+
+-- node 0 is the first node of the root record
+pub record IsRooted (s : Stored) : Type 0 where
+  pub some : 0 < length s.nodes
+  pub name : (arena s).name 0 ≡ root_name
+  pub begins : (arena s).lo 0 ≡ 0
+
+-- each record lives where some place of the store is read, so that a name that no heap has is no node's
+abbrev pub AreBorn : Stored → Type 0
+AreBorn s = (i : ℕ) → i < length s.nodes → (p : Place) × IsPlace s p × ((j : ℕ) × IsIn (arena s) j (begin_of s p) × ((arena s).name j ≡ (arena s).name i))
+
+abbrev pub load_of : List TypeShape → Node → Load
+load_of shape n = record { stamped = length n.row.stamps; half = half (type_at shape n.head.ty) }
+
+abbrev pub loads : Stored → List Load
+loads s = map (load_of s.shape) s.nodes
+
+-- at most one node for each record, six for each pointer that was written, and two for each number
+abbrev pub bound : Counts → ℕ
+bound c = c.records + 6 * c.pointer_writes + 2 * c.value_writes
+
+-- What is so of a store at all times, in the middle of a call too: what Driscoll, Sarnak, Sleator and Tarjan keep of fat
+-- nodes, and the bound on their number.
+pub record IsStore (s : Stored) : Type 0 where
+  pub valid : IsValid s.shape
+  pub nested : AreNested s
+  pub rows : AllRows (rank s.places) (length s.places) (map (λ n. n.row) s.nodes)
+  pub wide : AreWide s.shape s.nodes
+  pub arena : IsArena s.shape (end_of s s.start) (arena s)
+  pub rooted : IsRooted s
+  pub born : AreBorn s
+  pub versions : AreVersions s
+  pub bounded : length s.nodes + potential (loads s) ≤ bound s.counts
+  pub few : length s.places ≤ 2 * s.calls + 2
+
+-- Between calls each node that is above its capacity waits to be split. It waits only where the last write met want of
+-- memory in its repair.
+pub record IsWaiting (s : Stored) : Type 0 where
+  pub waits : (i : ℕ) (n : Node) → slice_get s.nodes i ≡ Some n → (length n.row.stamps ≤ capacity (type_at s.shape n.head.ty)) ⊎ Contains s.queue i
+  pub there : (i : ℕ) → Contains s.queue i → i < length s.nodes
+
+-- A store at rest: nothing waits.
+pub record IsRested (s : Stored) : Type 0 where
+  pub none : s.queue ≡ []
+  pub small : (i : ℕ) (n : Node) → slice_get s.nodes i ≡ Some n → length n.row.stamps ≤ capacity (type_at s.shape n.head.ty)
