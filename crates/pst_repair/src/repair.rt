@@ -1,0 +1,51 @@
+//! The cascade.
+
+ghost use Rattle.std.specs.Prelude.{◌≡◌, ℕ, ◌+◌, ◌<◌, ◌≤◌, List, [], length, IfOk, OnOk, OnErr};
+ghost use Rattle.pst_split.specs.Load.{IsSound, IsOver, potential_of};
+ghost use Rattle.pst_split.specs.Steps.{Queues};
+ghost use Rattle.pst_split.specs.Shown.{ShowsAll, KeepsLive};
+ghost use Rattle.pst_meaning.specs.Steps.{AreSplits};
+ghost use Rattle.pst_joint.specs.Seen.{seen};
+ghost use Rattle.pst_repair.specs.Repair.{IsQueued};
+
+use pst_base::{NoMemory, Shape};
+use pst_nodes::node::Nodes;
+use pst_order::Order;
+use pst_queue::queue::Queue;
+use pst_split::split::split;
+
+/// Splits until the queue is empty, and gives the number of splits, which is at most the potential that the nodes had:
+/// each split lowers it by at least 1 and adds one node. No heap changes. After `NoMemory` a node that is over its
+/// capacity waits again, what was split stays so, and all that the call needs still holds.
+pub fn repair<O: Order>(
+    order: &O,
+    shape: &Shape,
+    nodes: &mut Nodes,
+    queue: &mut Queue,
+) -> Result<u64, NoMemory>
+    requires sound { IsSound shape.now (O.places order.now) nodes.old.list.items }
+    requires queued { (xs : List ℕ) × IsQueued shape.now nodes.old.list.items queue.old xs }
+    ensures sound { IsSound shape.now (O.places order.now) nodes.new.list.items }
+    ensures queued { (xs : List ℕ) × IsQueued shape.now nodes.new.list.items queue.new xs }
+    ensures steps { (k : ℕ) × AreSplits shape.now (O.places order.now) k (seen nodes.old.list.items) (seen nodes.new.list.items) }
+    ensures counted { IfOk result (λ n. AreSplits shape.now (O.places order.now) n (seen nodes.old.list.items) (seen nodes.new.list.items)) }
+    ensures shows { ShowsAll (O.places order.now) nodes.old.list.items nodes.new.list.items }
+    ensures live { KeepsLive (O.places order.now) nodes.old.list.items nodes.new.list.items }
+    ensures empty { OnOk result (Queues nodes.new.list.items queue.new []) }
+    ensures within { OnOk result ((i : ℕ) → IsOver shape.now nodes.new.list.items i → ⊥) }
+    ensures waiting { OnErr result ((i : ℕ) × IsOver shape.now nodes.new.list.items i) }
+    ensures splits { IfOk result (λ n. potential_of shape.now nodes.new.list.items + n ≤ potential_of shape.now nodes.old.list.items) }
+    ensures count { IfOk result (λ n. length nodes.new.list.items ≡ length nodes.old.list.items + n) }
+{
+    let mut splits = 0;
+    while let Some(id) = queue.pop(nodes) {
+        match split(order, shape, nodes, queue, id) {
+            Ok(_) => splits += 1,
+            Err(refused) => {
+                queue.push(nodes, id);
+                return Err(refused);
+            }
+        }
+    }
+    Ok(splits)
+}
