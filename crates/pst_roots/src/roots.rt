@@ -1,0 +1,142 @@
+//! The nodes of the root record in a vector.
+
+ghost use Rattle.std.specs.Prelude.{◌≡◌, ℕ, suc, ◌+◌, ◌<◌, ◌≤◌, ◌^◌, [], ◌∷◌, length, get_or, insert, vec_capacity, IfOk, OnOk, OnErr};
+ghost use Rattle.pst_order.specs.Places.{rank, IsIn};
+ghost use Rattle.pst_order.specs.Search.{IsFewMore};
+ghost use Rattle.pst_nodes.specs.Arena.{lo_at};
+ghost use Rattle.pst_roots.specs.Roots.{held_of, spare_of, begins_of, AreRoots, IsLastBefore};
+
+use pst_base::{NoMemory, NodeId};
+use pst_nodes::node::Nodes;
+use pst_order::{Compare, Counting, Order, PlaceList, Pos, partition};
+use std::alloc::Global;
+
+/// The nodes of the root record that are known, in the order of where they begin. The first one is always among them.
+#[derive(Drop)]
+pub struct RootIndex {
+    held: Vec<NodeId>,
+}
+
+// Where the held nodes begin.
+#[derive(Drop)]
+struct Begins<'a> {
+    roots: &'a RootIndex,
+    nodes: &'a Nodes,
+}
+
+impl<'a> PlaceList for Begins<'a> {
+    ghost numbers = { λ s. begins_of s.nodes.now.list.items (held_of s.roots.now) };
+
+    #[inline]
+    fn place(&self, index: usize) -> Pos {
+        begin_of(self.nodes, self.roots.held_at(index))
+    }
+}
+
+// Where a node begins: place 0 for one that is not there, which is never asked for.
+#[inline]
+fn begin_of(nodes: &Nodes, id: NodeId) -> Pos
+    ensures { result.0 ≡ lo_at nodes.now.list.items id.0 }
+{
+    let count = nodes.count();
+    if id.0 < count {
+        return nodes.row(id).lo();
+    }
+    Pos(0)
+}
+
+impl RootIndex {
+    /// An index that holds the root record's first node alone. `NoMemory` where there is no memory for it.
+    pub fn new(alloc: Global, first: NodeId) -> Result<RootIndex, NoMemory>
+        ensures { IfOk result (λ roots. held_of roots ≡ first.0 ∷ []) }
+    {
+        let mut held = Vec::new(alloc);
+        held.push(first)?;
+        Ok(RootIndex { held })
+    }
+
+    /// The last held node that does not begin after a place: the one that covers it, where all root nodes are held.
+    pub fn at<O: Order>(&self, order: &O, nodes: &Nodes, place: Pos) -> NodeId
+        requires roots { AreRoots (O.places order.now) nodes.now.list.items (held_of self.now) place.0 }
+        requires place { IsIn (O.places order.now) place.0 }
+        ensures { IsLastBefore (O.places order.now) nodes.now.list.items (held_of self.now) place.0 result.0 }
+    {
+        self.at_with(&mut Counting::new(order), nodes, place)
+    }
+
+    /// The last held node that does not begin after a place, found by bisection in at most `s` comparisons, where `2 ^ s` is
+    /// at most `2 * n + 1` for the `n` nodes held.
+    pub fn at_with<P: Compare>(&self, compare: &mut P, nodes: &Nodes, place: Pos) -> NodeId
+        requires roots { AreRoots (P.list compare.old) nodes.now.list.items (held_of self.now) place.0 }
+        requires place { IsIn (P.list compare.old) place.0 }
+        requires calls { P.calls compare.old ≤ 2 ^ 63 }
+        ensures found { IsLastBefore (P.list compare.old) nodes.now.list.items (held_of self.now) place.0 result.0 }
+        ensures list { P.list compare.new ≡ P.list compare.old }
+        ensures calls { IsFewMore (length (held_of self.now)) (P.calls compare.old) (P.calls compare.new) }
+    {
+        let count = self.count();
+        let begins = Begins { roots: self, nodes };
+        let after = partition(compare, &begins, 0, count, place);
+        let last = after - 1;
+        self.held_at(last)
+    }
+
+    /// Makes room for so many nodes more. A refusal changes nothing.
+    pub fn reserve(&mut self, n: usize) -> Result<(), NoMemory>
+        ensures held { held_of self.new ≡ held_of self.old }
+        ensures room { OnOk result (n ≤ spare_of self.new) }
+        ensures err { OnErr result (spare_of self.new ≡ spare_of self.old) }
+    {
+        self.held.reserve(n)
+    }
+
+    /// Puts a node directly behind one that is held, in the room that was made. It goes over the nodes held.
+    pub fn add(&mut self, left: NodeId, right: NodeId)
+        requires left { IsIn (held_of self.old) left.0 }
+        requires room { 1 ≤ spare_of self.old }
+        ensures held { held_of self.new ≡ insert (held_of self.old) (suc (rank (held_of self.old) left.0)) right.0 }
+        ensures room { spare_of self.new + 1 ≡ spare_of self.old }
+    {
+        let index = self.position(left);
+        self.put(index + 1, right);
+    }
+
+    // Puts a node at an index, in the room that was made.
+    fn put(&mut self, index: usize, id: NodeId)
+        requires index { index ≤ length self.old.held.items }
+        requires room { 1 ≤ spare_of self.old }
+        ensures items { self.new.held.items ≡ insert self.old.held.items index id }
+        ensures capacity { vec_capacity self.new.held ≡ vec_capacity self.old.held }
+    {
+        let _there_is_room = self.held.insert(index, id);
+    }
+
+    // Where a node stands first, and the count of the nodes for one that is not held.
+    fn position(&self, id: NodeId) -> usize
+        ensures { result ≡ rank (held_of self.now) id.0 }
+    {
+        for (i, other) in self.held.iter().enumerate() {
+            if other.0 == id.0 {
+                return i;
+            }
+        }
+        self.held.len()
+    }
+
+    // How many nodes are held.
+    #[inline]
+    fn count(&self) -> usize
+        ensures { result ≡ length (held_of self.now) }
+    {
+        self.held.len()
+    }
+
+    // A held node by its index.
+    #[inline]
+    fn held_at(&self, index: usize) -> NodeId
+        requires { index < length (held_of self.now) }
+        ensures { result.0 ≡ get_or (held_of self.now) index 0 }
+    {
+        self.held[index]
+    }
+}
