@@ -1,4 +1,5 @@
 pub mod Cutting
+pub mod Counting
 pub mod Writing
 pub mod Reading
 pub mod Serving

@@ -18,7 +18,7 @@ use Rattle.pst_cli.specs.declared.fault.FaultKind.{FaultKind}
 use Rattle.pst_cli.specs.declared.fault.FaultKind.TheVariants as kind
 use Rattle.std.specs.List.{concat}
 use Rattle.pst_cli.specs.declared.job.Job.{Job}
-use Rattle.pst_cli.specs.Input.{parts_of}
+use Rattle.pst_cli.specs.Input.{cut_of}
 use Rattle.pst_cli.specs.Pieces.{IsAll}
 use Rattle.pst_cli.specs.Output.{pieces}
 use Rattle.pst_cli.specs.Rows.{Writes}
@@ -116,7 +116,7 @@ one_place tokens before rest before' rest' d e p q h k =
       ]
     ]
 
--- ---- what is known of a text, by its stage
+-- ---- what is known of a text, by how far it is read
 
 abbrev of_lex : LexFault → Verdict
 of_lex (lexical.Byte line) = Refused (record { kind = kind.Byte; line = line })
@@ -138,33 +138,33 @@ of_checked items (Err (typing.TooMany line)) = Refused (record { kind = kind.Too
 of_checked items (Err (typing.QueryWrites line)) = Refused (record { kind = kind.QueryWrites; line = line })
 of_checked items (Err typing.Memory) = Refused (record { kind = kind.Byte; line = 0 })
 
-abbrev Stage : List ℕ → Verdict → Type 0
-Stage text v =
+abbrev Known : List ℕ → Verdict → Type 0
+Known text v =
     ((f : LexFault) × Faults text f × (v ≡ of_lex f))
     ⊎ (((deep : Bool) × (line : ℕ) × HasParseFault text (Sort deep) line × (v ≡ of_parse deep line))
     ⊎ ((items : List tree.Item) × HasTree text items × (v ≡ of_checked items (checked items))))
 
-typed_stage : (text : List ℕ) (v : Verdict) (items : List tree.Item) (answer : Result NamedProgram TypeFault) → HasTree text items → checked items ≡ answer → v ≡ of_checked items answer → Stage text v
-typed_stage text v items answer has is e = inr (inr (items, has, e ∙ ap (of_checked items) (sym is)))
+typed_known : (text : List ℕ) (v : Verdict) (items : List tree.Item) (answer : Result NamedProgram TypeFault) → HasTree text items → checked items ≡ answer → v ≡ of_checked items answer → Known text v
+typed_known text v items answer has is e = inr (inr (items, has, e ∙ ap (of_checked items) (sym is)))
 
-fault_stage : (text : List ℕ) (k : FaultKind) (line : ℕ) → HasFault text k line → Stage text (Refused (record { kind = k; line = line }))
-fault_stage text kind.Byte line h = inl (lexical.Byte line, h, refl)
-fault_stage text kind.Number line h = inl (lexical.Number line, h, refl)
-fault_stage text kind.NameLength line h = inl (lexical.NameLength line, h, refl)
-fault_stage text kind.Unexpected line h = inr (inl (false, line, h, refl))
-fault_stage text kind.TooDeep line h = inr (inl (true, line, h, refl))
-fault_stage text kind.Unknown line (items, has, is) = typed_stage text _ items (Err (typing.Unknown line)) has is refl
-fault_stage text kind.Duplicate line (items, has, is) = typed_stage text _ items (Err (typing.Duplicate line)) has is refl
-fault_stage text kind.Mismatch line (items, has, is) = typed_stage text _ items (Err (typing.Mismatch line)) has is refl
-fault_stage text kind.Limit line (items, has, is) = typed_stage text _ items (Err (typing.Limit line)) has is refl
-fault_stage text kind.TooMany line (items, has, is) = typed_stage text _ items (Err (typing.TooMany line)) has is refl
-fault_stage text kind.QueryWrites line (items, has, is) = typed_stage text _ items (Err (typing.QueryWrites line)) has is refl
+fault_known : (text : List ℕ) (k : FaultKind) (line : ℕ) → HasFault text k line → Known text (Refused (record { kind = k; line = line }))
+fault_known text kind.Byte line h = inl (lexical.Byte line, h, refl)
+fault_known text kind.Number line h = inl (lexical.Number line, h, refl)
+fault_known text kind.NameLength line h = inl (lexical.NameLength line, h, refl)
+fault_known text kind.Unexpected line h = inr (inl (false, line, h, refl))
+fault_known text kind.TooDeep line h = inr (inl (true, line, h, refl))
+fault_known text kind.Unknown line (items, has, is) = typed_known text _ items (Err (typing.Unknown line)) has is refl
+fault_known text kind.Duplicate line (items, has, is) = typed_known text _ items (Err (typing.Duplicate line)) has is refl
+fault_known text kind.Mismatch line (items, has, is) = typed_known text _ items (Err (typing.Mismatch line)) has is refl
+fault_known text kind.Limit line (items, has, is) = typed_known text _ items (Err (typing.Limit line)) has is refl
+fault_known text kind.TooMany line (items, has, is) = typed_known text _ items (Err (typing.TooMany line)) has is refl
+fault_known text kind.QueryWrites line (items, has, is) = typed_known text _ items (Err (typing.QueryWrites line)) has is refl
 
-stage : (text : List ℕ) (v : Verdict) → Judged text v → Stage text v
-stage text (Accepted items typed) (has, is) = typed_stage text (Accepted items typed) items (Ok typed) has is refl
-stage text (Refused fault) h = fault_stage text fault.kind fault.line h
+known : (text : List ℕ) (v : Verdict) → Judged text v → Known text v
+known text (Accepted items typed) (has, is) = typed_known text (Accepted items typed) items (Ok typed) has is refl
+known text (Refused fault) h = fault_known text fault.kind fault.line h
 
--- ---- a text has one stage
+-- ---- a text is known in one way
 
 same_tree : (text : List ℕ) (items items' : List tree.Item) → HasTree text items → HasTree text items' → items ≡ items'
 same_tree text items items' (a, lexes, (p, is, shallow, spells)) (b, lexes', (q, is', shallow', spells')) =
@@ -187,20 +187,20 @@ same_fault text d e line line' (a, lexes, (before, rest, split, sort, on)) (b, l
     let lines : line ≡ line' = on ∙ ap (λ n. line_at n rest) end ∙ ap (line_at b.end) other ∙ sym on' in
     ap (λ k. of_parse k line) sorts ∙ ap (of_parse e) lines
 
-same_stage : (text : List ℕ) (v w : Verdict) → Stage text v → Stage text w → v ≡ w
-same_stage text v w (inl (f, h, is)) (inl (g, k, is')) = is ∙ ap of_lex (one_fault text f g h k) ∙ sym is'
-same_stage text v w (inl (f, h, is)) (inr (inl (deep, line, (tokens, lexes, stands), is'))) = absurd (not_both text tokens.list tokens.end f lexes h)
-same_stage text v w (inl (f, h, is)) (inr (inr (items, (tokens, lexes, spelled), is'))) = absurd (not_both text tokens.list tokens.end f lexes h)
-same_stage text v w (inr (inl (deep, line, (tokens, lexes, stands), is'))) (inl (f, h, is)) = absurd (not_both text tokens.list tokens.end f lexes h)
-same_stage text v w (inr (inr (items, (tokens, lexes, spelled), is'))) (inl (f, h, is)) = absurd (not_both text tokens.list tokens.end f lexes h)
-same_stage text v w (inr (inl (d, line, h, is))) (inr (inl (e, line', k, is'))) = is ∙ same_fault text d e line line' h k ∙ sym is'
-same_stage text v w (inr (inl (d, line, h, is))) (inr (inr (items, k, is'))) = absurd (fault_or_tree text d line items h k)
-same_stage text v w (inr (inr (items, k, is'))) (inr (inl (d, line, h, is))) = absurd (fault_or_tree text d line items h k)
-same_stage text v w (inr (inr (items, h, is))) (inr (inr (items', k, is'))) = is ∙ ap (λ i. of_checked i (checked i)) (same_tree text items items' h k) ∙ sym is'
+same_known : (text : List ℕ) (v w : Verdict) → Known text v → Known text w → v ≡ w
+same_known text v w (inl (f, h, is)) (inl (g, k, is')) = is ∙ ap of_lex (one_fault text f g h k) ∙ sym is'
+same_known text v w (inl (f, h, is)) (inr (inl (deep, line, (tokens, lexes, stands), is'))) = absurd (not_both text tokens.list tokens.end f lexes h)
+same_known text v w (inl (f, h, is)) (inr (inr (items, (tokens, lexes, spelled), is'))) = absurd (not_both text tokens.list tokens.end f lexes h)
+same_known text v w (inr (inl (deep, line, (tokens, lexes, stands), is'))) (inl (f, h, is)) = absurd (not_both text tokens.list tokens.end f lexes h)
+same_known text v w (inr (inr (items, (tokens, lexes, spelled), is'))) (inl (f, h, is)) = absurd (not_both text tokens.list tokens.end f lexes h)
+same_known text v w (inr (inl (d, line, h, is))) (inr (inl (e, line', k, is'))) = is ∙ same_fault text d e line line' h k ∙ sym is'
+same_known text v w (inr (inl (d, line, h, is))) (inr (inr (items, k, is'))) = absurd (fault_or_tree text d line items h k)
+same_known text v w (inr (inr (items, k, is'))) (inr (inl (d, line, h, is))) = absurd (fault_or_tree text d line items h k)
+same_known text v w (inr (inr (items, h, is))) (inr (inr (items', k, is'))) = is ∙ ap (λ i. of_checked i (checked i)) (same_tree text items items' h k) ∙ sym is'
 
 pub one_verdict : (text : List ℕ) (v w : Verdict) → Judged text v → Judged text w → v ≡ w
-one_verdict text v w h k = same_stage text v w (stage text v h) (stage text w k)
+one_verdict text v w h k = same_known text v w (known text v h) (known text w k)
 
-pub one_output : (input : List ℕ) (job : Job) (out out' : List ℕ) → Writes IsEither IsAll job (parts_of input) out → Writes IsEither IsAll job (parts_of input) out' → out ≡ out'
+pub one_output : (input : List ℕ) (job : Job) (out out' : List ℕ) → Writes IsEither IsAll job (cut_of input) out → Writes IsEither IsAll job (cut_of input) out' → out ≡ out'
 one_output input job out out' (v, judged, is, all) (w, judged', is', all') =
-    all ∙ ap (λ u. concat (pieces job (parts_of input).script u)) (one_verdict (parts_of input).text v w judged judged') ∙ sym all'
+    all ∙ ap (λ u. concat (pieces job (cut_of input).script u)) (one_verdict (cut_of input).text v w judged judged') ∙ sym all'

@@ -7,5 +7,5 @@ pub mod Output
 pub mod Reasons
 pub mod Reading
 pub mod Rows
-pub mod Stages
+pub mod Serving
 pub mod Laws

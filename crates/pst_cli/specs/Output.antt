@@ -1,18 +1,19 @@
 -- The output of an input, as pieces.
-use Rattle.std.specs.Prelude.{ℕ, List, [], ◌∷◌}
+use Rattle.std.specs.Prelude.{◌≡◌, ℕ, List, [], ◌∷◌}
 use Rattle.pst_tree.specs.Syntax as tree
 use Rattle.pst_program.specs.Syntax.{Routines}
 use Rattle.pst_types.specs.Declarations.{NamedProgram}
 use Rattle.pst_notation.specs.Canonical.{canonical}
 use Rattle.pst_compiled.specs.Compiled.{code_of}
 use Rattle.pst_listing.specs.Listing.{listed}
-use Rattle.pst_history.specs.History.{opening}
+use Rattle.pst_history.specs.Meaning.{Meaning}
+use Rattle.pst_history.specs.History.{opening, begun}
 use Rattle.pst_history.specs.Direct.{direct}
 use Rattle.pst_cli.specs.declared.job.Job.{Job}
 use Rattle.pst_cli.specs.declared.job.Job.TheVariants.{Run, Replay, Check, Code}
 use Rattle.pst_cli.specs.declared.page.Page.{Page}
 use Rattle.pst_cli.specs.declared.page.Page.TheVariants.{Canonical, Listing}
-use Rattle.pst_cli.specs.Pieces.{pieces_from}
+use Rattle.pst_cli.specs.Pieces.{pieces_from, IsPartOf, StopsInReply, StopsBeforeReply}
 use Rattle.pst_cli.specs.Script.{script_of}
 use Rattle.pst_cli.specs.Verdict.{Verdict, Accepted, Refused, Judged, fault_text}
 
@@ -20,10 +21,14 @@ use Rattle.pst_cli.specs.Verdict.{Verdict, Accepted, Refused, Judged, fault_text
 abbrev pub routines_in : NamedProgram → Routines
 routines_in program = record { shape = program.shape; procedures = program.procedures }
 
--- the line of the fault, or the replies to the script from the opening history on
+-- the replies to a script, from the history of the opening on in which version 0 is alone
+abbrev pub replies_of : Meaning → List (List ℕ) → List (List ℕ)
+replies_of m script = pieces_from (script_of m) (begun (opening m.shape)) script
+
+-- the line of the fault, or the replies to the script
 abbrev pub replied : List (List ℕ) → Verdict → List (List ℕ)
 replied script (Refused fault) = fault_text fault ∷ []
-replied script (Accepted items program) = pieces_from (script_of (direct (routines_in program))) opening script
+replied script (Accepted items program) = replies_of (direct (routines_in program)) script
 
 -- the canonical text of a program, or the listing of its code
 abbrev pub page_text : Page → List tree.Item → NamedProgram → List ℕ
@@ -44,3 +49,27 @@ pieces Code script verdict = printed Listing verdict
 -- the text has such a verdict, and so much of its output is written
 abbrev pub Outputs : (Verdict → Type 0) → (List (List ℕ) → List ℕ → Type 0) → List ℕ → (Verdict → List (List ℕ)) → List ℕ → Type 0
 Outputs Is IsWritten text output out = (verdict : Verdict) × Judged text verdict × Is verdict × IsWritten (output verdict) out
+
+-- the text has a verdict of which this holds
+abbrev pub OfVerdict : List ℕ → (Verdict → Type 0) → Type 0
+OfVerdict text P = (verdict : Verdict) × Judged text verdict × P verdict
+
+-- A proper part of the line of the fault is written, before any line of the script is read; or the lines of the script are
+-- answered but for the last, and a proper part of the reply to that one is written.
+abbrev pub StopsInPiece : List (List ℕ) → Verdict → List ℕ → Type 0
+StopsInPiece given (Refused fault) out = (given ≡ []) × IsPartOf (fault_text fault) out
+StopsInPiece given (Accepted items program) out =
+    let m = direct (routines_in program) in
+    StopsInReply (script_of m) (begun (opening m.shape)) given out
+
+-- the lines of the script are answered but for the last one
+abbrev pub StopsBeforePiece : List (List ℕ) → Verdict → List ℕ → Type 0
+StopsBeforePiece given (Refused fault) out = ⊥
+StopsBeforePiece given (Accepted items program) out =
+    let m = direct (routines_in program) in
+    StopsBeforeReply (script_of m) (begun (opening m.shape)) given out
+
+-- a proper part of the line of the fault or of the page is written
+abbrev pub StopsInPage : Page → Verdict → List ℕ → Type 0
+StopsInPage page (Refused fault) out = IsPartOf (fault_text fault) out
+StopsInPage page (Accepted items program) out = IsPartOf (page_text page items program) out

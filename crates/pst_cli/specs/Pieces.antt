@@ -1,5 +1,5 @@
 -- The pieces that answer the lines of a script, and how far they are written.
-use Rattle.std.specs.Prelude.{◌≡◌, ℕ, ◌<◌, List, [], ◌∷◌, ◌++◌, Option, length, take}
+use Rattle.std.specs.Prelude.{◌≡◌, ℕ, ◌<◌, List, [], ◌∷◌, ◌++◌, Option, Some, length, take}
 use Rattle.std.specs.List.{concat}
 use Rattle.std.specs.Option.{option_to_list}
 
@@ -22,19 +22,24 @@ state_after m a (line ∷ lines) = state_after m (m.next a line) lines
 abbrev pub IsAll : List (List ℕ) → List ℕ → Type 0
 IsAll pieces out = out ≡ concat pieces
 
--- the first pieces whole, and a proper part of the next
-pub record IsCutInPiece (pieces : List (List ℕ)) (out : List ℕ) : Type 0 where
-  pub done : List (List ℕ)
-  pub piece : List ℕ
-  pub rest : List (List ℕ)
-  pub count : ℕ
-  pub split : pieces ≡ done ++ (piece ∷ rest)
-  pub short : count < length piece
-  pub bytes : out ≡ concat done ++ take count piece
+-- a proper part of a piece
+abbrev pub IsPartOf : List ℕ → List ℕ → Type 0
+IsPartOf piece out = (n : ℕ) × (n < length piece) × (out ≡ take n piece)
 
--- the first pieces whole, and nothing of the next
-pub record IsCutBetween (pieces : List (List ℕ)) (out : List ℕ) : Type 0 where
-  pub done : List (List ℕ)
-  pub rest : List (List ℕ)
-  pub split : pieces ≡ done ++ rest
-  pub bytes : out ≡ concat done
+-- All lines but the last are answered, and a proper part of the reply to the last is written.
+pub record StopsInReply {A : Type 0} (m : Answering A) (a : A) (lines : List (List ℕ)) (out : List ℕ) : Type 0 where
+  pub before : List (List ℕ)
+  pub last : List ℕ
+  pub piece : List ℕ
+  pub part : List ℕ
+  pub split : lines ≡ before ++ last ∷ []
+  pub reply : m.reply (state_after m a before) last ≡ Some piece
+  pub proper : IsPartOf piece part
+  pub bytes : out ≡ concat (pieces_from m a before) ++ part
+
+-- All lines but the last are answered, and nothing of the reply to the last is written.
+pub record StopsBeforeReply {A : Type 0} (m : Answering A) (a : A) (lines : List (List ℕ)) (out : List ℕ) : Type 0 where
+  pub before : List (List ℕ)
+  pub last : List ℕ
+  pub split : lines ≡ before ++ last ∷ []
+  pub bytes : out ≡ concat (pieces_from m a before)

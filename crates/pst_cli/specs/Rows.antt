@@ -1,58 +1,111 @@
 -- The table of statuses: what was read of the input, and what was written.
 -- The rows speak of the input and the output alone; where a call also leaves versions in a store, their rows will stand beside these.
-use Rattle.std.specs.Prelude.{◌≡◌, ℕ, ◌<◌, ◌≤◌, ◌⊎◌, List, [], length, take, drop, Option, Some, None, IsSome}
+use Rattle.std.specs.Prelude.{◌≡◌, ℕ, ◌+◌, ◌<◌, ◌≤◌, ◌⊎◌, min, List, [], ◌++◌, length, take, drop, Option, Some, None, IsSome}
+use Rattle.pst_io.specs.declared.room.TheConstants.{MOST_INPUT, MOST_READ}
 use Rattle.pst_io.specs.Text.{whole_lines}
 use Rattle.pst_cli.specs.declared.job.Job.{Job}
 use Rattle.pst_cli.specs.declared.job.Job.TheVariants.{Run, Replay, Check, Code}
+use Rattle.pst_cli.specs.declared.page.Page.{Page}
+use Rattle.pst_cli.specs.declared.page.Page.TheVariants.{Canonical, Listing}
 use Rattle.pst_cli.specs.declared.status.Status.{Status}
 use Rattle.pst_cli.specs.declared.status.Status.TheVariants.{Done, ReadFault, WriteFault, Usage, Refused, TooLong, Memory}
-use Rattle.pst_cli.specs.Input.{Parts, cut, parts_of}
-use Rattle.pst_cli.specs.Pieces.{IsAll, IsCutInPiece, IsCutBetween}
-use Rattle.pst_cli.specs.Verdict.{Verdict, IsAccepted, IsRefused, IsEither}
-use Rattle.pst_cli.specs.Output.{pieces, Outputs}
+use Rattle.pst_cli.specs.Input.{CutInput, cut, cut_of, up_to}
+use Rattle.pst_cli.specs.Pieces.{IsAll}
+use Rattle.pst_cli.specs.Verdict.{Verdict, IsAccepted, IsRefused}
+use Rattle.pst_cli.specs.Output.{pieces, Outputs, OfVerdict, StopsInPiece, StopsBeforePiece, StopsInPage}
 
--- the most bytes that are read
-abbrev pub most : ℕ
-most = 67108864
+-- ---- what was read
 
 -- the program stands within the bytes that may be read: up to the end of the input, or up to a whole separator line
 abbrev pub IsReadable : List ℕ → Type 0
-IsReadable input = (length input ≤ most) ⊎ IsSome (cut (whole_lines (take most input)))
+IsReadable input = (length input ≤ MOST_INPUT) ⊎ IsSome (cut (whole_lines (take MOST_INPUT input)))
 
 -- what the job needs of the input may be read
 abbrev pub IsWithin : Job → List ℕ → Type 0
-IsWithin Run input = length input ≤ most
-IsWithin Replay input = length input ≤ most
+IsWithin Run input = length input ≤ MOST_INPUT
+IsWithin Replay input = length input ≤ MOST_INPUT
 IsWithin Check input = IsReadable input
 IsWithin Code input = IsReadable input
 
--- The input was read: to its end by a job that answers its script.
-abbrev pub IsOver : Job → Option (List ℕ) → Type 0
-IsOver Run left = left ≡ Some []
-IsOver Replay left = left ≡ Some []
-IsOver Check left = Unit {0}
-IsOver Code left = Unit {0}
+-- The first bytes of the input were read, so many and no more, and this is left.
+pub record HasRead (count : ℕ) (input : List ℕ) (left : Option (List ℕ)) : Type 0 where
+  pub most : count ≤ MOST_INPUT
+  pub within : count ≤ length input
+  pub rest : left ≡ Some (drop count input)
 
--- of the output of these parts of an input, so much is written
-abbrev pub Writes : (Verdict → Type 0) → (List (List ℕ) → List ℕ → Type 0) → Job → Parts → List ℕ → Type 0
-Writes Is IsWritten job parts out = Outputs Is IsWritten parts.text (pieces job parts.script) out
+-- These first lines of the script were read, up to the end of the last one or of the input, and less than one read of
+-- `MOST_READ` bytes beyond. Where they are none, that is the end of the separator line.
+pub record ReadsUpTo (given : List (List ℕ)) (input : List ℕ) (left : Option (List ℕ)) : Type 0 where
+  pub behind : List (List ℕ)
+  pub first : (cut_of input).script ≡ given ++ behind
+  pub count : ℕ
+  pub read : HasRead count input left
+  pub reached : min (up_to (cut_of input) given) (length input) ≤ count
+  pub near : count < up_to (cut_of input) given + MOST_READ
+
+-- A job that answers the script has read all of the input; one that needs the program alone, no further than that.
+abbrev pub ReadsAll : Job → List ℕ → Option (List ℕ) → Type 0
+ReadsAll Run input left = HasRead (length input) input left
+ReadsAll Replay input left = HasRead (length input) input left
+ReadsAll Check input left = ReadsUpTo [] input left
+ReadsAll Code input left = ReadsUpTo [] input left
+
+-- ---- what was written
+
+-- of the output of an input that is cut so, so much is written
+abbrev pub Writes : (Verdict → Type 0) → (List (List ℕ) → List ℕ → Type 0) → Job → CutInput → List ℕ → Type 0
+Writes Is IsWritten job c out = Outputs Is IsWritten c.text (pieces job c.script) out
 
 -- Reading was cut off: before the program was read, and nothing was written; or in the script, of which all whole lines that were read are answered.
-abbrev pub CutOff : Option Parts → Job → List ℕ → Type 0
+abbrev pub CutOff : Option CutInput → Job → List ℕ → Type 0
 CutOff None job out = out ≡ []
-CutOff (Some parts) Run out = Writes IsAccepted IsAll Run parts out
-CutOff (Some parts) Replay out = Writes IsAccepted IsAll Replay parts out
-CutOff (Some parts) Check out = ⊥
-CutOff (Some parts) Code out = ⊥
+CutOff (Some c) Run out = Writes IsAccepted IsAll Run c out
+CutOff (Some c) Replay out = Writes IsAccepted IsAll Replay c out
+CutOff (Some c) Check out = ⊥
+CutOff (Some c) Code out = ⊥
+
+-- a read that was due did not come
+abbrev pub StopsReading : Job → List ℕ → Option (List ℕ) → List ℕ → Type 0
+StopsReading job input left out = (n : ℕ) × HasRead n input left × CutOff (cut (whole_lines (take n input))) job out
+
+-- a reply or the line of the fault was not written whole, and nothing was read behind the line whose reply it was
+abbrev pub StopsScript : List ℕ → Option (List ℕ) → List ℕ → Type 0
+StopsScript input left out = (given : List (List ℕ)) × ReadsUpTo given input left × OfVerdict (cut_of input).text (λ verdict. StopsInPiece given verdict out)
+
+-- a page or the line of the fault was not written whole
+abbrev pub StopsPage : Page → List ℕ → Option (List ℕ) → List ℕ → Type 0
+StopsPage page input left out = ReadsUpTo [] input left × OfVerdict (cut_of input).text (λ verdict. StopsInPage page verdict out)
+
+abbrev pub StopsWriting : Job → List ℕ → Option (List ℕ) → List ℕ → Type 0
+StopsWriting Run input left out = StopsScript input left out
+StopsWriting Replay input left out = StopsScript input left out
+StopsWriting Check input left out = StopsPage Canonical input left out
+StopsWriting Code input left out = StopsPage Listing input left out
+
+-- there was no room for the program, or for what is written of it
+abbrev pub LacksProgram : List ℕ → Option (List ℕ) → List ℕ → Type 0
+LacksProgram input left out = (out ≡ []) × ((n : ℕ) × HasRead n input left × (n < up_to (cut_of input) [] + MOST_READ))
+
+-- there was no room for the reply to a line, and nothing was read behind it
+abbrev pub LacksReply : List ℕ → Option (List ℕ) → List ℕ → Type 0
+LacksReply input left out = (given : List (List ℕ)) × ReadsUpTo given input left × OfVerdict (cut_of input).text (λ verdict. StopsBeforePiece given verdict out)
+
+abbrev pub LacksRoom : Job → List ℕ → Option (List ℕ) → List ℕ → Type 0
+LacksRoom Run input left out = LacksProgram input left out ⊎ (IsReadable input × LacksReply input left out)
+LacksRoom Replay input left out = LacksProgram input left out ⊎ (IsReadable input × LacksReply input left out)
+LacksRoom Check input left out = LacksProgram input left out
+LacksRoom Code input left out = LacksProgram input left out
+
+-- ---- the table
 
 -- the row of a status, for a job, an input, what the source has left of it, and what was written
 abbrev pub Row : Status → Job → List ℕ → Option (List ℕ) → List ℕ → Type 0
-Row Done job input left out = IsWithin job input × IsOver job left × Writes IsAccepted IsAll job (parts_of input) out
-Row Refused job input left out = IsReadable input × Writes IsRefused IsAll job (parts_of input) out
-Row WriteFault job input left out = IsReadable input × Writes IsEither IsCutInPiece job (parts_of input) out
-Row ReadFault job input left out = (n : ℕ) × (n ≤ most) × (left ≡ Some (drop n input)) × CutOff (cut (whole_lines (take n input))) job out
-Row TooLong job input left out = (most < length input) × CutOff (cut (whole_lines (take most input))) job out
-Row Memory job input left out = (out ≡ []) ⊎ (IsReadable input × Writes IsEither IsCutBetween job (parts_of input) out)
+Row Done job input left out = IsWithin job input × ReadsAll job input left × Writes IsAccepted IsAll job (cut_of input) out
+Row Refused job input left out = IsReadable input × ReadsUpTo [] input left × Writes IsRefused IsAll job (cut_of input) out
+Row WriteFault job input left out = IsReadable input × StopsWriting job input left out
+Row ReadFault job input left out = StopsReading job input left out
+Row TooLong job input left out = (MOST_INPUT < length input) × (left ≡ Some (drop (MOST_INPUT + 1) input)) × CutOff (cut (whole_lines (take MOST_INPUT input))) job out
+Row Memory job input left out = StopsReading job input left out ⊎ LacksRoom job input left out
 Row Usage job input left out = ⊥
 
 -- where the words ask for nothing, nothing is written

@@ -1,20 +1,15 @@
 -- What the lines of a script are answered.
-use Rattle.std.specs.Prelude.{ℕ, List, Option, Some, None, Result, Ok, Err, if◌then◌else◌}
+use Rattle.std.specs.Prelude.{ℕ, List, Option, Some, None, Result, Ok, Err}
 use Rattle.pst_script.specs.declared.command.Command.{Command}
 use Rattle.pst_script.specs.declared.command.LineFault.{LineFault}
 use Rattle.pst_script.specs.declared.command.LineFault.TheVariants.{Line, Number, Memory}
 use Rattle.pst_script.specs.declared.reply.Reply.TheVariants.{Refused}
 use Rattle.pst_script.specs.declared.reply.Refusal.TheVariants as because
-use Rattle.pst_script.specs.Commands.{reading, is_about_open_runs}
+use Rattle.pst_script.specs.Commands.{reading}
 use Rattle.pst_script.specs.Texts.{text_of}
-use Rattle.pst_history.specs.declared.history.History.{History}
 use Rattle.pst_history.specs.Meaning.{Meaning}
-use Rattle.pst_history.specs.History.{reply, after}
+use Rattle.pst_history.specs.History.{History, reply, after}
 use Rattle.pst_cli.specs.Pieces.{Answering}
-
--- What a line asks for. No runs stay open yet, so a line about them has none of the forms.
-abbrev pub asked : List ℕ → Result (Option Command) LineFault
-asked line = if is_about_open_runs line then Err Line else reading line
 
 -- the text of the reply, if there is one
 abbrev pub reply_of : Meaning → History → Result (Option Command) LineFault → Option (List ℕ)
@@ -32,4 +27,4 @@ next_of m h (Err fault) = h
 
 -- the lines of a script, each answered on the history so far
 abbrev pub script_of : Meaning → Answering History
-script_of m = record { reply = λ h line. reply_of m h (asked line); next = λ h line. next_of m h (asked line) }
+script_of m = record { reply = λ h line. reply_of m h (reading line); next = λ h line. next_of m h (reading line) }

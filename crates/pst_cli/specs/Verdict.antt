@@ -8,7 +8,7 @@ use Rattle.pst_tree.specs.Syntax as tree
 use Rattle.pst_parse.specs.Lexemes.{Lexeme, lexemes}
 use Rattle.pst_parse.specs.Forms.{IsShallow}
 use Rattle.pst_parse.specs.Spelling.{Item, program}
-use Rattle.pst_parse.specs.Grammar.{Spells, IsUnexpected, IsTooDeep, StandsOn}
+use Rattle.pst_parse.specs.Grammar.{Spells, IsUnexpected, IsTooDeep, IsFirstFaultOn}
 use Rattle.pst_types.specs.declared.fault.TypeFault.{TypeFault}
 use Rattle.pst_types.specs.declared.fault.TypeFault.TheVariants as typing
 use Rattle.pst_types.specs.Declarations.{NamedProgram, checked}
@@ -31,7 +31,7 @@ HasTree text items = (tokens : Tokens) × HasTokens text tokens × ((p : List It
 
 -- the text has tokens, and on this line stands their first fault, of this sort
 abbrev pub HasParseFault : List ℕ → (List Lexeme → List Lexeme → Type 0) → ℕ → Type 0
-HasParseFault text Is line = (tokens : Tokens) × HasTokens text tokens × StandsOn Is tokens line
+HasParseFault text Is line = (tokens : Tokens) × HasTokens text tokens × IsFirstFaultOn Is tokens line
 
 -- the text has a tree, and this is the first fault of its types
 abbrev pub HasTypeFault : List ℕ → TypeFault → Type 0

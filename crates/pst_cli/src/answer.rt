@@ -8,15 +8,17 @@ ghost use Rattle.pst_script.specs.Texts.{text_of};
 ghost use Rattle.pst_history.specs.Direct.{meaning_of};
 ghost use Rattle.std.specs.List.{concat};
 ghost use Rattle.std.specs.Option.{option_to_list};
-ghost use Rattle.pst_cli.specs.Script.{script_of, asked, reply_of, next_of};
-ghost use Rattle.pst_cli.specs.Stages.{CanReplay, StopsAtReply};
+ghost use Rattle.pst_script.specs.Commands.{reading};
+ghost use Rattle.pst_replay.specs.Replay.{kept_for};
+ghost use Rattle.pst_cli.specs.Script.{script_of, reply_of, next_of};
+ghost use Rattle.pst_cli.specs.Serving.{CanReplay, StopsAtReply};
 
 use crate::stop::Stop;
 use pst_base::{NoMemory, Text};
 use pst_io::{Sink, put};
 use pst_program::Program;
 use pst_replay::Replayer;
-use pst_script::{LineFault, Refusal, Reply, is_about_open_runs, read_line, reply_text};
+use pst_script::{LineFault, Refusal, Reply, read_line, reply_text};
 use std::alloc::Global;
 
 /// Writes a piece.
@@ -40,13 +42,10 @@ fn reply_to(
     line: &[u8],
 ) -> Result<Option<Reply>, NoMemory>
     requires { CanReplay program.now replayer.old }
-    ensures reply { IfOk result (λ reply. option_map text_of reply ≡ reply_of (meaning_of program.now) replayer.old.history (asked line.now)) }
-    ensures after { OnOk result (replayer.new.history ≡ next_of (meaning_of program.now) replayer.old.history (asked line.now)) }
+    ensures reply { IfOk result (λ reply. option_map text_of reply ≡ reply_of (meaning_of program.now) (kept_for program.now replayer.old.history) (reading line.now)) }
+    ensures after { OnOk result (kept_for program.now replayer.new.history ≡ next_of (meaning_of program.now) (kept_for program.now replayer.old.history) (reading line.now)) }
     ensures ready { OnOk result (CanReplay program.now replayer.new) }
 {
-    if is_about_open_runs(line) {
-        return Ok(Some(Reply::Refused(Refusal::Line)));
-    }
     match read_line(alloc, line) {
         Ok(None) => Ok(None),
         Ok(Some(command)) => Ok(Some(replayer.apply(program, &command)?)),
@@ -64,8 +63,8 @@ fn piece_for(
     line: &[u8],
 ) -> Result<Option<Text>, NoMemory>
     requires { CanReplay program.now replayer.old }
-    ensures piece { IfOk result (λ piece. piece ≡ (script_of (meaning_of program.now)).reply replayer.old.history line.now) }
-    ensures after { OnOk result (replayer.new.history ≡ (script_of (meaning_of program.now)).next replayer.old.history line.now) }
+    ensures piece { IfOk result (λ piece. piece ≡ (script_of (meaning_of program.now)).reply (kept_for program.now replayer.old.history) line.now) }
+    ensures after { OnOk result (kept_for program.now replayer.new.history ≡ (script_of (meaning_of program.now)).next (kept_for program.now replayer.old.history) line.now) }
     ensures ready { OnOk result (CanReplay program.now replayer.new) }
 {
     match reply_to(alloc, program, replayer, line)? {
@@ -84,9 +83,9 @@ pub(crate) fn answer_line<K: Sink>(
 ) -> Result<(), Stop>
     requires { CanReplay program.now replayer.old }
     ensures answered { (out : List ℕ) × Appends (K.taken sink.old) (K.taken sink.new) out
-        × MatchResult result (λ _. out ≡ concat (option_to_list ((script_of (meaning_of program.now)).reply replayer.old.history line.now)))
-        (λ stop. StopsAtReply stop ((script_of (meaning_of program.now)).reply replayer.old.history line.now) out) }
-    ensures after { OnOk result (replayer.new.history ≡ (script_of (meaning_of program.now)).next replayer.old.history line.now) }
+        × MatchResult result (λ _. out ≡ concat (option_to_list ((script_of (meaning_of program.now)).reply (kept_for program.now replayer.old.history) line.now)))
+        (λ stop. StopsAtReply stop ((script_of (meaning_of program.now)).reply (kept_for program.now replayer.old.history) line.now) out) }
+    ensures after { OnOk result (kept_for program.now replayer.new.history ≡ (script_of (meaning_of program.now)).next (kept_for program.now replayer.old.history) line.now) }
     ensures ready { OnOk result (CanReplay program.now replayer.new) }
     ensures later { K.faults sink.old ≤ K.faults sink.new }
     ensures write { result ≡ Err Stop.Write → Rose (K.faults sink.old) (K.faults sink.new) }

@@ -7,7 +7,7 @@ ghost use Rattle.pst_program.specs.View.{routines_of};
 ghost use Rattle.pst_program.specs.Typed.{IsTyped};
 ghost use Rattle.pst_types.specs.ProcedureView.{program_of};
 ghost use Rattle.pst_cli.specs.Verdict.{HasTree, Judged, Accepted};
-ghost use Rattle.pst_cli.specs.Stages.{IsNoProgram};
+ghost use Rattle.pst_cli.specs.Serving.{IsNoProgram};
 
 use crate::fault::{Fault, FaultKind};
 use pst_base::NoMemory;
@@ -92,12 +92,14 @@ impl From<NoMemory> for NoProgram {
     }
 }
 
-/// The tree of a text of fewer than 4,294,967,295 bytes.
-fn read_tree(alloc: Global, text: &[u8]) -> Result<Tree, NoProgram>
-    requires { length text.now + 1 < 2 ^ 32 }
-    ensures { MatchResult result (λ tree. HasTree text.now (items_of tree)) (λ why. IsNoProgram text.now why) }
+/// The tree of a text of fewer than 4,294,967,295 bytes. The text is let go once it is cut into tokens, and they once the
+/// tree is there.
+fn read_tree(alloc: Global, text: Vec<u8>) -> Result<Tree, NoProgram>
+    requires { length text.items + 1 < 2 ^ 32 }
+    ensures { MatchResult result (λ tree. HasTree text.items (items_of tree)) (λ why. IsNoProgram text.items why) }
 {
-    let tokens = tokens(alloc, text)?;
+    let tokens = tokens(alloc, &text)?;
+    drop(text);
     Ok(parse(alloc, &tokens)?)
 }
 
@@ -105,9 +107,9 @@ fn read_tree(alloc: Global, text: &[u8]) -> Result<Tree, NoProgram>
 ///
 /// # Errors
 /// The first fault of the text, or want of memory.
-pub(crate) fn judge(alloc: Global, text: &[u8]) -> Result<(Tree, Program), NoProgram>
-    requires { length text.now + 1 < 2 ^ 32 }
-    ensures verdict { MatchResult result (λ x. Judged text.now (Accepted (items_of x.0) (program_of x.1))) (λ why. IsNoProgram text.now why) }
+pub(crate) fn judge(alloc: Global, text: Vec<u8>) -> Result<(Tree, Program), NoProgram>
+    requires { length text.items + 1 < 2 ^ 32 }
+    ensures verdict { MatchResult result (λ x. Judged text.items (Accepted (items_of x.0) (program_of x.1))) (λ why. IsNoProgram text.items why) }
     ensures typed { IfOk result (λ x. IsTyped (routines_of x.1)) }
 {
     let tree = read_tree(alloc, text)?;
@@ -124,6 +126,6 @@ pub(crate) fn program_of(alloc: Global, text: Vec<u8>) -> Result<Program, NoProg
     ensures verdict { MatchResult result (λ p. (items : List Item) × Judged text.items (Accepted items (program_of p))) (λ why. IsNoProgram text.items why) }
     ensures typed { IfOk result (λ p. IsTyped (routines_of p)) }
 {
-    let (_tree, program) = judge(alloc, &text)?;
+    let (_tree, program) = judge(alloc, text)?;
     Ok(program)
 }

@@ -9,7 +9,7 @@ ghost use Rattle.pst_compiled.specs.Compiled.{code_of};
 ghost use Rattle.pst_listing.specs.Listing.{listed};
 ghost use Rattle.pst_cli.specs.Verdict.{Judged, Accepted};
 ghost use Rattle.pst_cli.specs.Output.{page_text};
-ghost use Rattle.pst_cli.specs.Stages.{IsNoProgram};
+ghost use Rattle.pst_cli.specs.Serving.{IsNoProgram};
 
 use crate::judge::{NoProgram, judge};
 use pst_base::{NoMemory, Text};
@@ -45,7 +45,7 @@ pub(crate) fn page_of(alloc: Global, page: Page, text: Vec<u8>) -> Result<Text, 
     requires { length text.items + 1 < 2 ^ 32 }
     ensures { MatchResult result (λ out. (items : List Item) × (p : NamedProgram) × Judged text.items (Accepted items p) × (out ≡ page_text page items p)) (λ why. IsNoProgram text.items why) }
 {
-    let (tree, program) = judge(alloc, &text)?;
+    let (tree, program) = judge(alloc, text)?;
     match page {
         Page::Canonical => Ok(print_program(alloc, &tree)?),
         Page::Listing => Ok(listing_of(alloc, &program)?),

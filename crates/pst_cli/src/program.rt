@@ -10,7 +10,7 @@ ghost use Rattle.pst_cli.specs.Reading.{GivesUntil, ReadsText};
 
 use crate::stop::Stop;
 use pst_base::NoMemory;
-use pst_io::{Lines, Source};
+use pst_io::{Lines, MOST_INPUT, Source};
 use pst_script::is_separator;
 use std::alloc::Global;
 
@@ -22,13 +22,13 @@ pub(crate) fn read_text<S: Source>(
 ) -> Result<Vec<u8>, Stop>
     requires { lines.old ≡ not_begun }
     ensures text { IfOk result (λ text. ReadsText lines.old.input (S.left source.old) lines.new.input (S.left source.new) text.items) }
-    ensures few { IfOk result (λ text. length text.items ≤ 67108864) }
+    ensures few { IfOk result (λ text. length text.items ≤ MOST_INPUT) }
     ensures open { OnOk result (IsOpen lines.new (S.left source.new)) }
 
     // Where it stopped, no separator line was among the lines that were read.
     ensures stopped { IfErr result (λ stop. (given : List (List ℕ))
         × GivesUntil stop lines.old.input (S.left source.old) lines.new.input (S.left source.new) given × (cut given ≡ None)) }
-    ensures within { bytes_read lines.new.input ≤ 67108864 }
+    ensures within { bytes_read lines.new.input ≤ MOST_INPUT }
 
     ensures later { S.faults source.old ≤ S.faults source.new }
     ensures read { result ≡ Err Stop.Read → Rose (S.faults source.old) (S.faults source.new) }

@@ -5,7 +5,8 @@ ghost use Rattle.std.specs.Io.KnownBytes.{Appends};
 ghost use Rattle.pst_io.specs.Causes.{Rose};
 ghost use Rattle.pst_io.specs.Input.{bytes_read};
 ghost use Rattle.pst_io.specs.Lines.{IsOpen};
-ghost use Rattle.pst_cli.specs.Stages.{Refuses, Serves, Prints};
+ghost use Rattle.pst_cli.specs.Reading.{IsNear};
+ghost use Rattle.pst_cli.specs.Serving.{Refuses, Serves, Prints};
 
 use crate::Status;
 use crate::answer::say;
@@ -14,7 +15,7 @@ use crate::judge::{NoProgram, program_of};
 use crate::page::{Page, page_of};
 use crate::session::answer_script;
 use crate::status::status_of;
-use pst_io::{Lines, Sink, Source};
+use pst_io::{Lines, MOST_INPUT, Sink, Source};
 use pst_replay::Replayer;
 use std::alloc::Global;
 
@@ -43,10 +44,11 @@ pub(crate) fn serve<S: Source, K: Sink>(
 ) -> Status
     requires short { length text.items + 1 < 2 ^ 32 }
     requires open { IsOpen lines.old (S.left source.old) }
-    requires within_old { bytes_read lines.old.input ≤ 67108864 }
+    requires near { IsNear lines.old.input }
+    requires within_old { bytes_read lines.old.input ≤ MOST_INPUT }
     ensures served { (out : List ℕ) × Appends (K.taken sink.old) (K.taken sink.new) out
         × Serves result lines.old.input (S.left source.old) lines.new.input (S.left source.new) text.items out }
-    ensures within { bytes_read lines.new.input ≤ 67108864 }
+    ensures within { bytes_read lines.new.input ≤ MOST_INPUT }
     ensures later { S.faults source.old ≤ S.faults source.new }
     ensures sink_later { K.faults sink.old ≤ K.faults sink.new }
     ensures read { result ≡ Status.ReadFault → Rose (S.faults source.old) (S.faults source.new) }

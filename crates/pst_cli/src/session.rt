@@ -1,19 +1,19 @@
 //! The script: each line is answered before the next one is read.
 
-ghost use Rattle.std.specs.Prelude.{◌≡◌, ◌≤◌, List, ℕ, Err, MatchResult};
-ghost use Rattle.std.specs.Io.KnownBytes.{Appends, IsAtEnd};
+ghost use Rattle.std.specs.Prelude.{◌≡◌, ◌≤◌, List, ℕ, Err};
+ghost use Rattle.std.specs.Io.KnownBytes.{Appends};
 ghost use Rattle.pst_io.specs.Causes.{Rose};
-ghost use Rattle.pst_io.specs.Input.{Gives, IsOver, bytes_read};
+ghost use Rattle.pst_io.specs.Input.{bytes_read};
 ghost use Rattle.pst_io.specs.Lines.{IsOpen};
 ghost use Rattle.pst_history.specs.Direct.{meaning_of};
-ghost use Rattle.pst_cli.specs.Pieces.{IsAll, pieces_from};
+ghost use Rattle.pst_replay.specs.Replay.{kept_for};
 ghost use Rattle.pst_cli.specs.Script.{script_of};
-ghost use Rattle.pst_cli.specs.Reading.{GivesUntil};
-ghost use Rattle.pst_cli.specs.Stages.{CanReplay, IsWrittenUntil};
+ghost use Rattle.pst_cli.specs.Reading.{IsNear};
+ghost use Rattle.pst_cli.specs.Serving.{CanReplay, Answers};
 
 use crate::answer::answer_line;
 use crate::stop::Stop;
-use pst_io::{Lines, Sink, Source};
+use pst_io::{Lines, MOST_INPUT, Sink, Source};
 use pst_program::Program;
 use pst_replay::Replayer;
 use std::alloc::Global;
@@ -29,14 +29,12 @@ pub(crate) fn answer_script<S: Source, K: Sink>(
 ) -> Result<(), Stop>
     requires ready { CanReplay program.now replayer.old }
     requires open { IsOpen lines.old (S.left source.old) }
+    requires near { IsNear lines.old.input }
 
-    ensures answered { (given : List (List ℕ)) × (out : List ℕ) × Appends (K.taken sink.old) (K.taken sink.new) out
-        × MatchResult result
-        (λ _. Gives lines.old.input (S.left source.old) lines.new.input (S.left source.new) given × IsOver lines.new.input × IsAtEnd (S.left source.new)
-        × IsAll (pieces_from (script_of (meaning_of program.now)) replayer.old.history given) out)
-        (λ stop. GivesUntil stop lines.old.input (S.left source.old) lines.new.input (S.left source.new) given
-        × IsWrittenUntil stop (pieces_from (script_of (meaning_of program.now)) replayer.old.history given) out) }
-    ensures within { bytes_read lines.new.input ≤ 67108864 }
+    ensures answered { (out : List ℕ) × Appends (K.taken sink.old) (K.taken sink.new) out
+        × Answers (script_of (meaning_of program.now)) (kept_for program.now replayer.old.history) result
+        lines.old.input (S.left source.old) lines.new.input (S.left source.new) out }
+    ensures within { bytes_read lines.new.input ≤ MOST_INPUT }
 
     ensures later { S.faults source.old ≤ S.faults source.new }
     ensures sink_later { K.faults sink.old ≤ K.faults sink.new }

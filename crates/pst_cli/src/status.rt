@@ -2,7 +2,7 @@
 
 ghost use Rattle.std.specs.Prelude.{◌≡◌};
 ghost use Rattle.pst_cli.specs.Jobs.{number_of};
-ghost use Rattle.pst_cli.specs.Stages.{status_of};
+ghost use Rattle.pst_cli.specs.Serving.{status_of};
 
 use crate::stop::Stop;
 
