@@ -1,0 +1,131 @@
+//! A case: what the program is given and what it has to write.
+
+use crate::text::{Text, number, put_line};
+use std::alloc::{AllocError, Global};
+
+/// To which part of a case the next line belongs.
+#[derive(Clone, Copy, PartialEq, Eq)]
+enum Part {
+    Head,
+    Input,
+    Output,
+}
+
+/// A case. It stands for a run of the program for each of its lists of words, each size of a read and each of a write.
+#[derive(Drop)]
+pub(crate) struct Case {
+    pub(crate) name: Vec<u8>,
+    /// The lists of words.
+    pub(crate) words: Vec<Vec<String>>,
+    /// The status with which the program has to end.
+    pub(crate) status: usize,
+    /// The sizes of a read. None: all at once.
+    pub(crate) reads: Vec<usize>,
+    /// The sizes of a write. None: whole pieces.
+    pub(crate) writes: Vec<usize>,
+    /// The numbers of the reads that fail, from 1.
+    pub(crate) failing_reads: Vec<u64>,
+    /// The numbers of the writes that fail, from 1.
+    pub(crate) failing_writes: Vec<u64>,
+    /// How many bytes may be written. None: more than enough.
+    pub(crate) room: Option<usize>,
+    pub(crate) input: Text,
+    pub(crate) output: Text,
+    part: Part,
+}
+
+/// The words of a list.
+fn words_of(alloc: Global, line: &[u8]) -> Result<Vec<String>, AllocError> {
+    let mut words = Vec::new(alloc);
+    for word in line.split(|byte| *byte == b' ') {
+        if !word.is_empty() {
+            let mut bytes = Vec::new(alloc);
+            put_line(alloc, word, 0, b"", &mut bytes)?;
+            words.push(String::from_utf8_lossy(alloc, &bytes)?)?;
+        }
+    }
+    Ok(words)
+}
+
+/// The numbers of a list.
+fn numbers_of(alloc: Global, line: &[u8]) -> Result<Vec<usize>, AllocError> {
+    let mut numbers = Vec::new(alloc);
+    for word in line.split(|byte| *byte == b' ') {
+        if let Some(found) = number(word) {
+            numbers.push(found)?;
+        }
+    }
+    Ok(numbers)
+}
+
+/// The numbers of calls.
+fn calls_of(alloc: Global, line: &[u8]) -> Result<Vec<u64>, AllocError> {
+    let mut calls = Vec::new(alloc);
+    for call in numbers_of(alloc, line)? {
+        calls.push(call as u64)?;
+    }
+    Ok(calls)
+}
+
+impl Case {
+    /// A case of which no line was read.
+    pub(crate) fn new(alloc: Global) -> Case {
+        Case {
+            name: Vec::new(alloc),
+            words: Vec::new(alloc),
+            status: 0,
+            reads: Vec::new(alloc),
+            writes: Vec::new(alloc),
+            failing_reads: Vec::new(alloc),
+            failing_writes: Vec::new(alloc),
+            room: None,
+            input: Text::new(alloc),
+            output: Text::new(alloc),
+            part: Part::Head,
+        }
+    }
+
+    /// Takes the next line of the file.
+    pub(crate) fn take_line(
+        &mut self,
+        alloc: Global,
+        programs: &[u8],
+        line: &[u8],
+    ) -> Result<(), AllocError> {
+        if line == b"-- input".as_slice() {
+            self.part = Part::Input;
+            return Ok(());
+        }
+        if line == b"-- output".as_slice() {
+            self.part = Part::Output;
+            return Ok(());
+        }
+        match self.part {
+            Part::Head => self.take_head(alloc, line),
+            Part::Input => self.input.take_line(alloc, programs, line),
+            Part::Output => self.output.take_line(alloc, programs, line),
+        }
+    }
+
+    /// Takes a line of the head.
+    fn take_head(&mut self, alloc: Global, line: &[u8]) -> Result<(), AllocError> {
+        if let Some(rest) = line.strip_prefix(b"words:") {
+            for words in rest.split(|byte| *byte == b'|') {
+                self.words.push(words_of(alloc, words)?)?;
+            }
+        } else if let Some(rest) = line.strip_prefix(b"status: ") {
+            self.status = number(rest).unwrap_or(usize::MAX);
+        } else if let Some(rest) = line.strip_prefix(b"reads: ") {
+            self.reads = numbers_of(alloc, rest)?;
+        } else if let Some(rest) = line.strip_prefix(b"writes: ") {
+            self.writes = numbers_of(alloc, rest)?;
+        } else if let Some(rest) = line.strip_prefix(b"failing reads: ") {
+            self.failing_reads = calls_of(alloc, rest)?;
+        } else if let Some(rest) = line.strip_prefix(b"failing writes: ") {
+            self.failing_writes = calls_of(alloc, rest)?;
+        } else if let Some(rest) = line.strip_prefix(b"room: ") {
+            self.room = number(rest);
+        }
+        Ok(())
+    }
+}
