@@ -13,9 +13,10 @@ use Rattle.pst_program.specs.declared.program.Program.{Program}
 use Rattle.pst_program.specs.declared.program.TypedProc.{TypedProc}
 use Rattle.pst_program.specs.declared.meaning.Value.{Value}
 use Rattle.pst_program.specs.declared.meaning.Value.TheVariants.{Number as ANumber}
+use Rattle.pst_program.specs.Syntax.{Expr}
 use Rattle.pst_program.specs.Value.{Env, Answer, Gives, Traps}
 use Rattle.pst_program.specs.Sound.{NamesAreFree}
-use Rattle.pst_program.specs.Meaning.{World, Ending, Normal, Returned, Trapped, Spent, Answers, Gives_all, Traps_at, Calls, call, call_with, exec, exec_action, turns, run_body}
+use Rattle.pst_program.specs.Meaning.{World, Ending, Normal, Returned, Trapped, Spent, Answers, Gives_all, Traps_at, Calls, call, call_with, exec, exec_action, turns, run_body, if_else}
 use Rattle.pst_program.specs.View.{expr_of, action_of, actions_of, routines_of}
 use Rattle.pst_eval.specs.declared.tally.Tally.{Tally}
 use Rattle.pst_eval.specs.declared.tally.End.{End}
@@ -59,6 +60,10 @@ abbrev pub goes_on : Result Bool End → (first other : Env → World → Ending
 goes_on (Ok true) first other env w = first env w
 goes_on (Ok false) first other env w = other env w
 goes_on (Err end) first other env w = ending_of end env w
+
+-- a condition decides what follows, whatever follows either way
+abbrev pub Chooses : List TypeShape → Expr → (line : ℕ) → Env → World → Result Bool End → World → Type 0
+Chooses shape e line env old result new = (first other : Env → World → Ending) → if_else shape e first other line env old ≡ goes_on result first other env new
 
 -- the counts have room for so many charges more
 pub record HasRoom (charges : ℕ) (t : Tally) : Type 0 where

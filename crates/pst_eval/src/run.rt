@@ -87,24 +87,22 @@ fn run_statement(
             result,
             procedure,
             arguments: list,
-        } => {
-            let called = run_called(
-                alloc,
-                program,
-                deep,
-                procedure.0,
-                list,
-                line,
-                env,
-                heap,
-                tally,
-            )?;
-            Ok(after(called, *result, env))
-        }
+        } => run_called(
+            alloc,
+            program,
+            deep,
+            procedure.0,
+            list,
+            line,
+            *result,
+            env,
+            heap,
+            tally,
+        ),
     }
 }
 
-/// Takes the charge of a call, evaluates its arguments and runs it.
+/// Takes the charge of a call, evaluates its arguments, runs it, and sets the local that its result goes into.
 #[cycle(run)]
 fn run_called(
     alloc: Global,
@@ -113,12 +111,13 @@ fn run_called(
     procedure: u16,
     list: &TypedList,
     line: u32,
-    env: &[Value],
+    into: Option<u16>,
+    env: &mut Vec<Value>,
     heap: &mut PlainHeap,
     tally: &mut Tally,
 ) -> Result<End, NoMemory>
     requires ready { IsAtWork program.now.shape heap.old tally.old }
-    ensures meaning { (local : Option ℕ) → IfOk result (λ end. after_call local env.now (ending_of end env.now (world_of heap.new tally.new)) ≡ called_end program.now deep procedure list.now line local env.now heap.old tally.old) }
+    ensures meaning { IfOk result (λ end. ending_of end env.new.items (world_of heap.new tally.new) ≡ called_end program.now deep procedure list.now line into env.old.items heap.old tally.old) }
     ensures ready { OnOk result (IsAtWork program.now.shape heap.new tally.new) }
     ensures fewer { OnOk result (tally.new.charges ≤ tally.old.charges) }
 {
@@ -127,7 +126,10 @@ fn run_called(
     }
     match arguments(alloc, list.as_slice(), env, heap)? {
         Err(trap) => Ok(End::Trap(trap, line)),
-        Ok(values) => run_call(alloc, program, deep, procedure, values, line, heap, tally),
+        Ok(values) => {
+            let called = run_call(alloc, program, deep, procedure, values, line, heap, tally)?;
+            Ok(after(called, into, env))
+        }
     }
 }
 

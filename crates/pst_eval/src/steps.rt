@@ -3,19 +3,16 @@
 ghost use Rattle.std.specs.Prelude.{◌≡◌, ◌+◌, ◌≤◌, ◌<◌, List, IfOk, OnOk, slice_set};
 ghost use Rattle.std.specs.Option.{option_map};
 ghost use Rattle.pst_program.specs.declared.meaning.Value.{Value};
-ghost use Rattle.pst_program.specs.Meaning.{World, Ending, set_local, set_root, store_field, make, print_value, return_value, if_else, is_target};
+ghost use Rattle.pst_program.specs.Meaning.{World, Ending, set_local, set_root, store_field, make, print_value, return_value, is_target};
 ghost use Rattle.pst_program.specs.View.{expr_of};
-ghost use Rattle.pst_eval.specs.Ends.{ending_of, world_of, goes_on, IsAtWork};
+ghost use Rattle.pst_eval.specs.Ends.{Chooses, ending_of, world_of, IsAtWork};
 
 use crate::tally::{End, Tally};
-use crate::value::{ROOT, number, value};
+use crate::value::{number, value};
 use crate::write::write;
-use pst_base::{NoMemory, SlotNo, TrapKind, TypeNo, TypeShape};
+use pst_base::{NoMemory, ROOT, SlotNo, TrapKind, TypeNo, TypeShape};
 use pst_heap::PlainHeap;
-use pst_program::{Typed, Value};
-
-/// The most numbers that a run prints.
-const OUTPUT: usize = 65_536;
+use pst_program::{MOST_PRINTED, Typed, Value};
 
 /// `x = e;` with a local.
 pub fn set_local(
@@ -157,7 +154,7 @@ pub fn print(
     match value(e, env, heap) {
         Err(trap) => Ok(End::Trap(trap, line)),
         Ok(v) => {
-            if tally.printed.len() >= OUTPUT {
+            if tally.printed.len() >= MOST_PRINTED {
                 return Ok(End::Trap(TrapKind::Output, line));
             }
             tally.printed.push(number(v))?;
@@ -200,7 +197,7 @@ pub fn condition(
     tally: &mut Tally,
 ) -> Result<bool, End>
     requires ready { IsAtWork heap.now.shape heap.now tally.old }
-    ensures meaning { (first other : List Value → World → Ending) → if_else heap.now.shape (expr_of e.now) first other line env.now (world_of heap.now tally.old) ≡ goes_on result first other env.now (world_of heap.now tally.new) }
+    ensures meaning { Chooses heap.now.shape (expr_of e.now) line env.now (world_of heap.now tally.old) result (world_of heap.now tally.new) }
     ensures ready { IsAtWork heap.now.shape heap.now tally.new }
     ensures fewer { IfOk result (λ _. tally.new.charges < tally.old.charges) }
     ensures no_more { tally.new.charges ≤ tally.old.charges }

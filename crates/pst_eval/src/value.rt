@@ -6,7 +6,7 @@ ghost use Rattle.pst_program.specs.Value.{number_of, truth_of, same_value, opera
 ghost use Rattle.pst_program.specs.View.{expr_of};
 ghost use Rattle.pst_eval.specs.Ends.{answer_of, given_of};
 
-use pst_base::{Kind, Name, Op, SlotNo, TrapKind};
+use pst_base::{Kind, Name, Op, ROOT, SlotNo, TrapKind};
 use pst_heap::PlainHeap;
 use pst_program::{Typed, Value};
 
@@ -46,12 +46,6 @@ pub fn value(e: &Typed, env: &[Value], heap: &PlainHeap) -> Result<Value, TrapKi
         }
     }
 }
-
-/// The name of the root record.
-pub const ROOT: Name = Name {
-    run: pst_base::RunNo(0),
-    ordinal: 0,
-};
 
 fn local_at(env: &[Value], x: u16) -> Value
     ensures { result ≡ slice_index_or env.now x Value.Null }
