@@ -77,7 +77,17 @@ pub fn test_len(layout: &Layout<'_>, e: &Typed) -> Result<u32, NoMemory>
         Typed::Parens(inner) | Typed::Not(inner) => test_len(layout, inner),
         Typed::Binary { op, left, right } => match op {
             Op::And | Op::Or => after(test_len(layout, left)?, test_len(layout, right)?),
-            _ => {
+            Op::Add
+            | Op::Sub
+            | Op::Mul
+            | Op::Div
+            | Op::Rem
+            | Op::Equal
+            | Op::NotEqual
+            | Op::Less
+            | Op::LessEqual
+            | Op::Greater
+            | Op::GreaterEqual => {
                 let operands = after(expr_len(left)?, expr_len(right)?)?;
                 after(operands, compare_len(*op))
             }
@@ -157,27 +167,29 @@ pub fn emit_test(
         Typed::Parens(inner) => emit_test(code, layout, inner, want, to, at),
         Typed::Not(inner) => emit_test(code, layout, inner, !want, to, at),
         Typed::Binary { op, left, right } => match op {
-            Op::And => {
+            Op::And | Op::Or => {
+                // The truth of the left operand that decides the whole: false of an `and`, true of an `or`.
+                let decides = *op == Op::Or;
                 let middle = after(at, test_len(layout, left)?)?;
-                let no = if want {
-                    after(middle, test_len(layout, right)?)?
-                } else {
-                    to
-                };
-                emit_test(code, layout, left, false, no, at)?;
-                emit_test(code, layout, right, want, to, middle)
-            }
-            Op::Or => {
-                let middle = after(at, test_len(layout, left)?)?;
-                let yes = if want {
+                let decided = if want == decides {
                     to
                 } else {
                     after(middle, test_len(layout, right)?)?
                 };
-                emit_test(code, layout, left, true, yes, at)?;
+                emit_test(code, layout, left, decides, decided, at)?;
                 emit_test(code, layout, right, want, to, middle)
             }
-            _ => {
+            Op::Add
+            | Op::Sub
+            | Op::Mul
+            | Op::Div
+            | Op::Rem
+            | Op::Equal
+            | Op::NotEqual
+            | Op::Less
+            | Op::LessEqual
+            | Op::Greater
+            | Op::GreaterEqual => {
                 let a = emit_expr(code, layout, left, 0)?;
                 let b = emit_expr(code, layout, right, 1)?;
                 emit_compare(code, *op, want, a, b, to)

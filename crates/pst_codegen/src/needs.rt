@@ -81,7 +81,17 @@ fn note_test(
                 note_test(alloc, table, shape, left)?;
                 note_test(alloc, table, shape, right)
             }
-            _ => {
+            Op::Add
+            | Op::Sub
+            | Op::Mul
+            | Op::Div
+            | Op::Rem
+            | Op::Equal
+            | Op::NotEqual
+            | Op::Less
+            | Op::LessEqual
+            | Op::Greater
+            | Op::GreaterEqual => {
                 note_expr(alloc, table, shape, left, 0)?;
                 note_expr(alloc, table, shape, right, 1)
             }
