@@ -58,7 +58,7 @@ fn rank_of(e: &Expression) -> u8
         Expression::Negate(_) => 6,
         Expression::Field { .. } => 7,
         Expression::Binary { op, .. } => level_of(*op),
-        _ => 8,
+        Expression::Number(_) | Expression::Null | Expression::Name(_) | Expression::Parens(_) => 8,
     }
 }
 

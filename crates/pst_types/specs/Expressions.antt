@@ -75,6 +75,10 @@ named_value (IsRoot r) = Known (program.Root r.slot) (sort_of r.kind)
 abbrev pub loaded : Setting → Object → Slot → Judged
 loaded setting o f = Known (program.Load o.pointer f.slot (kind_of setting.scope f.kind)) (sort_of f.kind)
 
+-- a field of the records of an object's type, by its name
+abbrev pub field_loaded : Setting → (line : ℕ) → Object → (name : List ℕ) → Result Judged TypeFault
+field_loaded setting line o name = found (field_named setting.scope o.type name) (Unknown line) (λ field. Ok (loaded setting o field))
+
 -- an operator whose operands are of one sort
 abbrev pub operation : (line : ℕ) → Op → (operands result : Sort) → (left right : Judged) → Result Judged TypeFault
 operation line op sort gives left right =
@@ -120,7 +124,7 @@ judged setting line tree.Null = Ok Bare
 judged setting line (tree.Name x) = found (variable setting x) (Unknown line) (λ v. Ok (named_value v))
 judged setting line (tree.Parens e) = and_then (judged setting line e) (λ j. Ok (in_parens j))
 judged setting line (tree.Field e f) =
-    and_then (judged setting line e) (λ j. and_then (object line j) (λ o. found (field_named setting.scope o.type f) (Unknown line) (λ field. Ok (loaded setting o field))))
+    and_then (judged setting line e) (λ j. and_then (object line j) (λ o. field_loaded setting line o f))
 judged setting line (tree.Negate e) = and_then (judged setting line e) (λ j. and_then (operand line Int j) (λ v. Ok (Known (program.Negate v) Int)))
 judged setting line (tree.Not e) = and_then (judged setting line e) (λ j. and_then (operand line Truth j) (λ v. Ok (Known (program.Not v) Truth)))
 judged setting line (tree.Binary op a b) =

@@ -4,10 +4,7 @@ ghost use Rattle.std.specs.Prelude.{◌≡◌, Ok};
 ghost use Rattle.pst_tree.specs.View.{expr_of};
 ghost use Rattle.pst_program.specs.View as typed_view;
 ghost use Rattle.pst_program.specs.Syntax as program;
-ghost use Rattle.pst_types.specs.Expressions.{same_sort, sort_of, null_of, in_parens, operand, object, loaded, named_value, null_beside, operation, equality, combined, judged, fits, fitted, of_sort};
-ghost use Rattle.pst_types.specs.Answers.{found};
-ghost use Rattle.pst_types.specs.declared.fault.TypeFault.TheVariants as fault;
-ghost use Rattle.pst_types.specs.Names.{field_named};
+ghost use Rattle.pst_types.specs.Expressions.{same_sort, sort_of, null_of, in_parens, operand, object, field_loaded, named_value, null_beside, operation, equality, combined, judged, fits, fitted, of_sort};
 ghost use Rattle.pst_types.specs.View.{Answers, kind_word, setting_of, variable_of};
 ghost use Rattle.pst_types.specs.ExpressionView.{sort_seen, judged_of, object_of};
 
@@ -127,7 +124,7 @@ fn load<'t>(
     object: Object<'t>,
     name: &[u8],
 ) -> Result<Judged<'t>, TypeFault>
-    ensures { Answers judged_of result (found (field_named (setting_of setting.now).scope (object_of object.entry).type name.now) (fault.Unknown line) (λ f. Ok (loaded (setting_of setting.now) (object_of object.entry) f))) }
+    ensures { Answers judged_of result (field_loaded (setting_of setting.now) line (object_of object.entry) name.now) }
 {
     match setting.scope.field(object.ty, name) {
         None => Err(TypeFault::Unknown { line }),

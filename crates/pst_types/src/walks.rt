@@ -160,6 +160,30 @@ fn root_alone(alloc: Global, scope: &Scope) -> Result<Draft, TypeFault>
     })
 }
 
+/// Judges a record type: its in-degree limit, then its fields from the first to the last, and adds it.
+fn judge_record(
+    alloc: Global,
+    scope: &Scope,
+    draft: &mut Draft,
+    line: u32,
+    name: &Text,
+    limit: i64,
+    fields: &Fields,
+) -> Result<(), TypeFault>
+    ensures { Answers (λ _. draft_of draft.new) result (declared (scope_of scope.now) (draft_of draft.old) (tree.Record line name.now limit (map tree_view.field_of fields.now))) }
+{
+    let limit = match limit_of(limit) {
+        None => return Err(TypeFault::Limit { line }),
+        Some(limit) => limit,
+    };
+    let members = judge_fields(alloc, scope, fields.as_slice())?;
+    draft.shape.push(shape_of(alloc, scope, limit, &members)?)?;
+    draft
+        .names
+        .push(names_of(alloc, name.as_slice(), &members)?)?;
+    Ok(())
+}
+
 /// Judges a declaration after those before it, and adds what it says.
 fn judge_declaration<'t>(
     alloc: Global,
@@ -175,21 +199,12 @@ fn judge_declaration<'t>(
             name,
             limit,
             fields,
-        } => {
-            let limit = match limit_of(*limit) {
-                None => return Err(TypeFault::Limit { line: *line }),
-                Some(limit) => limit,
-            };
-            let members = judge_fields(alloc, scope, fields.as_slice())?;
-            draft.shape.push(shape_of(alloc, scope, limit, &members)?)?;
-            draft
-                .names
-                .push(names_of(alloc, name.as_slice(), &members)?)?;
-        }
+        } => judge_record(alloc, scope, draft, *line, name, *limit, fields),
         Declaration::Root { line, kind, .. } => {
             if !scope.is_known(Word::of_type(kind)) {
                 return Err(TypeFault::Unknown { line: *line });
             }
+            Ok(())
         }
         Declaration::Procedure {
             line,
@@ -212,9 +227,9 @@ fn judge_declaration<'t>(
             draft
                 .procedures
                 .push(judge_procedure(alloc, scope, &text)?)?;
+            Ok(())
         }
     }
-    Ok(())
 }
 
 /// The second walk: what the declarations say.
