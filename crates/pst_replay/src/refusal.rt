@@ -5,7 +5,7 @@ ghost use Rattle.pst_program.specs.View.{routines_of};
 ghost use Rattle.pst_program.specs.Typed.{IsTyped};
 ghost use Rattle.pst_script.specs.declared.reply.Refusal.TheVariants as because;
 ghost use Rattle.pst_history.specs.Meaning.{when};
-ghost use Rattle.pst_history.specs.History.{first, is_full_run, is_open, is_open_run, numbered, refusal};
+ghost use Rattle.pst_history.specs.History.{call_refusal, first, is_full_run, is_open, is_open_run, numbered, refusal};
 ghost use Rattle.pst_history.specs.Direct.{meaning_of};
 ghost use Rattle.pst_replay.specs.Replay.{kept_for};
 
@@ -13,7 +13,7 @@ use crate::program::{proc_refused, query_refused};
 use pst_base::{RunNo, VersionNo};
 use pst_history::{CALLS, OPEN_RUNS, RUNS, Run, RunState, Since};
 use pst_program::Program;
-use pst_script::{Command, Refusal};
+use pst_script::{Call, Command, Refusal};
 
 /// Whether no version has the number.
 fn version_refused(history: &Since, version: VersionNo) -> Option<Refusal>
@@ -81,6 +81,28 @@ fn calls_refused(history: &Since, number: RunNo) -> Option<Refusal>
     None
 }
 
+/// Whether the call of a command is refused: its procedure and arguments, then its version.
+fn call_refused(program: &Program, history: &Since, call: &Call) -> Option<Refusal>
+    requires typed { IsTyped (routines_of program.now) }
+    ensures { result ≡ call_refusal (kept_for program.now history.now) ((meaning_of program.now).proc call.now.procedure) call.now }
+{
+    first_of(
+        proc_refused(
+            program,
+            call.procedure.as_slice(),
+            call.arguments.as_slice(),
+        ),
+        version_refused(history, call.version),
+    )
+}
+
+/// Whether a run can't be opened: its number, then how many runs are open.
+fn opening_refused(history: &Since, open_runs: usize) -> Option<Refusal>
+    ensures { result ≡ first (when (nat_lt 1048576 (1 + length history.now.runs)) because.Runs) (when (nat_le 64 open_runs) because.RunsOpen) }
+{
+    first_of(runs_refused(history), open_refused(open_runs))
+}
+
 /// The first of two refusals that holds.
 fn first_of(one: Option<Refusal>, next: Option<Refusal>) -> Option<Refusal>
     ensures { result ≡ first one next }
@@ -104,17 +126,7 @@ pub(crate) fn refused(
     ensures { result ≡ refusal (meaning_of program.now) (kept_for program.now history.now) command.now }
 {
     match command {
-        Command::Run(call) => first_of(
-            first_of(
-                proc_refused(
-                    program,
-                    call.procedure.as_slice(),
-                    call.arguments.as_slice(),
-                ),
-                version_refused(history, call.version),
-            ),
-            runs_refused(history),
-        ),
+        Command::Run(call) => first_of(call_refused(program, history, call), runs_refused(history)),
         Command::Query(call) => first_of(
             query_refused(
                 program,
@@ -124,19 +136,12 @@ pub(crate) fn refused(
             version_refused(history, call.version),
         ),
         Command::OpenRun(call) => first_of(
-            first_of(
-                proc_refused(
-                    program,
-                    call.procedure.as_slice(),
-                    call.arguments.as_slice(),
-                ),
-                version_refused(history, call.version),
-            ),
-            first_of(runs_refused(history), open_refused(open_runs)),
+            call_refused(program, history, call),
+            opening_refused(history, open_runs),
         ),
         Command::OpenEmpty { version } => first_of(
             version_refused(history, *version),
-            first_of(runs_refused(history), open_refused(open_runs)),
+            opening_refused(history, open_runs),
         ),
         Command::CallRun {
             run,
