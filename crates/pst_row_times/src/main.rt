@@ -15,7 +15,7 @@ use orders::{are_reversed, compare_many, insert_behind, insert_behind_first};
 use pst_labels::LabelOrder;
 use pst_order::Order;
 use pst_rows::{Row, Slot};
-use reads::{fill, read_rows, scan_rows};
+use reads::{fill, find_splits, read_rows, scan_rows};
 use std::alloc::Global;
 use std::mem::size_of;
 use std::rt::Env;
@@ -28,6 +28,7 @@ struct Scale {
     insertions: u32,
     comparisons: u32,
     reads: u32,
+    splits: u32,
     timed: bool,
 }
 
@@ -35,6 +36,7 @@ const CHECKED: Scale = Scale {
     insertions: 10_000,
     comparisons: 10_000,
     reads: 10_000,
+    splits: 100,
     timed: false,
 };
 
@@ -42,6 +44,7 @@ const TIMED: Scale = Scale {
     insertions: 1_000_000,
     comparisons: 20_000_000,
     reads: 20_000_000,
+    splits: 100_000,
     timed: true,
 };
 
@@ -140,6 +143,23 @@ fn time_reads(
     print_time(rt, scale.timed, "scans", scans)
 }
 
+/// Looks for a place at which a row of 160 stamped values may be split.
+fn time_splits(rt: &HostRuntime, alloc: Global, scale: Scale) -> io::Result<()> {
+    let mut order = LabelOrder::new(alloc)?;
+    let mut bed = Bed::new(alloc, &mut order)?;
+    fill(&mut bed, &mut order, 160, 5)?;
+    let start = Instant::now(rt)?;
+    let found = find_splits(&bed, &order, scale.splits);
+    let splits = start.elapsed(rt)?;
+    println!(rt;
+        "{} searches for the middle of {} stamped values over 5 slots, each found: {}",
+        scale.splits,
+        bed.row.stamped(),
+        found == scale.splits
+    )?;
+    print_time(rt, scale.timed, "searches", splits)
+}
+
 fn main(rt: HostRuntime) -> io::Result<()> {
     let scale = if is_timed(&rt)? { TIMED } else { CHECKED };
     println!(rt;
@@ -152,5 +172,5 @@ fn main(rt: HostRuntime) -> io::Result<()> {
         time_reads(&rt, rt.alloc(), scale, count, 1)?;
         time_reads(&rt, rt.alloc(), scale, count, 5)?;
     }
-    Ok(())
+    time_splits(&rt, rt.alloc(), scale)
 }

@@ -63,6 +63,19 @@ pub fn scan_rows(bed: &Bed, order: &LabelOrder, slots: u16, stride: usize, count
     sum
 }
 
+/// Looks so many times for a place at which the row may be split. Gives how often there is one.
+pub fn find_splits(bed: &Bed, order: &LabelOrder, count: u32) -> u32
+    requires { IsReady order.now.places bed.now }
+{
+    let mut found: u32 = 0;
+    for _ in 0..count {
+        if bed.row.split_stamp(order).is_some() {
+            found = found.wrapping_add(1);
+        }
+    }
+    found
+}
+
 /// A number of a content, so that each read counts.
 fn number(content: Content) -> u64 {
     match content {

@@ -1,13 +1,17 @@
 //! What no clause says: that the calls which take memory succeed, and that the clauses mean what is meant.
 
+ghost use Rattle.std.specs.Prelude.{◌≤◌};
+
 use crate::bed::Bed;
 use crate::orders::{
     are_in_order, are_reversed, insert_at_random, insert_behind, insert_behind_first,
 };
+use crate::reads::fill;
 use pst_base::{NoMemory, NodeId, SlotNo};
 use pst_labels::LabelOrder;
 use pst_order::{Order, RowOrder};
 use pst_rows::Content;
+use std::alloc::Global;
 
 #[test]
 fn the_63rd_insertion_behind_the_last_relabels(rt: HostRuntime) -> Result<(), NoMemory> {
@@ -97,6 +101,34 @@ fn a_row_is_split_in_its_middle(rt: HostRuntime) -> Result<(), NoMemory> {
         assert_eq!(rt; right.stamped(), 5);
         assert_eq!(rt; bed.row.hi(), place);
         assert_eq!(rt; right.lo(), place);
+    }
+    Ok(())
+}
+
+/// How many of 160 stamped values over so many slots lie before the place at which the row is split, and how many after it.
+fn halves(alloc: Global, slots: u16) -> Result<(usize, usize), NoMemory>
+    requires some { 1 ≤ slots }
+    requires few { slots ≤ 5 }
+{
+    let mut order = LabelOrder::new(alloc)?;
+    let mut bed = Bed::new(alloc, &mut order)?;
+    fill(&mut bed, &mut order, 160, slots)?;
+    match bed.row.split_stamp(&order) {
+        Some(place) => {
+            let right = bed.row.split_off(&order, place)?;
+            Ok((bed.row.stamped(), right.stamped()))
+        }
+        None => Ok((bed.row.stamped(), 0)),
+    }
+}
+
+/// Each value has a place of its own here, so that one is at the place, and 159 are left.
+#[test]
+fn rows_of_160_values_are_split_in_their_middle(rt: HostRuntime) -> Result<(), NoMemory> {
+    for slots in 1..6 {
+        let (left, right) = halves(rt.alloc(), slots)?;
+        assert_eq!(rt; left.min(right), 79);
+        assert_eq!(rt; left.max(right), 80);
     }
     Ok(())
 }

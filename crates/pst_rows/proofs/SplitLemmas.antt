@@ -2,16 +2,19 @@ use Rattle.std.proofs.Common.{◌≡◌, ℕ, zero, suc, ◌+◌, ◌*◌, ◌<�
 use Rattle.std.specs.Prelude.{count_by, All}
 use Rattle.std.proofs.lemmas.Bool.{cases_eq, cases_lt, lt-ltb, le-ltb, ltb-true}
 use Rattle.std.proofs.lemmas.List.{get_or_past, get_or_default}
-use Rattle.std.proofs.lemmas.List.Sums.{sum_by-cons, length-filter}
+use Rattle.std.proofs.lemmas.List.Sums.{sum_by-cons, sum_by-le-sum_by, length-filter}
+use Rattle.std.specs.declared.cmp.Ordering.TheVariants.{Less, Greater}
 use Rattle.pst_order.specs.declared.order.Pos.{Pos}
+use Rattle.pst_order.specs.Places.{rank}
 use Rattle.pst_rows.specs.declared.content.Slot.{Slot}
 use Rattle.pst_rows.specs.declared.content.Stamp.{Stamp}
+use Rattle.pst_rows.specs.declared.stamps.Bounds.{Bounds}
 use Rattle.pst_rows.specs.declared.row.Row.{Row}
 use Rattle.pst_rows.specs.Timeline.{in_force}
 use Rattle.pst_rows.specs.Values.{stamp_at, no_slot}
 use Rattle.pst_rows.specs.Rows.{stamps_of, base_of, stamped_count, no_stamp, IsRow}
 use Rattle.pst_rows.specs.Changes.{IsRowSplit, IsSplitStamp}
-use Rattle.pst_rows.specs.Steps.{AreRecounted, AreSlotsAt}
+use Rattle.pst_rows.specs.Steps.{AreRecounted, AreSlotsAt, IsHalf, IsMiddleFrom, AreBounds}
 use Rattle.pst_rows.specs.Median.{below, above, IsMiddle}
 use Rattle.pst_rows.proofs.TimelineLemmas.{base_below}
 use Rattle.pst_rows.proofs.StampLemmas.{stamp_inside, slot_unstamped, stamp_at-filter, AreStamps-filter, row_inside}
@@ -105,11 +108,6 @@ above_is : (r : ℕ → ℕ) (xs : List Stamp) (n : ℕ) → above n (positions 
 above_is r [] n = refl
 above_is r (x ∷ xs) n = sum_by-cons (λ (y : ℕ). cond (ltb n y) 1 0) (r x.place.0) (positions r xs) ∙ ap (λ (t : ℕ). cond (ltb n (r x.place.0)) 1 0 + t) (above_is r xs n) ∙ sym (sum_by-cons (λ (e : Stamp). cond (ltb n (r e.place.0)) 1 0) x xs)
 
--- at most half of the stamps lie before a position, and at most half after it
-pub record IsHalf (r : ℕ → ℕ) (xs : List Stamp) (n : ℕ) : Type 0 where
-  pub few_before : 2 * count_by (λ (e : Stamp). ltb (r e.place.0) n) xs ≤ length xs
-  pub few_after : 2 * count_by (λ (e : Stamp). ltb n (r e.place.0)) xs ≤ length xs
-
 -- one of the stamps is such
 pub some_half : (r : ℕ → ℕ) (xs : List Stamp) → 0 < length xs → ((i : ℕ) → i < length xs → IsHalf r xs (r (get_or xs i no_stamp).place.0) → ⊥) → ⊥
 some_half r xs l f =
@@ -138,39 +136,98 @@ split_stamp_is r places row i h l half =
       stamped_there = omega (arith, c', below_is r xs n, above_is r xs n, length-positions r xs);
     }
 
--- the search for such a stamp, over the slice ys of the stamps, at the one with index i
-module _ (r : ℕ → ℕ) (places : ℕ) (row : Row) (h : IsRow r places row) (ys : List Stamp) (same : ys ≡ row.stamps.items) (i : ℕ) where
-  read_is : (e : Stamp) → e ≡ get_or ys i e → i < length ys → e ≡ get_or ys i no_stamp
-  read_is e is l = is ∙ get_or_default ys i e no_stamp l
+-- a stamp of a slice is one of the row
+pub same_stamp : (ys xs : List Stamp) (i : ℕ) (d : Stamp) → ys ≡ xs → i < length ys → (i < length xs) × (get_or ys i d ≡ get_or xs i (get_or ys i d))
+same_stamp ys xs i d same l = subst (λ (zs : List Stamp). (i < length zs) × (get_or ys i d ≡ get_or zs i (get_or ys i d))) same (l, get_or_default ys i d (get_or ys i d) l)
 
-  pub place_in : (e : Stamp) → e ≡ get_or ys i e → i < length ys → r e.place.0 < places
-  place_in e is l =
-      let all : All (λ (x : Stamp). r x.place.0 < places) ys = subst (λ (xs : List Stamp). All (λ (x : Stamp). r x.place.0 < places) xs) (sym same) (places_in r places row h) in
-      subst (λ (x : Stamp). r x.place.0 < places) (sym is) (all i e l)
+before_rises : (r : ℕ → ℕ) (xs : List Stamp) (m n : ℕ) → m ≤ n → count_by (λ (e : Stamp). ltb (r e.place.0) m) xs ≤ count_by (λ (e : Stamp). ltb (r e.place.0) n) xs
+before_rises r xs m n l =
+    sum_by-le-sum_by (λ (e : Stamp). cond (ltb (r e.place.0) m) 1 0) (λ (e : Stamp). cond (ltb (r e.place.0) n) 1 0) xs
+    (λ (e : Stamp). ⊎_elim
+    (λ (k : r e.place.0 < m). rw (lt-ltb (r e.place.0) m k, lt-ltb (r e.place.0) n (omega arith)) (omega arith))
+    (λ (k : m ≤ r e.place.0). rw (le-ltb (r e.place.0) m k) (omega arith))
+    (cases_lt (r e.place.0) m))
 
-  pub split_found : (e : Stamp) → e ≡ get_or ys i e → i < length ys → (2 * count_by (λ (x : Stamp). ltb (r x.place.0) (r e.place.0)) ys ≤ length ys) × (2 * count_by (λ (x : Stamp). ltb (r e.place.0) (r x.place.0)) ys ≤ length ys) → IsSplitStamp r row (r e.place.0)
-  split_found e is l m =
-      let half : IsHalf r ys (r e.place.0) = record { few_before = m.0; few_after = m.1 } in
-      let half' : IsHalf r ys (r (get_or ys i no_stamp).place.0) = subst (λ (x : Stamp). IsHalf r ys (r x.place.0)) (read_is e is l) half in
-      let half'' : IsHalf r row.stamps.items (r (get_or row.stamps.items i no_stamp).place.0) = subst (λ (xs : List Stamp). IsHalf r xs (r (get_or xs i no_stamp).place.0)) same half' in
-      let l' : i < length row.stamps.items = subst (λ (xs : List Stamp). i < length xs) same l in
-      let done : IsSplitStamp r row (r (get_or row.stamps.items i no_stamp).place.0) = split_stamp_is r places row i h l' half'' in
-      subst (λ (x : Stamp). IsSplitStamp r row (r x.place.0)) (sym (read_is e is l)) (subst (λ (xs : List Stamp). IsSplitStamp r row (r (get_or xs i no_stamp).place.0)) (sym same) done)
+after_falls : (r : ℕ → ℕ) (xs : List Stamp) (m n : ℕ) → m ≤ n → count_by (λ (e : Stamp). ltb n (r e.place.0)) xs ≤ count_by (λ (e : Stamp). ltb m (r e.place.0)) xs
+after_falls r xs m n l =
+    sum_by-le-sum_by (λ (e : Stamp). cond (ltb n (r e.place.0)) 1 0) (λ (e : Stamp). cond (ltb m (r e.place.0)) 1 0) xs
+    (λ (e : Stamp). ⊎_elim
+    (λ (k : n < r e.place.0). rw (lt-ltb n (r e.place.0) k, lt-ltb m (r e.place.0) (omega arith)) (omega arith))
+    (λ (k : r e.place.0 ≤ n). rw (le-ltb n (r e.place.0) k) (omega arith))
+    (cases_lt n (r e.place.0)))
 
-  pub not_half : (e : Stamp) → e ≡ get_or ys i e → i < length ys → ((2 * count_by (λ (x : Stamp). ltb (r x.place.0) (r e.place.0)) ys ≤ length ys) × (2 * count_by (λ (x : Stamp). ltb (r e.place.0) (r x.place.0)) ys ≤ length ys) → ⊥) →
-      ((k : ℕ) → k < i → IsHalf r ys (r (get_or ys k no_stamp).place.0) → ⊥) → (k : ℕ) → k < i + 1 → IsHalf r ys (r (get_or ys k no_stamp).place.0) → ⊥
-  not_half e is l f before k m half =
+-- where more than half of the stamps lie before a position, the ones that halve them do
+half_before : (r : ℕ → ℕ) (xs : List Stamp) (m n : ℕ) → length xs < 2 * count_by (λ (e : Stamp). ltb (r e.place.0) n) xs → IsHalf r xs m → m < n
+half_before r xs m n many half =
+    ⊎_elim (λ (l : m < n). l)
+    (λ (l : n ≤ m). let rises : count_by (λ (e : Stamp). ltb (r e.place.0) n) xs ≤ count_by (λ (e : Stamp). ltb (r e.place.0) m) xs = before_rises r xs n m l in absurd (omega (arith, half.few_before)))
+    (cases_lt m n)
+
+half_after : (r : ℕ → ℕ) (xs : List Stamp) (m n : ℕ) → length xs < 2 * count_by (λ (e : Stamp). ltb n (r e.place.0)) xs → IsHalf r xs m → n < m
+half_after r xs m n many half =
+    ⊎_elim (λ (l : n < m). l)
+    (λ (l : m ≤ n). let falls : count_by (λ (e : Stamp). ltb n (r e.place.0)) xs ≤ count_by (λ (e : Stamp). ltb m (r e.place.0)) xs = after_falls r xs m n l in absurd (omega (arith, half.few_after)))
+    (cases_lt n m)
+
+-- at first the bounds are those of the life
+pub first_bounds : (ps : List ℕ) (row : Row) → IsRow (rank ps) (length ps) row → AreBounds ps row (record { low = row.lo; high = row.hi })
+first_bounds ps row h = record {
+  low_in = omega (arith, h.life, h.there);
+  high_in = h.there;
+  between = λ (k : ℕ) (l : k < length row.stamps.items) (half : IsHalf (rank ps) row.stamps.items (rank ps (get_or row.stamps.items k no_stamp).place.0)).
+      let s : ((get_or row.stamps.items k no_stamp).slot.0 < length row.slots.items) × (rank ps row.lo.0 < rank ps (get_or row.stamps.items k no_stamp).place.0) × (rank ps (get_or row.stamps.items k no_stamp).place.0 < rank ps row.hi.0) = stamp_inside (rank ps) (rank ps row.lo.0) (rank ps row.hi.0) (length row.slots.items) row.stamps.items h.stamps k l in
+      (s.1, s.2);
+}
+
+-- the search for a stamp that halves the others, at the stamp e with the index i
+module _ (ps : List ℕ) (row : Row) (h : IsRow (rank ps) (length ps) row) (i : ℕ) (e : Stamp) (l : i < length row.stamps.items) (is : e ≡ get_or row.stamps.items i e) where
+  read_is : e ≡ get_or row.stamps.items i no_stamp
+  read_is = is ∙ get_or_default row.stamps.items i e no_stamp l
+
+  pub place_in : rank ps e.place.0 < length ps
+  place_in = subst (λ (x : Stamp). rank ps x.place.0 < length ps) (sym is) (places_in (rank ps) (length ps) row h i e l)
+
+  pub split_found : IsHalf (rank ps) row.stamps.items (rank ps e.place.0) → IsSplitStamp (rank ps) row (rank ps e.place.0)
+  split_found half =
+      let half' : IsHalf (rank ps) row.stamps.items (rank ps (get_or row.stamps.items i no_stamp).place.0) = subst (λ (x : Stamp). IsHalf (rank ps) row.stamps.items (rank ps x.place.0)) read_is half in
+      subst (λ (x : Stamp). IsSplitStamp (rank ps) row (rank ps x.place.0)) (sym read_is) (split_stamp_is (rank ps) (length ps) row i h l half')
+
+  -- a stamp that does not lie between the bounds does not halve the others
+  pub outside : (b : Bounds) → AreBounds ps row b → ((rank ps b.low.0 < rank ps e.place.0) × (rank ps e.place.0 < rank ps b.high.0) → ⊥) → IsHalf (rank ps) row.stamps.items (rank ps e.place.0) → ⊥
+  outside b between out half =
+      let half' : IsHalf (rank ps) row.stamps.items (rank ps (get_or row.stamps.items i no_stamp).place.0) = subst (λ (x : Stamp). IsHalf (rank ps) row.stamps.items (rank ps x.place.0)) read_is half in
+      out (subst (λ (x : Stamp). (rank ps b.low.0 < rank ps x.place.0) × (rank ps x.place.0 < rank ps b.high.0)) (sym read_is) (between.between i l half'))
+
+  -- one that is too late is an upper bound
+  pub too_late : (b : Bounds) → AreBounds ps row b → IsMiddleFrom (rank ps) row.stamps.items (rank ps e.place.0) Less → AreBounds ps row (record { low = b.low; high = e.place })
+  too_late b between many = record {
+    low_in = between.low_in;
+    high_in = place_in;
+    between = λ k m half. ((between.between k m half).0, half_before (rank ps) row.stamps.items (rank ps (get_or row.stamps.items k no_stamp).place.0) (rank ps e.place.0) many half);
+  }
+
+  -- one that is too early is a lower bound
+  pub too_early : (b : Bounds) → AreBounds ps row b → IsMiddleFrom (rank ps) row.stamps.items (rank ps e.place.0) Greater → AreBounds ps row (record { low = e.place; high = b.high })
+  too_early b between many = record {
+    low_in = place_in;
+    high_in = between.high_in;
+    between = λ k m half. (half_after (rank ps) row.stamps.items (rank ps (get_or row.stamps.items k no_stamp).place.0) (rank ps e.place.0) many half, (between.between k m half).1);
+  }
+
+  -- with a gap of one, each stamp so far was looked at
+  pub passed_more : (b : Bounds) → AreBounds ps row b → ((rank ps b.low.0 < rank ps e.place.0) × (rank ps e.place.0 < rank ps b.high.0) → ⊥) → (gap : ℕ) →
+      (gap ≡ 1 → (k : ℕ) → k < i → IsHalf (rank ps) row.stamps.items (rank ps (get_or row.stamps.items k no_stamp).place.0) → ⊥) →
+      gap ≡ 1 → (k : ℕ) → k < i + gap → IsHalf (rank ps) row.stamps.items (rank ps (get_or row.stamps.items k no_stamp).place.0) → ⊥
+  passed_more b between out gap before one k m half =
       ⊎_elim
       (λ (here : k ≡ i).
-      let half' : IsHalf r ys (r e.place.0) = subst (λ (x : Stamp). IsHalf r ys (r x.place.0)) (ap (λ (j : ℕ). get_or ys j no_stamp) here ∙ sym (read_is e is l)) half in
-      f (half'.few_before, half'.few_after))
-      (λ (ne : k ≡ i → ⊥). before k (omega (arith, ne)) half)
+      outside b between out (subst (λ (x : Stamp). IsHalf (rank ps) row.stamps.items (rank ps x.place.0)) (ap (λ (j : ℕ). get_or row.stamps.items j no_stamp) here ∙ sym read_is) half))
+      (λ (ne : k ≡ i → ⊥). before one k (omega (arith, ne)) half)
       (cases_eq k i)
 
-  pub none_stamped : length ys ≤ i → ((k : ℕ) → k < i → IsHalf r ys (r (get_or ys k no_stamp).place.0) → ⊥) → stamped_count row ≡ 0
-  none_stamped l before =
-      let n : length ys ≡ stamped_count row = ap length same in
-      ⊎_elim
-      (λ (s : 0 < length ys). absurd (some_half r ys s (λ (k : ℕ) (m : k < length ys). before k (omega arith))))
-      (λ (s : length ys ≤ 0). omega arith)
-      (cases_lt 0 (length ys))
+pub none_stamped : (r : ℕ → ℕ) (row : Row) (i : ℕ) → length row.stamps.items ≤ i → ((k : ℕ) → k < i → IsHalf r row.stamps.items (r (get_or row.stamps.items k no_stamp).place.0) → ⊥) → stamped_count row ≡ 0
+none_stamped r row i l before =
+    ⊎_elim
+    (λ (s : 0 < length row.stamps.items). absurd (some_half r row.stamps.items s (λ (k : ℕ) (m : k < length row.stamps.items). before k (omega arith))))
+    (λ (s : length row.stamps.items ≤ 0). omega arith)
+    (cases_lt 0 (length row.stamps.items))

@@ -1,16 +1,17 @@
 //! Work on the lists of a row.
 
-ghost use Rattle.std.specs.Prelude.{◌≡◌, ℕ, ◌+◌, ◌*◌, ◌-◌, ◌^◌, ◌<◌, ◌≤◌, ◌↔◌, ◌==◌, nat_lt, All, IsTrue, IfOk, length, get_or, filter, count_by, insert};
+ghost use Rattle.std.specs.Prelude.{◌≡◌, ℕ, ◌+◌, ◌-◌, ◌^◌, ◌<◌, ◌≤◌, ◌==◌, nat_lt, All, IfOk, length, get_or, filter, insert};
 ghost use Rattle.smallvec.specs.SmallVec.{HasRoomFor};
 ghost use Rattle.pst_order.specs.Places.{rank};
 ghost use Rattle.pst_rows.specs.Values.{no_slot, before_slot};
-ghost use Rattle.pst_rows.specs.Steps.{places_of, with_content, with_base, AreRaised, AreRecounted};
+ghost use Rattle.pst_rows.specs.Steps.{places_of, with_content, with_base, AreRaised, AreRecounted, IsMiddleFrom};
 
 use crate::content::{Content, Held, Slot, Stamp};
 use pst_base::{NoMemory, SlotNo};
 use pst_order::{Order, PlaceList, Pos};
 use smallvec::SmallVec;
 use std::alloc::Global;
+use std::cmp::Ordering;
 
 /// The stamped values of a row. Up to four stand in the row itself: with 24 bytes for each of them and for each slot, a row
 /// of four slots takes 240 bytes.
@@ -58,46 +59,37 @@ pub fn count_slots(stamps: &[Stamp], slot: usize) -> usize
         .count()
 }
 
-/// How many stamps lie before a place.
-pub fn count_before<O: Order>(order: &O, stamps: &[Stamp], at: Pos) -> usize
+/// Two places: between them lies what is looked for.
+#[derive(Clone, Copy)]
+pub struct Bounds {
+    pub low: Pos,
+    pub high: Pos,
+}
+
+/// Where the middle of the stamps lies as seen from a place: before it (`Less`) where more than half of them lie before it,
+/// behind it (`Greater`) where more than half lie behind it, and else at the place. It compares each stamp once.
+pub fn middle_from<O: Order>(order: &O, stamps: &[Stamp], at: Pos) -> Ordering
     requires all { All (λ e. rank (O.places order.now) e.place.0 < length (O.places order.now)) stamps.now }
     requires at { rank (O.places order.now) at.0 < length (O.places order.now) }
-    ensures { result ≡ count_by (λ e. nat_lt (rank (O.places order.now) e.place.0) (rank (O.places order.now) at.0)) stamps.now }
+    ensures { IsMiddleFrom (rank (O.places order.now)) stamps.now (rank (O.places order.now) at.0) result }
 {
-    let mut count = 0;
+    let mut before = 0;
+    let mut after = 0;
     for stamp in stamps {
         if order.before(stamp.place, at) {
-            count += 1;
+            before += 1;
+        } else if stamp.place != at {
+            after += 1;
         }
     }
-    count
-}
-
-/// How many stamps lie after a place.
-pub fn count_after<O: Order>(order: &O, stamps: &[Stamp], at: Pos) -> usize
-    requires all { All (λ e. rank (O.places order.now) e.place.0 < length (O.places order.now)) stamps.now }
-    requires at { rank (O.places order.now) at.0 < length (O.places order.now) }
-    ensures { result ≡ count_by (λ e. nat_lt (rank (O.places order.now) at.0) (rank (O.places order.now) e.place.0)) stamps.now }
-{
-    let mut count = 0;
-    for stamp in stamps {
-        if order.before(at, stamp.place) {
-            count += 1;
-        }
-    }
-    count
-}
-
-/// Whether at most half of the stamps lie before a place, and at most half after it.
-pub fn is_middle<O: Order>(order: &O, stamps: &[Stamp], at: Pos) -> bool
-    requires all { All (λ e. rank (O.places order.now) e.place.0 < length (O.places order.now)) stamps.now }
-    requires at { rank (O.places order.now) at.0 < length (O.places order.now) }
-    ensures { IsTrue result ↔
-        ((2 * count_by (λ e. nat_lt (rank (O.places order.now) e.place.0) (rank (O.places order.now) at.0)) stamps.now ≤ length stamps.now)
-        × (2 * count_by (λ e. nat_lt (rank (O.places order.now) at.0) (rank (O.places order.now) e.place.0)) stamps.now ≤ length stamps.now)) }
-{
     let half = stamps.len() / 2;
-    count_before(order, stamps, at) <= half && count_after(order, stamps, at) <= half
+    if before > half {
+        Ordering::Less
+    } else if after > half {
+        Ordering::Greater
+    } else {
+        Ordering::Equal
+    }
 }
 
 /// The stamps before a place.
