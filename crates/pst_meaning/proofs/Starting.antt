@@ -145,7 +145,21 @@ module _ (shape : List TypeShape) (start : Place) (root : Node) (valid : IsValid
     wide = λ i n e. let o = one_there root n i e in subst (λ (n : Node). length n.row.slots ≡ width (type_at shape n.head.ty)) o.1 (new.wide ∙ ap (λ (t : TypeNo). width (type_at shape t)) (sym new.typed));
     arena = subst (λ (n : ℕ). IsArena shape n (arena s)) (sym end_at) start_arena;
     rooted = record { some = omega arith; name = new.name; begins = lo_is };
-    born = λ i l. (start, inl refl, (0, subst (λ (n : ℕ). IsIn (arena s) 0 n) (sym begin_at) inside, ap (arena s).name (sym (first i l))));
+    born = λ i l. (
+      start,
+      inl refl,
+      record {
+        first = 0;
+        starts = record { there = omega arith; name = ap (arena s).name (sym (first i l)) };
+        begins = lo_is ∙ sym begin_at;
+        last = 0;
+        stops = record { there = omega arith; name = ap (arena s).name (sym (first i l)) };
+        ends = hi_is ∙ sym end_at;
+        inside = λ k n.
+            let z = first k n.there in
+            (let lo : (arena s).lo k ≡ 0 = ap (arena s).lo z ∙ lo_is in omega (arith, lo, begin_at), let hi : (arena s).hi k ≡ 1 = ap (arena s).hi z ∙ hi_is in omega (arith, hi, end_at));
+      },
+    );
     versions = record {
       tree = record {
         some = omega arith;
@@ -168,6 +182,7 @@ module _ (shape : List TypeShape) (start : Place) (root : Node) (valid : IsValid
   start_rested : IsRested s
   start_rested = record {
     none = refl;
+    held = λ i l n. (0, omega arith, sym (first i l));
     small = λ i n e. let o = one_there root n i e in subst (λ (n : Node). length n.row.stamps ≤ capacity (type_at shape n.head.ty)) o.1 (let none : length root.row.stamps ≡ 0 = ap (λ (es : List Stamp). length es) new.stamped in omega arith);
   }
 

@@ -1,12 +1,11 @@
 -- The heap at each position is well formed, and when a pointer write is to be refused.
 use Rattle.pst_mirror.specs.Degree.{is_other_entry}
-use Rattle.std.specs.Prelude.{◌≡◌, ℕ, ◌+◌, ◌<◌, Bool, true, false, not, ◌&&◌, ◌==◌, ◌↔◌, List, Some}
+use Rattle.std.specs.Prelude.{◌≡◌, ℕ, ◌+◌, ◌<◌, true, false, ◌↔◌, List, Some}
 use Rattle.pst_base.specs.declared.names.Kind.TheVariants.{Pointer}
 use Rattle.pst_base.specs.declared.shape.TypeShape.{TypeShape}
 use Rattle.pst_base.specs.Shape.{type_at, field_kind, field_count}
 use Rattle.pst_base.specs.Heap.{IsWellFormed, IsFull}
-use Rattle.pst_rows.specs.declared.content.Content.{Content}
-use Rattle.pst_rows.specs.declared.content.Content.TheVariants.{Number, Null, Free, Target as TargetOf, From as FromOf}
+use Rattle.pst_rows.specs.declared.content.Content.TheVariants.{Free}
 use Rattle.pst_meaning.specs.Arena.{Arena, IsIn, IsArena, IsDrawn, heap_at}
 use Rattle.pst_mirror.specs.Kinds.{IsInverse}
 use Rattle.pst_meaning.specs.Changes.{IsPointerTaken}

@@ -25,7 +25,7 @@ use Rattle.pst_meaning.specs.declared.place.Fork.{Fork}
 use Rattle.pst_mirror.specs.Contents.{Target}
 use Rattle.pst_meaning.specs.Arena.{Arena, IsIn, IsLive, denoted, number}
 use Rattle.pst_meaning.specs.Changes.{default_content, IsNumberSet, IsCleared, IsPointerPut, IsSplit}
-use Rattle.pst_meaning.specs.Store.{Node, Stored, arena_of, arena, begin_of, IsPlace, IsOpen, AreWide, width, load_of, loads, state_of, IsStore, IsRested}
+use Rattle.pst_meaning.specs.Store.{Node, Stored, Noted, arena_of, arena, begin_of, end_of, IsPlace, IsOpen, AreWide, width, load_of, loads, state_of, IsStore, IsRested}
 
 -- ---- what is always so
 
@@ -34,6 +34,13 @@ StoreIsSoundLaw = (s : Stored) → IsStore s → IsSound (state_of s)
 
 abbrev pub StoreIsVersionedLaw : Type 0
 StoreIsVersionedLaw = (s : Stored) → IsStore s → IsVersioned (state_of s)
+
+-- A record is there exactly over one place of the store, the one at which it was made: at each position from the place's begin up
+-- to its end one of the record's nodes lives, and at no other position does one.
+abbrev pub LifeLaw : Type 0
+LifeLaw = (s : Stored) (i : ℕ) → IsStore s → i < length s.nodes → (p : Place) × IsPlace s p
+    × ((n : ℕ) → begin_of s p ≤ n → n < end_of s p → (j : ℕ) × IsIn (arena s) j n × ((arena s).name j ≡ (arena s).name i))
+    × ((j n : ℕ) → IsIn (arena s) j n → (arena s).name j ≡ (arena s).name i → (begin_of s p ≤ n) × (n < end_of s p))
 
 -- ---- forks
 
@@ -76,8 +83,8 @@ PublishLaw = (s : Stored) (parent : VersionNo) (run : RunNo) (at : Place) (k : �
 -- ---- nodes
 
 -- the store with other nodes
-abbrev pub with_nodes : Stored → List Node → List ℕ → Counts → Stored
-with_nodes s nodes queue counts = record s { nodes = nodes; queue = queue; counts = counts }
+abbrev pub with_nodes : Stored → List Node → Noted → Counts → Stored
+with_nodes s nodes noted counts = record s { nodes = nodes; noted = noted; counts = counts }
 
 -- nodes at the store's places
 abbrev pub arena_with : Stored → List Node → Arena
@@ -113,35 +120,35 @@ abbrev pub one_pointer : Counts → Counts
 one_pointer c = record c { pointer_writes = c.pointer_writes + 1 }
 
 abbrev pub AllocateLaw : Type 0
-AllocateLaw = (s : Stored) (queue : List ℕ) (at : Place) (ty : TypeNo) (q : Name) (n : Node) → IsStore s → IsOpen s.forks at → IsNewType (state_of s) ty → IsFresh (state_of s) q → IsNewNode s.shape n q ty at
-    → let t : Stored = with_nodes s (s.nodes ++ n ∷ []) queue (one_record s.counts) in
+AllocateLaw = (s : Stored) (noted : Noted) (at : Place) (ty : TypeNo) (q : Name) (n : Node) → IsStore s → IsOpen s.forks at → IsNewType (state_of s) ty → IsFresh (state_of s) q → IsNewNode s.shape n q ty at
+    → let t : Stored = with_nodes s (s.nodes ++ n ∷ []) noted (one_record s.counts) in
     IsStore t × Allocated (state_of s) at ty q (record { 0 = length s.nodes }) (state_of t)
 
 abbrev pub ValueLaw : Type 0
-ValueLaw = (s : Stored) (nodes : List Node) (queue : List ℕ) (at : Place) (x f : ℕ) (v : ℤ) → IsStore s → IsOpen s.forks at → HasRows s nodes → HasGrownBy s.shape s.nodes nodes 2
+ValueLaw = (s : Stored) (nodes : List Node) (noted : Noted) (at : Place) (x f : ℕ) (v : ℤ) → IsStore s → IsOpen s.forks at → HasRows s nodes → HasGrownBy s.shape s.nodes nodes 2
     → IsNumberSet (arena s) (arena_with s nodes) x f (begin_of s at) v → IsIn (arena s) x (begin_of s at) → f < (type_at s.shape ((arena s).ty x)).values
-    → let t : Stored = with_nodes s nodes queue (one_number s.counts) in
+    → let t : Stored = with_nodes s nodes noted (one_number s.counts) in
     IsStore t × ValueStored (state_of s) at ((arena s).name x) f v (state_of t) × WritesStay (state_of s) (state_of t)
 
 -- null is written
 abbrev pub NullLaw : Type 0
-NullLaw = (s : Stored) (nodes : List Node) (queue : List ℕ) (at : Place) (x f : ℕ) (u : TypeNo) → IsStore s → IsOpen s.forks at → HasRows s nodes → HasGrownBy s.shape s.nodes nodes 6
+NullLaw = (s : Stored) (nodes : List Node) (noted : Noted) (at : Place) (x f : ℕ) (u : TypeNo) → IsStore s → IsOpen s.forks at → HasRows s nodes → HasGrownBy s.shape s.nodes nodes 6
     → IsIn (arena s) x (begin_of s at) → field_kind (type_at s.shape ((arena s).ty x)) f ≡ Some (Pointer u) → IsCleared (arena s) (arena_with s nodes) x f (begin_of s at)
-    → let t : Stored = with_nodes s nodes queue (one_pointer s.counts) in
+    → let t : Stored = with_nodes s nodes noted (one_pointer s.counts) in
     IsStore t × PointerStored (state_of s) at ((arena s).name x) f None (state_of t) × WritesStay (state_of s) (state_of t)
 
 -- a pointer to the record of node y is written, by the inverse slot i of y
 abbrev pub LinkLaw : Type 0
-LinkLaw = (s : Stored) (mid nodes : List Node) (queue : List ℕ) (at : Place) (x f y i : ℕ) → IsStore s → IsOpen s.forks at → HasRows s mid → HasRows s nodes → HasGrownBy s.shape s.nodes nodes 6
+LinkLaw = (s : Stored) (mid nodes : List Node) (noted : Noted) (at : Place) (x f y i : ℕ) → IsStore s → IsOpen s.forks at → HasRows s mid → HasRows s nodes → HasGrownBy s.shape s.nodes nodes 6
     → IsIn (arena s) x (begin_of s at) → field_kind (type_at s.shape ((arena s).ty x)) f ≡ Some (Pointer ((arena s).ty y)) → IsCleared (arena s) (arena_with s mid) x f (begin_of s at) → IsPointerPut (arena_with s mid) (arena_with s nodes) x f y i (begin_of s at)
-    → let t : Stored = with_nodes s nodes queue (one_pointer s.counts) in
+    → let t : Stored = with_nodes s nodes noted (one_pointer s.counts) in
     IsStore t × PointerStored (state_of s) at ((arena s).name x) f (Some ((arena s).name y)) (state_of t) × WritesStay (state_of s) (state_of t)
 
 -- a split changes no heap and no count, adds a node and lowers the potential
 abbrev pub SplitStepLaw : Type 0
-SplitStepLaw = (s : Stored) (nodes : List Node) (queue : List ℕ) (x p : ℕ) → IsStore s → HasRows s nodes → IsSplit (arena s) (arena_with s nodes) x p
+SplitStepLaw = (s : Stored) (nodes : List Node) (noted : Noted) (x p : ℕ) → IsStore s → HasRows s nodes → IsSplit (arena s) (arena_with s nodes) x p
     → potential (map (load_of s.shape) nodes) + 1 ≤ potential (loads s)
-    → let t : Stored = with_nodes s nodes queue s.counts in
+    → let t : Stored = with_nodes s nodes noted s.counts in
     IsStore t × Unchanged (state_of s) (state_of t) × WritesStay (state_of s) (state_of t)
 
 -- one split: of a node, at a position
@@ -159,8 +166,8 @@ AreSplits shape places zero old new = new ≡ old
 AreSplits shape places (suc k) old new = (mid : List Node) × IsSplitStep shape places old mid × AreSplits shape places k mid new
 
 abbrev pub RepairLaw : Type 0
-RepairLaw = (s : Stored) (k : ℕ) (nodes : List Node) (queue : List ℕ) → IsStore s → AreSplits s.shape s.places k s.nodes nodes
-    → let t : Stored = with_nodes s nodes queue s.counts in
+RepairLaw = (s : Stored) (k : ℕ) (nodes : List Node) (noted : Noted) → IsStore s → AreSplits s.shape s.places k s.nodes nodes
+    → let t : Stored = with_nodes s nodes noted s.counts in
     IsStore t × Unchanged (state_of s) (state_of t) × WritesStay (state_of s) (state_of t) × (k + potential (loads t) ≤ potential (loads s))
 
 -- ---- one change after another
@@ -208,7 +215,7 @@ started shape start root = record {
   shape = shape;
   places = start.begin.0 ∷ start.end.0 ∷ [];
   nodes = root ∷ [];
-  queue = [];
+  noted = record { queue = []; roots = 0 ∷ []; seen = 1 };
   start = start;
   versions = first_row start ∷ [];
   forks = [];

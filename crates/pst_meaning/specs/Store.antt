@@ -1,5 +1,5 @@
 -- What a store of fat nodes means, and what it keeps.
-use Rattle.std.specs.Prelude.{◌≡◌, ℕ, zero, suc, ◌+◌, ◌*◌, ◌<◌, ◌≤◌, ◌⊎◌, List, [], ◌∷◌, length, Some, None, slice_get, map, Contains, false, if◌then◌else◌}
+use Rattle.std.specs.Prelude.{◌≡◌, ℕ, zero, suc, ◌+◌, ◌*◌, ◌<◌, ◌≤◌, ◌⊎◌, List, [], ◌∷◌, length, Some, None, slice_get, get_or, map, Contains, false, if◌then◌else◌}
 use Rattle.std.specs.Option.{option_map}
 use Rattle.pst_base.specs.declared.names.NodeId.{NodeId}
 use Rattle.pst_base.specs.declared.names.Counts.{Counts}
@@ -17,7 +17,7 @@ use Rattle.pst_mirror.specs.Potential.{Load, potential, half, capacity}
 use Rattle.pst_meaning.specs.declared.place.Place.{Place}
 use Rattle.pst_meaning.specs.declared.place.Fork.{Fork}
 use Rattle.pst_meaning.specs.declared.place.Head.{Head}
-use Rattle.pst_meaning.specs.Arena.{Arena, IsIn, IsLive, IsArena, heap_at}
+use Rattle.pst_meaning.specs.Arena.{Arena, IsLive, IsArena, heap_at}
 
 -- ---- nodes
 
@@ -46,13 +46,20 @@ arena_of r nodes = record {
 
 -- ---- a store
 
--- The record types; the order list; the nodes, and those that wait to be split; the place of version 0, the versions and
+-- What is noted beside the nodes: which of them wait to be split; which nodes of the root record the root index holds, in the
+-- order of where they begin; and how many nodes were looked at for it.
+pub record Noted : Type 0 where
+  pub queue : List ℕ
+  pub roots : List ℕ
+  pub seen : ℕ
+
+-- The record types; the order list; the nodes, and what is noted beside them; the place of version 0, the versions and
 -- the forks; how often a fork was asked for; and what was made and written.
 pub record Stored : Type 0 where
   pub shape : List TypeShape
   pub places : List ℕ
   pub nodes : List Node
-  pub queue : List ℕ
+  pub noted : Noted
   pub start : Place
   pub versions : List (VersionRow Place)
   pub forks : List Fork
@@ -150,9 +157,25 @@ pub record IsRooted (s : Stored) : Type 0 where
   pub name : (arena s).name 0 ≡ root_name
   pub begins : (arena s).lo 0 ≡ 0
 
--- each record lives where some place of the store is read, so that a name that no heap has is no node's
+-- node j is one of the nodes of node i's record
+pub record IsNodeOf (w : Arena) (j i : ℕ) : Type 0 where
+  pub there : j < w.count
+  pub name : w.name j ≡ w.name i
+
+-- The nodes of node i's record reach from position b up to position e: one begins at b, one ends at e, and none goes beyond. As
+-- they are chained, they cover each position in between.
+pub record LivesOver (w : Arena) (i b e : ℕ) : Type 0 where
+  pub first : ℕ
+  pub starts : IsNodeOf w first i
+  pub begins : w.lo first ≡ b
+  pub last : ℕ
+  pub stops : IsNodeOf w last i
+  pub ends : w.hi last ≡ e
+  pub inside : (k : ℕ) → IsNodeOf w k i → (b ≤ w.lo k) × (w.hi k ≤ e)
+
+-- each record lives over the place at which it was made, and nowhere else: so a name that no heap has is no node's
 abbrev pub AreBorn : Stored → Type 0
-AreBorn s = (i : ℕ) → i < length s.nodes → (p : Place) × IsPlace s p × ((j : ℕ) × IsIn (arena s) j (begin_of s p) × ((arena s).name j ≡ (arena s).name i))
+AreBorn s = (i : ℕ) → i < length s.nodes → (p : Place) × IsPlace s p × LivesOver (arena s) i (begin_of s p) (end_of s p)
 
 abbrev pub load_of : List TypeShape → Node → Load
 load_of shape n = record { stamped = length n.row.stamps; half = half (type_at shape n.head.ty) }
@@ -178,13 +201,21 @@ pub record IsStore (s : Stored) : Type 0 where
   pub bounded : length s.nodes + potential (loads s) ≤ bound s.counts
   pub few : length s.places ≤ 2 * s.calls + 2
 
--- Between calls each node that is above its capacity waits to be split. It waits only where the last write met want of
--- memory in its repair.
-pub record IsWaiting (s : Stored) : Type 0 where
-  pub waits : (i : ℕ) (n : Node) → slice_get s.nodes i ≡ Some n → (length n.row.stamps ≤ capacity (type_at s.shape n.head.ty)) ⊎ Contains s.queue i
-  pub there : (i : ℕ) → Contains s.queue i → i < length s.nodes
+-- The root index: of the nodes that were looked at it holds those of the root record, node 0 first, in the order of where
+-- they begin.
+pub record AreHeld (w : Arena) (noted : Noted) : Type 0 where
+  pub first : slice_get noted.roots 0 ≡ Some 0
+  pub there : (k i : ℕ) → slice_get noted.roots k ≡ Some i → (i < noted.seen) × (w.name i ≡ root_name)
+  pub all : (i : ℕ) → i < noted.seen → w.name i ≡ root_name → Contains noted.roots i
+  pub rising : (j k : ℕ) → j < k → k < length noted.roots → w.lo (get_or noted.roots j 0) < w.lo (get_or noted.roots k 0)
+  pub seen : noted.seen ≤ w.count
 
--- A store at rest: nothing waits.
+-- every node of the root record is held
+abbrev pub AreAllHeld : Arena → Noted → Type 0
+AreAllHeld w noted = (i : ℕ) → i < w.count → w.name i ≡ root_name → Contains noted.roots i
+
+-- A store at rest: nothing waits, and every node of the root record is held.
 pub record IsRested (s : Stored) : Type 0 where
-  pub none : s.queue ≡ []
+  pub none : s.noted.queue ≡ []
   pub small : (i : ℕ) (n : Node) → slice_get s.nodes i ≡ Some n → length n.row.stamps ≤ capacity (type_at s.shape n.head.ty)
+  pub held : AreAllHeld (arena s) s.noted
