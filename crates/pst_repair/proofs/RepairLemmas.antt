@@ -1,5 +1,5 @@
 use Rattle.pst_rows.specs.Values.{width_in}
-use Rattle.std.proofs.Common.{◌≡◌, ◌≢◌, ℕ, ◌+◌, ◌≤◌, ◌<◌, true, false, eqb, List, [], ◌∷◌, ◌++◌, length, get_or, Some, None, refl, sym, ap, ◌∙◌, subst, ⊎_elim, ◌⊎◌, inl, inr, arith}
+use Rattle.std.proofs.Common.{◌≡◌, ◌≢◌, ℕ, ◌+◌, ◌≤◌, ◌<◌, true, false, eqb, List, [], ◌∷◌, ◌++◌, length, get_or, Some, refl, sym, ap, ◌∙◌, subst, ⊎_elim, ◌⊎◌, inl, inr, arith}
 use Rattle.std.proofs.lemmas.Bool.{cases_eq, eq-eqb, eqb-true, or_left, or_right, or_cases, false≢true}
 use Rattle.std.proofs.lemmas.Option.{none-some, same_Some}
 use Rattle.pst_rows.specs.declared.row.Row.{Row}
@@ -10,7 +10,8 @@ use Rattle.pst_rows.specs.Changes.{slot_count}
 use Rattle.pst_mirror.specs.Kinds.{HasKind}
 use Rattle.pst_rows.specs.Rows.{width_of}
 use Rattle.pst_base.specs.declared.names.NodeId.{NodeId}
-use Rattle.pst_queue.specs.Queue.{numbered, waits, head_of, tail_of}
+use Rattle.pst_queue.specs.Queue.{numbered, waits, last_from, ends_at, ends_of, head_of, tail_of}
+use Rattle.pst_queue.specs.declared.queue.Ends.{Ends}
 use Rattle.pst_queue.specs.declared.queue.Queue.{Queue}
 use Rattle.pst_queue.proofs.QueueLemmas.{waits-push}
 use Rattle.pst_nodes.specs.declared.node.Node.{Node}
@@ -89,10 +90,6 @@ popped_some types old new queue queue' (x ∷ xs) id q e rows frames h =
           (or_cases (eqb x i) (waits xs i) (q.all i (over_same types old new rows frames i o)));
     }
 
-pub popped_none : (types : List TypeShape) (old new : List Node) (queue queue' : Queue) (xs : List ℕ) → IsQueued types old queue xs → None ≡ head_of xs → rows_of new ≡ rows_of old → frames_of new ≡ frames_of old → Queues new queue' (tail_of xs) → Queues new queue' [] × ((i : ℕ) → IsOver types new i → ⊥)
-popped_none types old new queue queue' [] q e rows frames h = (h, λ i o. false≢true (q.all i (over_same types old new rows frames i o)))
-popped_none types old new queue queue' (x ∷ xs) q e rows frames h = absurd (none-some (numbered x) e)
-
 -- it was split
 pub split_queued : (types : List TypeShape) (old new : List Node) (queue queue' : Queue) (tl : List ℕ) (id z : ℕ) → IsPopped types old queue tl id → KeepsQueue (λ i. (i ≡ id) ⊎ (i ≡ z)) types old new queue queue' → ((i : ℕ) → i ≢ id → IsOver types old i → IsOver types new i) → (xs : List ℕ) × IsQueued types new queue' xs
 split_queued types old new queue queue' tl id z p k grown =
@@ -133,3 +130,8 @@ last_waits tl id = waits-push tl id id ∙ or_right (waits tl id) (eqb id id) (e
 
 pub potential_rows : (types : List TypeShape) (old new : List Node) → rows_of new ≡ rows_of old → frames_of new ≡ frames_of old → potential_of types new ≤ potential_of types old
 potential_rows types old new rows frames = let g : potential_of types new ≤ potential_of types old + 0 = (grown_same types old new (same_count old new rows) rows frames).potential in omega arith
+
+-- the first of the ends is the first node that waits
+pub first_waits : (xs : List ℕ) (ends : Ends) → Some ends ≡ ends_of xs → Some ends.first ≡ head_of xs
+first_waits [] ends e = absurd (none-some ends (sym e))
+first_waits (x ∷ xs) ends e = ap (λ (u : Ends). Some u.first) (same_Some ends (ends_at x (last_from x xs)) e)

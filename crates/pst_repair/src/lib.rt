@@ -4,7 +4,8 @@
 //!
 //! Contract: no record's content changes at any place; the splits are at most as many as the potential at entry; afterwards
 //! the queue is empty and every node within its capacity. After a refusal the node that could not be split waits again, and
-//! the call can be made again. (The cascade and its potential are those of Driscoll, Sarnak, Sleator and Tarjan.)
+//! the call can be made again. `split_next` makes one of these splits. (The cascade and its potential are those of Driscoll,
+//! Sarnak, Sleator and Tarjan.)
 //!
 //!     let splits = repair(&order, &shape, &mut nodes, &mut queue)?;
 #![tactic(auto)]

@@ -1,18 +1,53 @@
 //! The cascade.
 
-ghost use Rattle.std.specs.Prelude.{◌≡◌, ℕ, ◌+◌, ◌<◌, ◌≤◌, List, [], length, IfOk, OnOk, OnErr};
+ghost use Rattle.std.specs.Prelude.{◌≡◌, ℕ, ◌+◌, ◌≤◌, List, [], length, false, IfOk, OnOk, OnErr};
 ghost use Rattle.pst_split.specs.Load.{IsSound, IsOver, potential_of};
 ghost use Rattle.pst_split.specs.Steps.{Queues};
 ghost use Rattle.pst_split.specs.Shown.{ShowsAll, KeepsLive};
 ghost use Rattle.pst_meaning.specs.Steps.{AreSplits};
 ghost use Rattle.pst_joint.specs.Seen.{seen};
-ghost use Rattle.pst_repair.specs.Repair.{IsQueued};
+ghost use Rattle.pst_repair.specs.Repair.{IsQueued, IsDone, splits_in};
 
 use pst_base::{NoMemory, Shape};
 use pst_nodes::node::Nodes;
 use pst_order::Order;
 use pst_queue::queue::Queue;
 use pst_split::split::split;
+
+/// Splits the node that waits first, and gives whether one waited: then there is one node more, and the potential is lower
+/// by at least 1. Where none waits nothing changes. No heap changes. After `NoMemory` no node was split, one that is over
+/// its capacity waits, and all that the call needs still holds.
+pub fn split_next<O: Order>(
+    order: &O,
+    shape: &Shape,
+    nodes: &mut Nodes,
+    queue: &mut Queue,
+) -> Result<bool, NoMemory>
+    requires sound { IsSound shape.now (O.places order.now) nodes.old.list.items }
+    requires queued { (xs : List ℕ) × IsQueued shape.now nodes.old.list.items queue.old xs }
+    ensures sound { IsSound shape.now (O.places order.now) nodes.new.list.items }
+    ensures queued { (xs : List ℕ) × IsQueued shape.now nodes.new.list.items queue.new xs }
+    ensures steps { IfOk result (λ more. AreSplits shape.now (O.places order.now) (splits_in more) (seen nodes.old.list.items) (seen nodes.new.list.items)) }
+    ensures shows { ShowsAll (O.places order.now) nodes.old.list.items nodes.new.list.items }
+    ensures live { KeepsLive (O.places order.now) nodes.old.list.items nodes.new.list.items }
+    ensures done { IfOk result (λ more. more ≡ false → IsDone shape.now nodes.old nodes.new queue.old queue.new) }
+    ensures refused { OnErr result (seen nodes.new.list.items ≡ seen nodes.old.list.items) }
+    ensures waiting { OnErr result ((i : ℕ) × IsOver shape.now nodes.new.list.items i) }
+    ensures splits { IfOk result (λ more. potential_of shape.now nodes.new.list.items + splits_in more ≤ potential_of shape.now nodes.old.list.items) }
+    ensures count { IfOk result (λ more. length nodes.new.list.items ≡ length nodes.old.list.items + splits_in more) }
+{
+    let Some(ends) = queue.ends else {
+        return Ok(false);
+    };
+    let _first = queue.pop(nodes);
+    match split(order, shape, nodes, queue, ends.first) {
+        Ok(_) => Ok(true),
+        Err(refused) => {
+            queue.push(nodes, ends.first);
+            Err(refused)
+        }
+    }
+}
 
 /// Splits until the queue is empty, and gives the number of splits, which is at most the potential that the nodes had:
 /// each split lowers it by at least 1 and adds one node. No heap changes. After `NoMemory` a node that is over its
@@ -38,14 +73,8 @@ pub fn repair<O: Order>(
     ensures count { IfOk result (λ n. length nodes.new.list.items ≡ length nodes.old.list.items + n) }
 {
     let mut splits = 0;
-    while let Some(id) = queue.pop(nodes) {
-        match split(order, shape, nodes, queue, id) {
-            Ok(_) => splits += 1,
-            Err(refused) => {
-                queue.push(nodes, id);
-                return Err(refused);
-            }
-        }
+    while split_next(order, shape, nodes, queue)? {
+        splits += 1;
     }
     Ok(splits)
 }
