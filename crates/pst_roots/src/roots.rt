@@ -1,11 +1,12 @@
-//! The nodes of the root record in a vector.
+//! The nodes of the root record in pieces.
 
-ghost use Rattle.std.specs.Prelude.{◌≡◌, ℕ, suc, ◌+◌, ◌<◌, ◌≤◌, ◌^◌, [], ◌∷◌, length, get_or, insert, vec_capacity, IfOk, OnOk, OnErr};
-ghost use Rattle.pst_order.specs.Places.{rank, IsIn};
+ghost use Rattle.std.specs.Prelude.{◌≡◌, ℕ, ◌+◌, ◌<◌, ◌≤◌, ◌^◌, [], ◌∷◌, length, get_or, IfOk, OnOk, OnErr};
+ghost use Rattle.pst_order.specs.Places.{IsIn};
 ghost use Rattle.pst_order.specs.Search.{IsFewMore};
 ghost use Rattle.pst_nodes.specs.Arena.{lo_at};
-ghost use Rattle.pst_roots.specs.Roots.{held_of, spare_of, begins_of, AreRoots, IsLastBefore};
+ghost use Rattle.pst_roots.specs.Roots.{held_of, spare_of, begins_of, AreRoots, IsLastIndex, IsLastBefore, IsAddedRoot};
 
+use crate::pieces::Pieces;
 use pst_base::{NoMemory, NodeId};
 use pst_nodes::node::Nodes;
 use pst_order::{Compare, Counting, Order, PlaceList, Pos, partition};
@@ -14,7 +15,7 @@ use std::alloc::Global;
 /// The nodes of the root record that are known, in the order of where they begin. The first one is always among them.
 #[derive(Drop)]
 pub struct RootIndex {
-    held: Vec<NodeId>,
+    pieces: Pieces,
 }
 
 // Where the held nodes begin.
@@ -50,9 +51,9 @@ impl RootIndex {
     pub fn new(alloc: Global, first: NodeId) -> Result<RootIndex, NoMemory>
         ensures { IfOk result (λ roots. held_of roots ≡ first.0 ∷ []) }
     {
-        let mut held = Vec::new(alloc);
-        held.push(first)?;
-        Ok(RootIndex { held })
+        Ok(RootIndex {
+            pieces: Pieces::new(alloc, first)?,
+        })
     }
 
     /// The last held node that does not begin after a place: the one that covers it, where all root nodes are held.
@@ -74,10 +75,7 @@ impl RootIndex {
         ensures list { P.list compare.new ≡ P.list compare.old }
         ensures calls { IsFewMore (length (held_of self.now)) (P.calls compare.old) (P.calls compare.new) }
     {
-        let count = self.count();
-        let begins = Begins { roots: self, nodes };
-        let after = partition(compare, &begins, 0, count, place);
-        let last = after - 1;
+        let last = self.last_before(compare, nodes, place);
         self.held_at(last)
     }
 
@@ -87,40 +85,36 @@ impl RootIndex {
         ensures room { OnOk result (n ≤ spare_of self.new) }
         ensures err { OnErr result (spare_of self.new ≡ spare_of self.old) }
     {
-        self.held.reserve(n)
+        self.pieces.reserve(n)
     }
 
-    /// Puts a node directly behind one that is held, in the room that was made. It goes over the nodes held.
-    pub fn add(&mut self, left: NodeId, right: NodeId)
-        requires left { IsIn (held_of self.old) left.0 }
+    /// Puts a node directly behind the last held one that does not begin after it, in the room that was made. The place is
+    /// found by bisection.
+    pub fn add<O: Order>(&mut self, order: &O, nodes: &Nodes, right: NodeId)
+        requires roots { AreRoots (O.places order.now) nodes.now.list.items (held_of self.old) (lo_at nodes.now.list.items right.0) }
+        requires place { IsIn (O.places order.now) (lo_at nodes.now.list.items right.0) }
         requires room { 1 ≤ spare_of self.old }
-        ensures held { held_of self.new ≡ insert (held_of self.old) (suc (rank (held_of self.old) left.0)) right.0 }
-        ensures room { spare_of self.new + 1 ≡ spare_of self.old }
+        ensures held { IsAddedRoot (O.places order.now) nodes.now.list.items (held_of self.old) (held_of self.new) right.0 }
+        ensures room { spare_of self.old ≤ spare_of self.new + 1 }
     {
-        let index = self.position(left);
-        self.put(index + 1, right);
+        let begin = begin_of(nodes, right);
+        let left = self.last_before(&mut Counting::new(order), nodes, begin);
+        self.pieces.insert_behind(left, right);
     }
 
-    // Puts a node at an index, in the room that was made.
-    fn put(&mut self, index: usize, id: NodeId)
-        requires index { index ≤ length self.old.held.items }
-        requires room { 1 ≤ spare_of self.old }
-        ensures items { self.new.held.items ≡ insert self.old.held.items index id }
-        ensures capacity { vec_capacity self.new.held ≡ vec_capacity self.old.held }
+    // The index of the last held node that does not begin after a place.
+    fn last_before<P: Compare>(&self, compare: &mut P, nodes: &Nodes, place: Pos) -> usize
+        requires roots { AreRoots (P.list compare.old) nodes.now.list.items (held_of self.now) place.0 }
+        requires place { IsIn (P.list compare.old) place.0 }
+        requires calls { P.calls compare.old ≤ 2 ^ 63 }
+        ensures found { IsLastIndex (P.list compare.old) nodes.now.list.items (held_of self.now) place.0 result }
+        ensures list { P.list compare.new ≡ P.list compare.old }
+        ensures calls { IsFewMore (length (held_of self.now)) (P.calls compare.old) (P.calls compare.new) }
     {
-        let _there_is_room = self.held.insert(index, id);
-    }
-
-    // Where a node stands first, and the count of the nodes for one that is not held.
-    fn position(&self, id: NodeId) -> usize
-        ensures { result ≡ rank (held_of self.now) id.0 }
-    {
-        for (i, other) in self.held.iter().enumerate() {
-            if other.0 == id.0 {
-                return i;
-            }
-        }
-        self.held.len()
+        let count = self.count();
+        let begins = Begins { roots: self, nodes };
+        let after = partition(compare, &begins, 0, count, place);
+        after - 1
     }
 
     // How many nodes are held.
@@ -128,7 +122,7 @@ impl RootIndex {
     fn count(&self) -> usize
         ensures { result ≡ length (held_of self.now) }
     {
-        self.held.len()
+        self.pieces.len()
     }
 
     // A held node by its index.
@@ -137,6 +131,6 @@ impl RootIndex {
         requires { index < length (held_of self.now) }
         ensures { result.0 ≡ get_or (held_of self.now) index 0 }
     {
-        self.held[index]
+        self.pieces.get(index)
     }
 }

@@ -1,24 +1,17 @@
-use Rattle.std.proofs.Common.{◌≡◌, ◌≤◌, ◌+◌, ℕ, suc, length, ap, ◌∙◌, arith}
-use Rattle.std.specs.List.{insert}
-use Rattle.std.proofs.lemmas.List.Edits.{length-insert}
-use Rattle.pst_base.specs.declared.names.NodeId.{NodeId}
-use Rattle.pst_order.specs.Places.{rank}
-use Rattle.pst_roots.specs.Roots.{numbers, held_of}
-use Rattle.pst_roots.proofs.RootLemmas.{length_of, map_insert}
+use Rattle.std.proofs.Common.{ℕ, List, subst}
+use Rattle.pst_nodes.specs.Arena.{lo_at}
+use Rattle.pst_roots.specs.Roots.{held_of, IsLastIndex}
+use Rattle.pst_roots.proofs.RootLemmas.{added_root}
 use Rattle.pst_roots.proofs.roots.RootIndex.add.Goals as goal
 
-pub put-requires-clause-index : goal.put-requires-clause-index
-put-requires-clause-index c = omega (arith, c.position-index.ensures, c.requires.left.there, length_of (λ (i : NodeId). i.0) c.args.self.now.held.items)
+pub insert_behind-requires-clause-index : goal.insert_behind-requires-clause-index
+insert_behind-requires-clause-index g c = c.last_before-left.ensures.found.within
 
 pub returns-clause-held : goal.returns-clause-held
-returns-clause-held c =
-    let next : c.position-index.result + 1 ≡ suc (rank (held_of c.args.self.now) c.args.left.0) = omega (arith, c.position-index.ensures) in
-    ap numbers c.put.ensures.items
-    ∙ map_insert (λ (i : NodeId). i.0) c.args.self.now.held.items (c.position-index.result + 1) c.args.right
-    ∙ ap (λ (k : ℕ). insert (held_of c.args.self.now) k c.args.right.0) next
-
-pub returns-clause-room : goal.returns-clause-room
-returns-clause-room c =
-    let within : c.position-index.result + 1 ≤ length c.args.self.now.held.items = omega (arith, c.position-index.ensures, c.requires.left.there, length_of (λ (i : NodeId). i.0) c.args.self.now.held.items) in
-    let more : length c.put.new.self.held.items ≡ length c.args.self.now.held.items + 1 = ap length c.put.ensures.items ∙ length-insert c.args.self.now.held.items (c.position-index.result + 1) c.args.right within in
-    omega (arith, c.put.ensures.capacity, more, c.requires.room)
+returns-clause-held g c =
+    let nodes = c.args.nodes.now.list.items in
+    let held = held_of c.args.self.now in
+    let k = c.last_before-left.result in
+    let by_order : IsLastIndex (g.O.Order.places c.args.order.now) nodes held c.begin_of-begin.result.0 k = subst (λ (list : List ℕ). IsLastIndex list nodes held c.begin_of-begin.result.0 k) c.new.ensures.order c.last_before-left.ensures.found in
+    let last : IsLastIndex (g.O.Order.places c.args.order.now) nodes held (lo_at nodes c.args.right.0) k = subst (λ (p : ℕ). IsLastIndex (g.O.Order.places c.args.order.now) nodes held p k) c.begin_of-begin.ensures by_order in
+    added_root (g.O.Order.places c.args.order.now) nodes held c.insert_behind.new.self.nodes c.args.right.0 k last c.insert_behind.ensures.nodes

@@ -1,0 +1,79 @@
+//! A piece of a long list of nodes: a vector that never grows.
+
+use pst_base::{NoMemory, NodeId};
+use std::alloc::Global;
+use std::marker::Model;
+
+/// How many nodes a piece has room for.
+pub const PIECE: usize = 256;
+
+/// How many nodes a full piece keeps when it is cut in two.
+pub const HALF: usize = 128;
+
+/// At most `PIECE` nodes, in memory that was taken when the piece was made.
+#[derive(Drop)]
+pub struct Piece {
+    nodes: Vec<NodeId>,
+}
+
+impl Model for Piece {
+    ghost use Rattle.std.specs.Prelude.{ℕ, ◌≤◌, List, length, vec_capacity};
+    ghost use Rattle.pst_roots.specs.Numbers.{numbers};
+
+    ghost Value = { List ℕ };
+
+    ghost view = { λ p. numbers p.nodes.items };
+
+    ghost invariant = { λ p. (length p.nodes.items ≤ 256) × (256 ≤ vec_capacity p.nodes) };
+}
+
+impl Piece {
+    ghost use Rattle.std.specs.Prelude.{◌≡◌, ◌<◌, ◌≤◌, [], length, get_or, take, drop, insert, IfOk};
+
+    /// A piece with no node. `NoMemory` where there is no memory for it.
+    pub fn new(alloc: Global) -> Result<Piece, NoMemory>
+        ensures { IfOk result (λ piece. piece ≡ []) }
+    {
+        Ok(Piece {
+            nodes: Vec::with_capacity(alloc, PIECE)?,
+        })
+    }
+
+    /// How many nodes it has.
+    #[inline]
+    pub fn len(&self) -> usize
+        ensures count { result ≡ length self.now }
+        ensures most { result ≤ 256 }
+    {
+        self.nodes.len()
+    }
+
+    /// A node by its index.
+    #[inline]
+    pub fn get(&self, index: usize) -> NodeId
+        requires { index < length self.now }
+        ensures { result.0 ≡ get_or self.now index 0 }
+    {
+        self.nodes[index]
+    }
+
+    /// Puts a node at an index.
+    pub fn insert(&mut self, index: usize, id: NodeId)
+        requires index { index ≤ length self.old }
+        requires room { length self.old < 256 }
+        ensures { self.new ≡ insert self.old index id.0 }
+    {
+        let _there_is_room = self.nodes.insert(index, id);
+    }
+
+    /// Moves the second half of a full piece into an empty one.
+    pub fn halve(&mut self, second: &mut Piece)
+        requires full { length self.old ≡ 256 }
+        requires empty { second.old ≡ [] }
+        ensures first { self.new ≡ take 128 self.old }
+        ensures second { second.new ≡ drop 128 self.old }
+    {
+        let _there_is_room = second.nodes.extend_from_slice(&self.nodes[HALF..]);
+        self.nodes.truncate(HALF);
+    }
+}

@@ -1,0 +1,194 @@
+//! A long list of nodes in pieces, so that a node put into it moves the nodes of one piece only.
+
+ghost use Rattle.std.specs.Prelude.{◌≡◌, suc, ◌+◌, ◌<◌, ◌≤◌, ◌^◌, ◌++◌, [], length, get_or, map, take, drop, replicate, IfOk, All};
+ghost use Rattle.std.specs.List.Sorted.{IsNonDecreasing};
+ghost use Rattle.std.specs.List.{concat};
+ghost use Rattle.pst_roots.specs.Pieces.{AreCut, IsStartBefore, IsPieceAt, FallsInto, halved};
+
+use crate::piece::{HALF, PIECE, Piece};
+use pst_base::{NoMemory, NodeId};
+use std::alloc::{AllocError, Global};
+use std::marker::Model;
+
+/// The most pieces, far more than there is memory for: the count of the nodes fits a `usize`.
+const MOST_PIECES: usize = 1 << 48;
+
+/// Nodes in an order, in pieces. Each piece has a node, and at most `PIECE`. Empty pieces are kept for those to come.
+#[derive(Drop)]
+pub struct Pieces {
+    alloc: Global,
+    pieces: Vec<Piece>,
+    starts: Vec<usize>,
+    pool: Vec<Piece>,
+    count: usize,
+}
+
+impl Model for Pieces {
+    ghost use Rattle.std.specs.Prelude.{◌≡◌, length};
+    ghost use Rattle.std.specs.List.{concat};
+    ghost use Rattle.pst_roots.specs.Pieces.{Held, ArePieces};
+
+    ghost Value = { Held };
+
+    ghost view = { λ s. record { nodes = concat s.pieces.items; spare = length s.pool.items } };
+
+    ghost invariant = { λ s. ArePieces s.pieces s.starts s.pool s.count };
+}
+
+impl Pieces {
+    ghost use Rattle.std.specs.Prelude.{◌≡◌, suc, ◌+◌, ◌<◌, ◌≤◌, [], ◌∷◌, length, get_or, insert, IfOk, OnOk, OnErr};
+
+    /// The list of one node. `NoMemory` where there is no memory for it.
+    pub fn new(alloc: Global, first: NodeId) -> Result<Pieces, NoMemory>
+        ensures { IfOk result (λ list. list.nodes ≡ first.0 ∷ []) }
+    {
+        let mut piece = Piece::new(alloc)?;
+        piece.insert(0, first);
+        let mut pieces = Vec::new(alloc);
+        pieces.push(piece)?;
+        let mut starts = Vec::new(alloc);
+        starts.push(0)?;
+        Ok(Pieces {
+            alloc,
+            pieces,
+            starts,
+            pool: Vec::new(alloc),
+            count: 1,
+        })
+    }
+
+    /// How many nodes there are.
+    #[inline]
+    pub fn len(&self) -> usize
+        ensures { result ≡ length self.now.nodes }
+    {
+        self.count
+    }
+
+    /// A node by its index: a search for the piece among the starts of the pieces, and a look into it.
+    #[inline]
+    pub fn get(&self, index: usize) -> NodeId
+        requires { index < length self.now.nodes }
+        ensures { result.0 ≡ get_or self.now.nodes index 0 }
+    {
+        let piece = piece_at(&self.starts, index);
+        self.pieces[piece].get(index - self.starts[piece])
+    }
+
+    /// Makes room for so many nodes more, wherever they come. A refusal changes nothing.
+    pub fn reserve(&mut self, n: usize) -> Result<(), NoMemory>
+        ensures nodes { self.new.nodes ≡ self.old.nodes }
+        ensures room { OnOk result (n ≤ self.new.spare) }
+        ensures err { OnErr result (self.new.spare ≡ self.old.spare) }
+    {
+        let spare = self.pool.len();
+        if n <= spare {
+            return Ok(());
+        }
+        if self.pieces.len() > MOST_PIECES || n > MOST_PIECES - self.pieces.len() {
+            return Err(AllocError);
+        }
+        self.pieces.reserve(n)?;
+        self.starts.reserve(n)?;
+        let mut more = empty_pieces(self.alloc, n - spare)?;
+        self.pool.append(&mut more)
+    }
+
+    /// Puts a node directly behind the one at an index. It takes a piece from those that were made, where the node comes into
+    /// a full one.
+    pub fn insert_behind(&mut self, index: usize, id: NodeId)
+        requires index { index < length self.old.nodes }
+        requires room { 1 ≤ self.old.spare }
+        ensures nodes { self.new.nodes ≡ insert self.old.nodes (suc index) id.0 }
+        ensures room { self.old.spare ≤ self.new.spare + 1 }
+    {
+        let at = piece_with_room(&mut self.pieces, &mut self.starts, &mut self.pool, index);
+        let behind = index - self.starts[at] + 1;
+        let piece = &mut self.pieces[at];
+        piece.insert(behind, id);
+        raise_from(&mut self.starts, at + 1);
+        self.count += 1;
+    }
+}
+
+// The piece that an index falls into: the last one that does not start behind it.
+#[inline]
+fn piece_at(starts: &[usize], index: usize) -> usize
+    requires first { IsStartBefore starts.now index }
+    requires rising { IsNonDecreasing starts.now }
+    ensures { IsPieceAt starts.now index result }
+{
+    starts.partition_point(|start| *start <= index) - 1
+}
+
+// The piece that an index falls into, with room for one node more: a full piece is cut in two.
+fn piece_with_room(
+    pieces: &mut Vec<Piece>,
+    starts: &mut Vec<usize>,
+    pool: &mut Vec<Piece>,
+    index: usize,
+) -> usize
+    requires cut { AreCut pieces.old starts.old pool.old }
+    requires index { index < length (concat pieces.old.items) }
+    requires spare { 1 ≤ length pool.old.items }
+    ensures cut { AreCut pieces.new starts.new pool.new }
+    ensures nodes { concat pieces.new.items ≡ concat pieces.old.items }
+    ensures spare { length pool.old.items ≤ length pool.new.items + 1 }
+    ensures falls { FallsInto pieces.new.items starts.new.items index result }
+    ensures room { length (get_or pieces.new.items result []) < 256 }
+{
+    let at = piece_at(starts, index);
+    if pieces[at].len() < PIECE {
+        return at;
+    }
+    cut_in_two(pieces, starts, pool, at);
+    if index < starts[at + 1] { at } else { at + 1 }
+}
+
+// Cuts a full piece in two, with an empty piece of the pool for its second half.
+fn cut_in_two(pieces: &mut Vec<Piece>, starts: &mut Vec<usize>, pool: &mut Vec<Piece>, at: usize)
+    requires cut { AreCut pieces.old starts.old pool.old }
+    requires at { at < length pieces.old.items }
+    requires full { length (get_or pieces.old.items at []) ≡ 256 }
+    requires spare { 1 ≤ length pool.old.items }
+    ensures cut { AreCut pieces.new starts.new pool.new }
+    ensures pieces { pieces.new.items ≡ halved pieces.old.items at }
+    ensures spare { length pool.old.items ≡ length pool.new.items + 1 }
+{
+    let mut second = pool.pop().unwrap();
+    let piece = &mut pieces[at];
+    piece.halve(&mut second);
+    let start = starts[at] + HALF;
+    let _pieces_have_room = pieces.insert(at + 1, second);
+    let _starts_have_room = starts.insert(at + 1, start);
+}
+
+// Each start from an index on is one higher.
+fn raise_from(starts: &mut [usize], from: usize)
+    requires from { from ≤ length starts.old }
+    requires low { All (λ start. start < 2 ^ 63) starts.old }
+    ensures { starts.new ≡ take from starts.old ++ map suc (drop from starts.old) }
+{
+    raise(&mut starts[from..]);
+}
+
+// Each start is one higher.
+fn raise(starts: &mut [usize])
+    requires { All (λ start. start < 2 ^ 63) starts.old }
+    ensures { starts.new ≡ map suc starts.old }
+{
+    for start in starts.iter_mut() {
+        *start += 1;
+    }
+}
+
+// So many empty pieces.
+fn empty_pieces(alloc: Global, n: usize) -> Result<Vec<Piece>, NoMemory>
+    ensures { IfOk result (λ pieces. pieces.items ≡ replicate n []) }
+{
+    let mut pieces = Vec::with_capacity(alloc, n)?;
+    for _ in 0..n {
+        pieces.push(Piece::new(alloc)?)?;
+    }
+    Ok(pieces)
+}
