@@ -1,0 +1,9 @@
+pub mod JointLemmas
+pub mod WaitingLemmas
+pub mod HeldLemmas
+pub mod AddedLemmas
+pub mod WriteLemmas
+pub mod WriteQueue
+pub mod KeptLemmas
+pub mod WriteDone
+pub mod WriteSound
