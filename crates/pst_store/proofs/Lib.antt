@@ -1,0 +1,9 @@
+pub mod Held
+pub mod Stores
+pub mod Links
+pub mod Forks
+pub mod Answered
+pub mod Starts
+pub mod Wholes
+pub mod Trying
+pub mod Started

@@ -1,0 +1,4 @@
+pub mod Codes
+pub mod Calls
+pub mod Whole
+pub mod Trials

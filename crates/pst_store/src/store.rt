@@ -1,0 +1,118 @@
+//! The store, and what is asked of it alone.
+
+use crate::inner::Core;
+use pst_arena::{Arena, FatNodes};
+use pst_base::{NoMemory, Shape, TypeNo};
+use pst_labels::LabelOrder;
+use pst_order::Order;
+use std::alloc::Global;
+use std::marker::Model;
+
+/// A fully persistent heap of fat nodes: empty, or started with version 0. It is a heap at many places that are forked and
+/// published (`HeapAt`, `VersionedHeap`). Each call that writes first splits the nodes that wait, then writes, and then splits
+/// the nodes that are over their capacity. A pointer write stamps at most six values, and a number write two; all splits
+/// together add no more nodes than that pays for (`whole`).
+#[derive(Drop)]
+pub struct StoreOf<O: Order + Drop, N: FatNodes = Arena> {
+    pub(crate) core: Option<Core<O, N>>,
+}
+
+/// The store over the order list by labels.
+pub type Store = StoreOf<LabelOrder>;
+
+impl<O: Order + Drop, N: FatNodes> Model for StoreOf<O, N> {
+    ghost use Rattle.std.specs.Prelude.{Option};
+    ghost use Rattle.std.specs.Coded.{coded_option};
+    ghost use Rattle.pst_meaning.specs.Store.{Stored};
+    ghost use Rattle.pst_store.specs.Codes.{coded_stored};
+
+    ghost Value = { Option Stored };
+
+    ghost coded = { coded_option coded_stored };
+
+    ghost view = { λ s. s.core };
+}
+
+impl<O: Order + Drop, N: FatNodes> StoreOf<O, N> {
+    ghost use Rattle.std.specs.Prelude.{◌≡◌, ◌<◌, ◌↔◌, [], None, OnOk, OnErr, IfSome, IsSomeAnd, IsTrue, length};
+    ghost use Rattle.pst_base.specs.Shape.{IsValid, type_at};
+    ghost use Rattle.pst_mirror.specs.Potential.{capacity};
+    ghost use Rattle.pst_places.specs.State.{Unchanged, WritesStay};
+    ghost use Rattle.pst_meaning.specs.Store.{IsStore};
+    ghost use Rattle.pst_store.specs.Calls.{IsStarted};
+    ghost use Rattle.pst_store.specs.Whole.{IsBounded, IsSmall, nodes_in, potential_in, queue_in, state_in};
+
+    /// A store with no version and no node. It takes no memory.
+    pub fn empty() -> Self
+        ensures { result ≡ None }
+    {
+        StoreOf { core: None }
+    }
+
+    /// Starts an empty store: it then has version 0, in which the root record is alone. After `NoMemory` it is still empty.
+    pub fn start(&mut self, alloc: Global, shape: &Shape) -> Result<(), NoMemory>
+        requires empty { self.old ≡ None }
+        requires shape { IsValid shape.now }
+        ensures ok { OnOk result (IsSomeAnd self.new (IsStarted shape.now)) }
+        ensures err { OnErr result (self.new ≡ None) }
+    {
+        let core = Core::start(alloc, shape)?;
+        self.core = Some(core);
+        Ok(())
+    }
+
+    /// What is known of every store, also after want of memory: what a store keeps; that no more nodes and potential are there
+    /// than one for each record that was made, six for each pointer that was written and two for each number; and that no node
+    /// is over its capacity where nothing waits.
+    pub fn whole(&self)
+        ensures store { IfSome self.now IsStore }
+        ensures bounded { IsBounded self.now }
+        ensures small { queue_in self.now ≡ [] → IsSmall self.now }
+    {
+        if let Some(core) = &self.core {
+            core.whole();
+        }
+    }
+
+    /// How many nodes there are.
+    pub fn nodes(&self) -> u64
+        ensures { result ≡ length (nodes_in self.now) }
+    {
+        match &self.core {
+            None => 0,
+            Some(core) => core.node_count(),
+        }
+    }
+
+    /// The potential: by how many stamped values in all the nodes exceed half of their type's capacity. It goes over all nodes.
+    pub fn potential(&self) -> u64
+        ensures { result ≡ potential_in self.now }
+    {
+        match &self.core {
+            None => 0,
+            Some(core) => core.potential(),
+        }
+    }
+
+    /// How many stamped values a node of a type of the store has at most where nothing waits: twice the sum of how many
+    /// pointer fields the type has and of its in-degree limit.
+    pub fn capacity(&self, ty: TypeNo) -> u32
+        requires { ty.0 < length (state_in self.now).shape }
+        ensures { result ≡ capacity (type_at (state_in self.now).shape ty) }
+    {
+        match &self.core {
+            None => 0,
+            Some(core) => core.capacity(ty),
+        }
+    }
+
+    /// Whether a node waits to be split.
+    pub fn pending(&self) -> bool
+        ensures { IsTrue result ↔ ¬ (queue_in self.now ≡ []) }
+    {
+        match &self.core {
+            None => false,
+            Some(core) => core.pending(),
+        }
+    }
+}

@@ -1,0 +1,185 @@
+//! The store as a heap at many places, which are forked and published.
+
+use crate::store::StoreOf;
+use pst_arena::FatNodes;
+use pst_base::{Counts, Name, NoMemory, NodeId, ROOT, RunNo, SlotNo, TypeNo, VersionNo};
+use pst_meaning::place::Place;
+use pst_order::Order;
+use pst_places::{HeapAt, StoreFault, VersionedHeap};
+
+impl<O: Order + Drop, N: FatNodes> HeapAt for StoreOf<O, N> {
+    type Ref = NodeId;
+
+    type Place = Place;
+
+    ghost use Rattle.std.specs.Prelude.{◌≡◌, ◌⊎◌, [], Some, IfOk, OnOk, OnErr};
+    ghost use Rattle.pst_base.specs.declared.names.Kind.TheVariants.{Int};
+    ghost use Rattle.pst_base.specs.Heap.{kind_in};
+    ghost use Rattle.pst_places.specs.State.{Allocated, HasRoom, IsFresh, IsNewType, Unchanged, ValueStored, WritesStay};
+    ghost use Rattle.pst_places.specs.Store.{MayStorePointer, PointerOutcome};
+    ghost use Rattle.pst_store.specs.Whole.{RestsAfter, queue_in, state_in};
+
+    ghost state = { state_in };
+
+    fn known(&self) {
+        self.whole();
+    }
+
+    fn root(&self, at: Place) -> NodeId {
+        match &self.core {
+            None => NodeId(0),
+            Some(core) => core.root(at),
+        }
+    }
+
+    fn load_value(&self, at: Place, r: NodeId, field: SlotNo) -> i64 {
+        match &self.core {
+            None => 0,
+            Some(core) => core.number(at, r, field),
+        }
+    }
+
+    fn load_pointer(&self, at: Place, r: NodeId, field: SlotNo) -> Option<NodeId> {
+        match &self.core {
+            None => None,
+            Some(core) => core.pointer(at, r, field),
+        }
+    }
+
+    fn name_of(&self, r: NodeId) -> Name {
+        match &self.core {
+            None => ROOT,
+            Some(core) => core.name(r),
+        }
+    }
+
+    fn type_of(&self, r: NodeId) -> TypeNo {
+        match &self.core {
+            None => TypeNo(0),
+            Some(core) => core.ty(r),
+        }
+    }
+
+    fn same(&self, r: NodeId, q: NodeId) -> bool {
+        match &self.core {
+            None => true,
+            Some(core) => core.name(r) == core.name(q),
+        }
+    }
+
+    fn allocate(&mut self, at: Place, ty: TypeNo, name: Name) -> Result<NodeId, NoMemory>
+        requires writable { (state_in self.old).writable at }
+        requires known_type { IsNewType (state_in self.old) ty }
+        requires fresh { IsFresh (state_in self.old) name }
+        requires room { HasRoom (state_in self.old) }
+        ensures ok { IfOk result (λ r. Allocated (state_in self.old) at ty name r (state_in self.new)) }
+        ensures err { OnErr result (Unchanged (state_in self.old) (state_in self.new)) }
+        ensures rested { IfOk result (λ _. queue_in self.new ≡ []) }
+    {
+        match &mut self.core {
+            None => Err(NoMemory),
+            Some(core) => core.make(at, ty, name),
+        }
+    }
+
+    fn store_value(&mut self, at: Place, r: NodeId, field: SlotNo, n: i64) -> Result<(), NoMemory>
+        requires writable { (state_in self.old).writable at }
+        requires live { (state_in self.old).live at r }
+        requires field { kind_in (state_in self.old).shape ((state_in self.old).heap at) ((state_in self.old).name r) field.0 ≡ Some Int }
+        requires room { HasRoom (state_in self.old) }
+        ensures ok { OnOk result (ValueStored (state_in self.old) at ((state_in self.old).name r) field.0 n (state_in self.new) × WritesStay (state_in self.old) (state_in self.new)) }
+        ensures err { OnErr result (Unchanged (state_in self.old) (state_in self.new) ⊎ ValueStored (state_in self.old) at ((state_in self.old).name r) field.0 n (state_in self.new)) }
+        ensures rested { OnOk result (queue_in self.new ≡ []) }
+    {
+        match &mut self.core {
+            None => Err(NoMemory),
+            Some(core) => core.write_number(at, r, field, n),
+        }
+    }
+
+    fn store_pointer(
+        &mut self,
+        at: Place,
+        r: NodeId,
+        field: SlotNo,
+        target: Option<NodeId>,
+    ) -> Result<(), StoreFault>
+        requires { MayStorePointer (state_in self.old) at r field.0 target }
+        ensures outcome { PointerOutcome (state_in self.old) at r field.0 target result (state_in self.new) }
+        ensures rested { RestsAfter result (queue_in self.new) }
+    {
+        match &mut self.core {
+            None => Err(StoreFault::Memory),
+            Some(core) => core.point(at, r, field, target),
+        }
+    }
+}
+
+impl<O: Order + Drop, N: FatNodes> VersionedHeap for StoreOf<O, N> {
+    ghost use Rattle.std.specs.Prelude.{◌≡◌, ◌<◌, IfOk, IfSome, OnErr, length, slice_get};
+    ghost use Rattle.pst_places.specs.State.{ForkRefused, Forked, IsOpenFork, IsPublished, Published, Unchanged, WritesStay};
+    ghost use Rattle.pst_places.specs.declared.versioned.TheConstants.{MOST_FORKS};
+    ghost use Rattle.pst_store.specs.Whole.{queue_in, state_in};
+
+    fn known_versions(&self) {
+        self.whole();
+    }
+
+    fn fork(&mut self, from: Place) -> Result<Place, NoMemory>
+        requires published { IsPublished (state_in self.old) from }
+        requires calls { (state_in self.old).fork_calls < MOST_FORKS }
+        ensures ok { IfOk result (λ place. Forked (state_in self.old) from place (state_in self.new)) }
+        ensures err { OnErr result (ForkRefused (state_in self.old) (state_in self.new)) }
+        ensures queue { queue_in self.new ≡ queue_in self.old }
+    {
+        match &mut self.core {
+            None => Err(NoMemory),
+            Some(core) => core.make_fork(from),
+        }
+    }
+
+    fn publish(&mut self, parent: VersionNo, run: RunNo, at: Place) -> Result<VersionNo, NoMemory>
+        requires there { parent.0 < length (state_in self.old).versions }
+        requires forked { IfSome (slice_get (state_in self.old).versions parent.0) (λ row. IsOpenFork (state_in self.old) at row.place) }
+        ensures ok { IfOk result (λ version. Published (state_in self.old) parent run at version (state_in self.new)) }
+        ensures err { OnErr result (Unchanged (state_in self.old) (state_in self.new) × WritesStay (state_in self.old) (state_in self.new)) }
+        ensures queue { queue_in self.new ≡ queue_in self.old }
+    {
+        match &mut self.core {
+            None => Err(NoMemory),
+            Some(core) => core.make_version(parent, run, at),
+        }
+    }
+
+    fn place_of(&self, version: VersionNo) -> Option<Place> {
+        match &self.core {
+            None => None,
+            Some(core) => core.place_of(version),
+        }
+    }
+
+    fn parent(&self, version: VersionNo) -> Option<VersionNo> {
+        match &self.core {
+            None => None,
+            Some(core) => core.parent(version),
+        }
+    }
+
+    fn count(&self) -> u32 {
+        match &self.core {
+            None => 0,
+            Some(core) => core.count(),
+        }
+    }
+
+    fn counts(&self) -> Counts {
+        match &self.core {
+            None => Counts {
+                records: 0,
+                pointer_writes: 0,
+                value_writes: 0,
+            },
+            Some(core) => core.counts(),
+        }
+    }
+}
