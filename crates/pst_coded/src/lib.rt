@@ -2,14 +2,19 @@
 //!
 //! The model is a relation of definitions, `IsMeaningOf`: a meaning, as histories need one, is that of a code where each
 //! outcome of work is the one to which the machine comes on that code. It is this project's own, and needs no bound on steps.
+//! Code with such a meaning is `Meant`.
 //!
 //! The law: the code of a well-typed program has the program's meaning. That meaning is lawful, and queries write nothing in
-//! it; so all that is said of histories of a program holds of those of its code.
+//! it; so all that is said of histories of a program holds of those of its code. `Compiled` holds such a program and its code.
 //!
 //! For example `run 0 add 5` makes the same version, with the same heap and counts, whether it is replayed by the tree of
 //! `add` or executed by its instructions.
 #![tactic(auto)]
 
+mod compiled;
 mod laws;
+mod meant;
 
+pub use compiled::Compiled;
 pub use laws::compiled_code_means_the_program;
+pub use meant::Meant;
