@@ -1,0 +1,14 @@
+use Rattle.std.proofs.Common.{sym, subst}
+use Rattle.pst_history.specs.History.{begun}
+use Rattle.pst_engine.specs.Stands.{StandsFor, opening_of, machine_runs}
+use Rattle.pst_engine.proofs.Fresh.{begins}
+use Rattle.pst_engine.proofs.laws.an_opening_stands.Goals as goal
+
+pub returns : goal.returns
+returns g c =
+    let m = g.C.Meant.meaning c.args.code.now in
+    let x = machine_runs {H = g.row.H.Denot} {P = g.row.H-Place.Denot} {R = g.row.H-Ref.Denot} (g.C.Meant.parts c.args.code.now) in
+    let s = g.H.HeapAt.state c.args.heap.now in
+    let engine = c.args.engine.now in
+    subst (λ items. StandsFor m x items engine.budget engine.next_run.0 s (begun (opening_of s engine.next_run.0 engine.budget))) (sym c.requires.idle)
+    (begins m c.known-2.ensures.lawful s c.known.ensures c.known_versions.ensures engine.next_run.0 engine.budget c.requires.heap c.requires.next_run.0 c.requires.next_run.1 c.requires.budget.0 c.requires.budget.1 x)

@@ -1,0 +1,76 @@
+//! The ends of open runs.
+
+ghost use Rattle.std.specs.Prelude.{◌≡◌, ◌<◌, IfOk, OnErr, length};
+ghost use Rattle.pst_engine.specs.Stands.{IsRunAt, MayPublish, Settled, StandForSome, VersionsStay};
+ghost use Rattle.pst_engine.specs.Changes.{Closes};
+
+use crate::entry::OpenEntry;
+use pst_base::{NoMemory, Numbers, RunNo, VersionNo};
+use pst_coded::Meant;
+use pst_places::VersionedHeap;
+use pst_program::Ended;
+use pst_runs::{advance, known};
+use pst_script::Reply;
+use std::alloc::Global;
+
+/// The same numbers.
+pub(crate) fn copy_of(alloc: Global, numbers: &[i64]) -> Result<Numbers, NoMemory>
+    ensures { IfOk result (λ copy. copy ≡ numbers.now) }
+{
+    Ok(Numbers::from_vec(numbers.to_vec(alloc)?))
+}
+
+/// Publishes the place of a run that is done, and gives the answer to the run's end.
+fn settle<H: VersionedHeap>(
+    heap: &mut H,
+    parent: VersionNo,
+    run: RunNo,
+    place: H::Place,
+    end: Ended,
+    printed: Numbers,
+) -> Result<Reply, NoMemory>
+    requires { MayPublish (H.state heap.old) parent place }
+    ensures ok { IfOk result (λ r. Settled (H.state heap.old) parent run place printed end r (H.state heap.new) (heap.new ≡ heap.old)) }
+    ensures err { OnErr result (VersionsStay (H.state heap.old) (H.state heap.new)) }
+{
+    heap.known_versions();
+    match end {
+        Ended::Done => {
+            let version = heap.publish(parent, run, place)?;
+            Ok(Reply::Version { printed, version })
+        }
+        Ended::Trapped(trap) => Ok(Reply::Trapped { printed, trap }),
+        Ended::Stopped => Ok(Reply::Answer { printed }),
+    }
+}
+
+/// Carries an open run to its end, and publishes its version where it is done. Publishing is the last that can find no memory,
+/// so the versions are then those of before.
+pub(crate) fn close<H: VersionedHeap, C: Meant>(
+    alloc: Global,
+    code: &C,
+    heap: &mut H,
+    active: &mut Vec<OpenEntry<H>>,
+    at: usize,
+    run: RunNo,
+) -> Result<Reply, NoMemory>
+    requires at { at < length active.old.items }
+    requires run { IsRunAt active.old.items at run }
+    requires stands { StandForSome (C.meaning code.now) (C.parts code.now) active.old.items (H.state heap.old) }
+    ensures ok { IfOk result (λ r. Closes (C.meaning code.now) (C.parts code.now) active.old.items (H.state heap.old) run r active.new.items (H.state heap.new)) }
+    ensures err { OnErr result (VersionsStay (H.state heap.old) (H.state heap.new)) }
+{
+    heap.known();
+    heap.known_versions();
+    known::<H, C>(code);
+    let entry = &mut active[at];
+    let end = advance(code, &mut entry.activation, heap, u32::MAX)?;
+    let printed = copy_of(alloc, entry.activation.printed())?;
+    let place = entry.activation.place();
+    let parent = entry.parent;
+    heap.known();
+    heap.known_versions();
+    let reply = settle(heap, parent, run, place, end, printed)?;
+    active.remove(at);
+    Ok(reply)
+}
