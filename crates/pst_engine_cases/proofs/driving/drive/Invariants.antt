@@ -1,0 +1,5 @@
+use Rattle.pst_engine_cases.specs.Twins.{CanAnswer}
+use Rattle.pst_engine_cases.proofs.driving.drive.Given as goal
+
+abbrev pub invariant-loop : goal.invariant-loop
+invariant-loop g l = CanAnswer l.twins (g.H.HeapAt.state l.twins.heap)
