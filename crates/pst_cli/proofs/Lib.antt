@@ -1,7 +1,11 @@
 pub mod Cutting
 pub mod Counting
 pub mod Writing
+pub mod Keeping
 pub mod Reading
 pub mod Serving
 pub mod RowLemmas
 pub mod Verdicts
+pub mod Numerals
+pub mod Summing
+pub mod Benching

@@ -10,10 +10,10 @@ use Rattle.pst_cli.specs.declared.stop.Stop.TheVariants as stop
 use Rattle.pst_io.specs.Lines.{LinesState, IsOpen, not_begun}
 use Rattle.pst_cli.specs.declared.stop.Stop.{Stop}
 use Rattle.pst_cli.specs.Pieces.{Answering, pieces_from, state_after, IsAll}
-use Rattle.pst_cli.specs.Serving.{StopsAtReply, StopsAnswering}
+use Rattle.pst_cli.specs.Serving.{StopsAtReply, HeldAtReply, StopsAnswering}
 use Rattle.pst_cli.specs.Reading.{GivesPast, GivesUntil, IsNear}
 use Rattle.pst_cli.specs.Reasons.{stop_of}
-use Rattle.pst_cli.proofs.Writing.{in_reply, before_reply}
+use Rattle.pst_cli.proofs.Writing.{state_more, in_reply, before_reply, breaks_in}
 
 -- reading only, after lines were handed out
 pub then_reads : (a : InputState) (left : Option (List ℕ)) (b : InputState) (left' : Option (List ℕ)) (c : InputState) (left'' : Option (List ℕ)) (given : List (List ℕ))
@@ -34,20 +34,22 @@ until_fault lines.TooLong a left b left' c left'' given p reads past off = (then
 until_fault lines.Memory a left b left' c left'' given p reads past off = (then_reads a left b left' c left'' given p (reads (λ e. cc)), inl off)
 
 -- reading stopped, and all that was handed out is answered
-pub until_answered : {A : Type 0} (m : Answering A) (h : A) (fault : LinesFault) (a : InputState) (left : Option (List ℕ)) (c : InputState) (left'' : Option (List ℕ)) (given : List (List ℕ)) (out : List ℕ)
-    → GivesUntil (stop_of fault) a left c left'' given → IsCutOff c → IsAll (pieces_from m h given) out → StopsAnswering m h (stop_of fault) a left c left'' given out
-until_answered m h lines.Failed a left c left'' given out g off all = (g.0, off, all)
-until_answered m h lines.TooLong a left c left'' given out g off all = (g.0, off, all)
-until_answered m h lines.Memory a left c left'' given out g off all = (g.0, inl (off, all))
+pub until_answered : {A : Type 0} (m : Answering A) (h : A) (leaves breaks : A → Type 0) (fault : LinesFault) (a : InputState) (left : Option (List ℕ)) (c : InputState) (left'' : Option (List ℕ)) (given : List (List ℕ)) (out : List ℕ)
+    → GivesUntil (stop_of fault) a left c left'' given → IsCutOff c → IsAll (pieces_from m h given) out → leaves (state_after m h given) → StopsAnswering m h leaves breaks (stop_of fault) a left c left'' given out
+until_answered m h leaves breaks lines.Failed a left c left'' given out g off all kept = (g.0, off, all, kept)
+until_answered m h leaves breaks lines.TooLong a left c left'' given out g off all kept = (g.0, off, all, kept)
+until_answered m h leaves breaks lines.Memory a left c left'' given out g off all kept = (g.0, inl (off, all, kept))
 
 -- answering stopped at a line
-pub until_reply : {A : Type 0} (m : Answering A) (h now : A) (s : Stop) (a : InputState) (left : Option (List ℕ)) (b : InputState) (left' : Option (List ℕ)) (given : List (List ℕ)) (line done out : List ℕ)
-    → now ≡ state_after m h given → IsAll (pieces_from m h given) done → StopsAtReply s (m.reply now line) out → Gives a left b left' (given ++ line ∷ []) → IsNear b
-    → StopsAnswering m h s a left b left' (given ++ line ∷ []) (done ++ out)
-until_reply m h now stop.Write a left b left' given line done out stood all (piece, is, part) g near = (g, near, in_reply m h now given line piece done out stood all is part)
-until_reply m h now stop.Memory a left b left' given line done out stood all none g near = (g, inr (near, before_reply m h given line done out all none))
-until_reply m h now stop.Read a left b left' given line done out stood all never g near = absurd never
-until_reply m h now stop.TooLong a left b left' given line done out stood all never g near = absurd never
+pub until_reply : {A : Type 0} (m : Answering A) (h : A) (leaves breaks : A → Type 0) (s : Stop) (a : InputState) (left : Option (List ℕ)) (b : InputState) (left' : Option (List ℕ)) (given : List (List ℕ)) (line done out : List ℕ)
+    → IsAll (pieces_from m h given) done → StopsAtReply s (m.reply (state_after m h given) line) out → HeldAtReply m leaves breaks s (state_after m h given) line → Gives a left b left' (given ++ line ∷ []) → IsNear b
+    → StopsAnswering m h leaves breaks s a left b left' (given ++ line ∷ []) (done ++ out)
+until_reply m h leaves breaks stop.Write a left b left' given line done out all (piece, is, part) kept g near =
+    (g, near, in_reply m h given line piece done out all is part, state_more m h leaves given line kept)
+until_reply m h leaves breaks stop.Memory a left b left' given line done out all none kept g near =
+    (g, inr (near, before_reply m h given line done out all none, breaks_in m h breaks given line kept))
+until_reply m h leaves breaks stop.Read a left b left' given line done out all never kept g near = absurd never
+until_reply m h leaves breaks stop.TooLong a left b left' given line done out all never kept g near = absurd never
 
 -- less than one read is held beyond a line that was handed out
 pub still_near : (a b : InputState) → IsNear a → length b.held ≤ max (length a.held) (MOST_READ - 1) → IsNear b

@@ -20,7 +20,8 @@ use Rattle.pst_cli.specs.declared.status.Status.TheVariants.{Done, ReadFault, Wr
 use Rattle.pst_cli.specs.Input.{CutInput, cut, cut_of, bytes_of, up_to}
 use Rattle.pst_cli.specs.Pieces.{IsAll}
 use Rattle.pst_cli.specs.Verdict.{Verdict, Accepted, Refused as IsRefusedBy, Judged, IsAccepted, IsRefused}
-use Rattle.pst_cli.specs.Output.{replied, printed, Outputs, OfVerdict, StopsInPage}
+use Rattle.pst_cli.specs.Kept.{Kept, still}
+use Rattle.pst_cli.specs.Output.{replied, printed, Outputs, OfVerdict, Accepting, Refusing, StopsInPage}
 use Rattle.pst_cli.specs.Reading.{GivesPast, GivesUntil, IsTextOf, IsNear, ReadsText}
 use Rattle.pst_cli.specs.Rows.{IsReadable, IsWithin, HasRead, ReadsUpTo, ReadsAll, Writes, CutOff, StopsReading, StopsWriting, LacksProgram, LacksRoom, Row}
 use Rattle.pst_cli.specs.Serving.{ReadsNothing, ServesInPart, Serves, Prints, status_of}
@@ -94,16 +95,16 @@ whole_front c input rest lines g off =
     ∙ ap (λ l. lines ++ l) (ap whole_lines (append-nil c.held) ∙ off.0) ∙ append-nil lines
 
 -- a read that was due did not come
-stops_reading : (job : Job) (c : InputState) (input : List ℕ) (left : Option (List ℕ)) (lines : List (List ℕ)) (out : List ℕ) → Gives fresh (Some input) c left lines → IsCutOff c → bytes_read c ≤ MOST_INPUT
-    → CutOff (cut lines) job out → StopsReading job input left out
-stops_reading job c input None lines out g off most p = absurd g.hands.consumed
-stops_reading job c input (Some rest) lines out g off most p =
-    (bytes_read c, has_read c input rest lines g most, subst (λ l. CutOff (cut l) job out) (sym (whole_front c input rest lines g off)) p)
+stops_reading : (k : Kept) (job : Job) (c : InputState) (input : List ℕ) (left : Option (List ℕ)) (lines : List (List ℕ)) (out : List ℕ) → Gives fresh (Some input) c left lines → IsCutOff c → bytes_read c ≤ MOST_INPUT
+    → CutOff k (cut lines) job out → StopsReading k job input left out
+stops_reading k job c input None lines out g off most p = absurd g.hands.consumed
+stops_reading k job c input (Some rest) lines out g off most p =
+    (bytes_read c, has_read c input rest lines g most, subst (λ l. CutOff k (cut l) job out) (sym (whole_front c input rest lines g off)) p)
 
-long_front : (job : Job) (c : InputState) (input rest : List ℕ) (more : ℕ) (left : Option (List ℕ)) (lines : List (List ℕ)) (out : List ℕ) → Gives fresh (Some input) c (Some rest) lines → IsCutOff c
-    → Consumes (Some rest) left (more ∷ []) → bytes_read c ≡ MOST_INPUT → CutOff (cut lines) job out → Row TooLong job input left out
-long_front job c input rest more None lines out g off past full p = absurd past
-long_front job c input rest more (Some y) lines out g off past full p =
+long_front : (k : Kept) (job : Job) (c : InputState) (input rest : List ℕ) (more : ℕ) (left : Option (List ℕ)) (lines : List (List ℕ)) (out : List ℕ) → Gives fresh (Some input) c (Some rest) lines → IsCutOff c
+    → Consumes (Some rest) left (more ∷ []) → bytes_read c ≡ MOST_INPUT → CutOff k (cut lines) job out → Row TooLong k job input left out
+long_front k job c input rest more None lines out g off past full p = absurd past
+long_front k job c input rest more (Some y) lines out g off past full p =
     let f = front c input rest lines g in
     let bytes = g.hands.bytes in
     let one_more : Front input y (MOST_INPUT + 1) (bytes ++ more ∷ []) = record {
@@ -112,54 +113,54 @@ long_front job c input rest more (Some y) lines out g off past full p =
     } in (
       omega (arith, one_more.size, ap length one_more.whole, length-append (bytes ++ more ∷ []) y),
       ap (λ l. Some l) (sym (dropped input y (bytes ++ more ∷ []) (MOST_INPUT + 1) one_more)),
-      subst (λ l. CutOff (cut l) job out) (sym (ap (λ n. whole_lines (take n input)) (sym full) ∙ whole_front c input rest lines g off)) p,
+      subst (λ l. CutOff k (cut l) job out) (sym (ap (λ n. whole_lines (take n input)) (sym full) ∙ whole_front c input rest lines g off)) p,
     )
 
-long_by : (job : Job) (c : InputState) (input : List ℕ) (before : Option (List ℕ)) (more : ℕ) (left : Option (List ℕ)) (lines : List (List ℕ)) (out : List ℕ) → Gives fresh (Some input) c before lines → IsCutOff c
-    → Consumes before left (more ∷ []) → bytes_read c ≡ MOST_INPUT → CutOff (cut lines) job out → Row TooLong job input left out
-long_by job c input None more left lines out g off past full p = absurd g.hands.consumed
-long_by job c input (Some rest) more left lines out g off past full p = long_front job c input rest more left lines out g off past full p
+long_by : (k : Kept) (job : Job) (c : InputState) (input : List ℕ) (before : Option (List ℕ)) (more : ℕ) (left : Option (List ℕ)) (lines : List (List ℕ)) (out : List ℕ) → Gives fresh (Some input) c before lines → IsCutOff c
+    → Consumes before left (more ∷ []) → bytes_read c ≡ MOST_INPUT → CutOff k (cut lines) job out → Row TooLong k job input left out
+long_by k job c input None more left lines out g off past full p = absurd g.hands.consumed
+long_by k job c input (Some rest) more left lines out g off past full p = long_front k job c input rest more left lines out g off past full p
 
 -- the input is too long
-long_row : (job : Job) (c : InputState) (input : List ℕ) (left : Option (List ℕ)) (lines : List (List ℕ)) (out : List ℕ) → GivesPast fresh (Some input) c left lines → IsCutOff c
-    → CutOff (cut lines) job out → Row TooLong job input left out
-long_row job c input left lines out g off p = long_by job c input g.before g.more left lines out g.gives off g.past g.full p
+long_row : (k : Kept) (job : Job) (c : InputState) (input : List ℕ) (left : Option (List ℕ)) (lines : List (List ℕ)) (out : List ℕ) → GivesPast fresh (Some input) c left lines → IsCutOff c
+    → CutOff k (cut lines) job out → Row TooLong k job input left out
+long_row k job c input left lines out g off p = long_by k job c input g.before g.more left lines out g.gives off g.past g.full p
 
 -- ---- reading the text of the program stopped
 
-lacks_room : (job : Job) (input : List ℕ) (left : Option (List ℕ)) (out : List ℕ) → LacksProgram input left out → LacksRoom job input left out
-lacks_room Run input left out p = inl p
-lacks_room Replay input left out p = inl p
-lacks_room Check input left out p = p
-lacks_room Code input left out p = p
+lacks_room : (k : Kept) (job : Job) (input : List ℕ) (left : Option (List ℕ)) (out : List ℕ) → LacksProgram k input left out → LacksRoom k job input left out
+lacks_room k Run input left out p = inl p
+lacks_room k Replay input left out p = inl p
+lacks_room k Check input left out p = p
+lacks_room k Code input left out p = p
 
 -- there was no room for a line that had been read
-lacks_text : (c : InputState) (input : List ℕ) (left : Option (List ℕ)) (lines : List (List ℕ)) → Gives fresh (Some input) c left lines → IsNear c → cut lines ≡ None → bytes_read c ≤ MOST_INPUT
-    → LacksProgram input left []
-lacks_text c input None lines g near none most = absurd g.hands.consumed
-lacks_text c input (Some rest) lines g near none most =
+lacks_text : (k : Kept) (c : InputState) (input : List ℕ) (left : Option (List ℕ)) (lines : List (List ℕ)) → k.untouched → Gives fresh (Some input) c left lines → IsNear c → cut lines ≡ None → bytes_read c ≤ MOST_INPUT
+    → LacksProgram k input left []
+lacks_text k c input None lines same g near none most = absurd g.hands.consumed
+lacks_text k c input (Some rest) lines same g near none most =
     let read = has_read c input rest lines g most in
     let e = extent c input rest lines g near in
-    (refl, (bytes_read c, read, near_program input lines (lines_of (c.held ++ rest)) (bytes_read c) MOST_READ none g.told read.within e.near))
+    (refl, same, (bytes_read c, read, near_program input lines (lines_of (c.held ++ rest)) (bytes_read c) MOST_READ none g.told read.within e.near))
 
-stopped : (job : Job) (s : Stop) (c : InputState) (input : List ℕ) (left : Option (List ℕ)) (lines : List (List ℕ)) → (s ≡ stop.Write → ⊥) → GivesUntil s fresh (Some input) c left lines
-    → cut lines ≡ None → bytes_read c ≤ MOST_INPUT → Row (status_of s) job input left []
-stopped job stop.Read c input left lines unwritten g none most = stops_reading job c input left lines [] g.0 g.1 most (subst (λ o. CutOff o job []) (sym none) refl)
-stopped job stop.TooLong c input left lines unwritten g none most = long_row job c input left lines [] g.0 g.1 (subst (λ o. CutOff o job []) (sym none) refl)
-stopped job stop.Write c input left lines unwritten g none most = absurd (unwritten refl)
-stopped job stop.Memory c input left lines unwritten (g, inl off) none most = inl (stops_reading job c input left lines [] g off most (subst (λ o. CutOff o job []) (sym none) refl))
-stopped job stop.Memory c input left lines unwritten (g, inr near) none most = inr (lacks_room job input left [] (lacks_text c input left lines g near none most))
+stopped : (k : Kept) (job : Job) (s : Stop) (c : InputState) (input : List ℕ) (left : Option (List ℕ)) (lines : List (List ℕ)) → k.untouched → (s ≡ stop.Write → ⊥) → GivesUntil s fresh (Some input) c left lines
+    → cut lines ≡ None → bytes_read c ≤ MOST_INPUT → Row (status_of s) k job input left []
+stopped k job stop.Read c input left lines same unwritten g none most = stops_reading k job c input left lines [] g.0 g.1 most (subst (λ o. CutOff k o job []) (sym none) (refl, same))
+stopped k job stop.TooLong c input left lines same unwritten g none most = long_row k job c input left lines [] g.0 g.1 (subst (λ o. CutOff k o job []) (sym none) (refl, same))
+stopped k job stop.Write c input left lines same unwritten g none most = absurd (unwritten refl)
+stopped k job stop.Memory c input left lines same unwritten (g, inl off) none most = inl (stops_reading k job c input left lines [] g off most (subst (λ o. CutOff k o job []) (sym none) (refl, same)))
+stopped k job stop.Memory c input left lines same unwritten (g, inr near) none most = inr (lacks_room k job input left [] (lacks_text k c input left lines same g near none most))
 
 -- nothing was written
-pub text_stopped : (job : Job) (s : Stop) (status : Status) (a c : InputState) (left left' sink : Option (List ℕ)) (lines : List (List ℕ)) → status ≡ status_of s → a ≡ fresh → (s ≡ stop.Write → ⊥)
+pub text_stopped : (k : Kept) (job : Job) (s : Stop) (status : Status) (a c : InputState) (left left' sink : Option (List ℕ)) (lines : List (List ℕ)) → k.untouched → status ≡ status_of s → a ≡ fresh → (s ≡ stop.Write → ⊥)
     → GivesUntil s a left c left' lines → cut lines ≡ None → bytes_read c ≤ MOST_INPUT
-    → IfSome left (λ input. (out : List ℕ) × Appends sink sink out × Row status job input left' out)
-text_stopped job s status a c None left' sink lines is new unwritten g none most = tt
-text_stopped job s status a c (Some input) left' sink lines is new unwritten g none most = (
+    → IfSome left (λ input. (out : List ℕ) × Appends sink sink out × Row status k job input left' out)
+text_stopped k job s status a c None left' sink lines same is new unwritten g none most = tt
+text_stopped k job s status a c (Some input) left' sink lines same is new unwritten g none most = (
   [],
   Appends-nil sink,
-  subst (λ v. Row v job input left' []) (sym is)
-      (stopped job s c input left' lines unwritten (subst (λ v. GivesUntil s v (Some input) c left' lines) new g) none most),
+  subst (λ v. Row v k job input left' []) (sym is)
+      (stopped k job s c input left' lines same unwritten (subst (λ v. GivesUntil s v (Some input) c left' lines) new g) none most),
 )
 
 -- ---- the text of the program was read
@@ -239,8 +240,8 @@ reads_program : (t : InputState) (input : List ℕ) (left : Option (List ℕ)) (
 reads_program t input None text r seen most = absurd r.told
 reads_program t input (Some rest) text r seen most = reads_up_to t t input rest text (Some rest) [] r seen (gives_none t (Some rest)) r.near most
 
-lacks_program : (input : List ℕ) (left : Option (List ℕ)) (out : List ℕ) → ReadsUpTo [] input left → out ≡ [] → LacksProgram input left out
-lacks_program input left out r none = (none, (r.count, r.read, r.near))
+lacks_program : (k : Kept) (input : List ℕ) (left : Option (List ℕ)) (out : List ℕ) → ReadsUpTo [] input left → out ≡ [] → k.untouched → LacksProgram k input left out
+lacks_program k input left out r none same = (none, same, (r.count, r.read, r.near))
 
 told_text : (input text separator : List ℕ) (after : Option (List ℕ)) → IsTextOf (Some input) after text separator → (cut_of input).text ≡ text
 told_text input text separator None told = absurd told
@@ -249,17 +250,17 @@ told_text input text separator (Some rest) told = ap (λ c. c.text) told
 -- ---- the script was answered
 
 -- the output of the same verdict for another script
-refused_alike : (input text out : List ℕ) (c : CutInput) → Outputs IsRefused IsAll text (replied []) out → c.text ≡ text → Writes IsRefused IsAll Run c out
-refused_alike input text out c (Accepted items program, judged, never, written) e = absurd never
-refused_alike input text out c (IsRefusedBy fault, judged, is, written) e = (IsRefusedBy fault, subst (λ t. Judged t (IsRefusedBy fault)) (sym e) judged, tt, written)
+refused_alike : (k : Kept) (input text out : List ℕ) (c : CutInput) → Outputs (Refusing k) IsAll text (replied []) out → c.text ≡ text → Writes (Refusing k) IsAll Run c out
+refused_alike k input text out c (Accepted items program, judged, never, written) e = absurd never
+refused_alike k input text out c (IsRefusedBy fault, judged, same, written) e = (IsRefusedBy fault, subst (λ t. Judged t (IsRefusedBy fault)) (sym e) judged, same, written)
 
 of_text : (text text' : List ℕ) (P : Verdict → Type 0) → text' ≡ text → OfVerdict text P → OfVerdict text' P
 of_text text text' P e w = subst (λ t. OfVerdict t P) (sym e) w
 
-done_row : (t u : InputState) (input rest text out : List ℕ) (left : Option (List ℕ)) (given : List (List ℕ)) → ReadsText fresh (Some input) t (Some rest) text → Gives t (Some rest) u left given → IsOver u → IsAtEnd left
-    → bytes_read u ≤ MOST_INPUT → Outputs IsAccepted IsAll text (replied given) out → Row Done Run input left out
-done_row t u input rest text out None given r g over end most w = absurd g.hands.consumed
-done_row t u input rest text out (Some more) given r g over end most w =
+done_row : (k : Kept) (t u : InputState) (input rest text out : List ℕ) (left : Option (List ℕ)) (given : List (List ℕ)) → ReadsText fresh (Some input) t (Some rest) text → Gives t (Some rest) u left given → IsOver u → IsAtEnd left
+    → bytes_read u ≤ MOST_INPUT → Outputs (Accepting k given) IsAll text (replied given) out → Row Done k Run input left out
+done_row k t u input rest text out None given r g over end most w = absurd g.hands.consumed
+done_row k t u input rest text out (Some more) given r g over end most w =
     let all = gives_then fresh (Some input) t (Some rest) u (Some more) r.lines given r.gives g in
     let f = front u input more (r.lines ++ given) all in
     let whole : bytes_read u ≡ length input = omega (arith, f.size, ap length f.whole, length-append all.hands.bytes more, ap length end) in
@@ -268,95 +269,95 @@ done_row t u input rest text out (Some more) given r g over end most w =
     r.told ∙ ap (λ l. record { text = text; separator = r.separator; script = l }) (g.told ∙ ap (λ l. given ++ lines_of l) none ∙ append-nil given) in (
       omega (arith, whole, most),
       subst (λ n. HasRead n input (Some more)) whole (has_read u input more (r.lines ++ given) all most),
-      subst (λ c. Writes IsAccepted IsAll Run c out) (sym parts) w,
+      subst (λ (c : CutInput). Writes (Accepting k c.script) IsAll Run c out) (sym parts) w,
     )
 
 was_going : (a b : Bool) → (IsTrue a → IsTrue b) → b ≡ false → a ≡ false
 was_going true b still going = let ended = still refl in cc
 was_going false b still going = refl
 
-script_stops : (t u : InputState) (input rest text out : List ℕ) (left : Option (List ℕ)) (given : List (List ℕ)) → ReadsText fresh (Some input) t (Some rest) text → Gives t (Some rest) u left given → IsCutOff u
-    → bytes_read u ≤ MOST_INPUT → Outputs IsAccepted IsAll text (replied given) out → StopsReading Run input left out
-script_stops t u input rest text out left given r g off most w =
+script_stops : (k : Kept) (t u : InputState) (input rest text out : List ℕ) (left : Option (List ℕ)) (given : List (List ℕ)) → ReadsText fresh (Some input) t (Some rest) text → Gives t (Some rest) u left given → IsCutOff u
+    → bytes_read u ≤ MOST_INPUT → Outputs (Accepting k given) IsAll text (replied given) out → StopsReading k Run input left out
+script_stops k t u input rest text out left given r g off most w =
     let all = gives_then fresh (Some input) t (Some rest) u left r.lines given r.gives g in
-    stops_reading Run u input left (r.lines ++ given) out all off most
-    (subst (λ o. CutOff o Run out) (sym (cuts t input rest text r (was_going t.ended u.ended g.still off.1) given)) w)
+    stops_reading k Run u input left (r.lines ++ given) out all off most
+    (subst (λ o. CutOff k o Run out) (sym (cuts t input rest text r (was_going t.ended u.ended g.still off.1) given)) w)
 
-script_long : (t u : InputState) (input rest text out : List ℕ) (left : Option (List ℕ)) (given : List (List ℕ)) → ReadsText fresh (Some input) t (Some rest) text → GivesPast t (Some rest) u left given → IsCutOff u
-    → Outputs IsAccepted IsAll text (replied given) out → Row TooLong Run input left out
-script_long t u input rest text out left given r g off w =
+script_long : (k : Kept) (t u : InputState) (input rest text out : List ℕ) (left : Option (List ℕ)) (given : List (List ℕ)) → ReadsText fresh (Some input) t (Some rest) text → GivesPast t (Some rest) u left given → IsCutOff u
+    → Outputs (Accepting k given) IsAll text (replied given) out → Row TooLong k Run input left out
+script_long k t u input rest text out left given r g off w =
     let all = gives_then fresh (Some input) t (Some rest) u g.before r.lines given r.gives g.gives in
-    long_by Run u input g.before g.more left (r.lines ++ given) out all off g.past g.full
-    (subst (λ o. CutOff o Run out) (sym (cuts t input rest text r (was_going t.ended u.ended g.gives.still off.1) given)) w)
+    long_by k Run u input g.before g.more left (r.lines ++ given) out all off g.past g.full
+    (subst (λ o. CutOff k o Run out) (sym (cuts t input rest text r (was_going t.ended u.ended g.gives.still off.1) given)) w)
 
 -- the program was read, and nothing since
 after_program : (t u : InputState) (input rest text : List ℕ) (left : Option (List ℕ)) → ReadsText fresh (Some input) t (Some rest) text → EndsWhereSeen t (Some rest) → bytes_read t ≤ MOST_INPUT
     → ReadsNothing t (Some rest) u left → ReadsUpTo [] input left
 after_program t u input rest text left r seen most same = subst (λ l. ReadsUpTo [] input l) (sym same.1) (reads_program t input (Some rest) text r seen most)
 
-memory_row : (t u : InputState) (input rest text out : List ℕ) (left : Option (List ℕ)) → ReadsText fresh (Some input) t (Some rest) text → EndsWhereSeen t (Some rest) → bytes_read t ≤ MOST_INPUT
-    → bytes_read u ≤ MOST_INPUT → ServesInPart t (Some rest) u left text out → Row Memory Run input left out
-memory_row t u input rest text out left r seen most most' (inl (none, same)) = inr (inl (lacks_program input left out (after_program t u input rest text left r seen most same) none))
-memory_row t u input rest text out left r seen most most' (inr (inl (given, g, off, w))) = inl (script_stops t u input rest text out left given r g off most' w)
-memory_row t u input rest text out left r seen most most' (inr (inr (given, g, near, w))) =
+memory_row : (k : Kept) (t u : InputState) (input rest text out : List ℕ) (left : Option (List ℕ)) → ReadsText fresh (Some input) t (Some rest) text → EndsWhereSeen t (Some rest) → bytes_read t ≤ MOST_INPUT
+    → bytes_read u ≤ MOST_INPUT → ServesInPart k t (Some rest) u left text out → Row Memory k Run input left out
+memory_row k t u input rest text out left r seen most most' (inl (none, same, reads)) = inr (inl (lacks_program k input left out (after_program t u input rest text left r seen most reads) none same))
+memory_row k t u input rest text out left r seen most most' (inr (inl (given, g, off, w))) = inl (script_stops k t u input rest text out left given r g off most' w)
+memory_row k t u input rest text out left r seen most most' (inr (inr (given, g, near, w))) =
     inr (inr (
       readable t input (Some rest) text r seen most,
       (given, reads_up_to t u input rest text left given r seen g near most', of_text text (cut_of input).text _ (told_text input text r.separator (pending t (Some rest)) r.told) w),
     ))
 
-served_row : (status : Status) (t u : InputState) (input rest text out : List ℕ) (left : Option (List ℕ)) → ReadsText fresh (Some input) t (Some rest) text → EndsWhereSeen t (Some rest) → bytes_read t ≤ MOST_INPUT
-    → bytes_read u ≤ MOST_INPUT → Serves status t (Some rest) u left text out → Row status Run input left out
-served_row Done t u input rest text out left r seen most most' (given, g, over, end, w) = done_row t u input rest text out left given r g over end most' w
-served_row Refused t u input rest text out left r seen most most' (same, w) = (
+served_row : (k : Kept) (status : Status) (t u : InputState) (input rest text out : List ℕ) (left : Option (List ℕ)) → ReadsText fresh (Some input) t (Some rest) text → EndsWhereSeen t (Some rest) → bytes_read t ≤ MOST_INPUT
+    → bytes_read u ≤ MOST_INPUT → Serves status k t (Some rest) u left text out → Row status k Run input left out
+served_row k Done t u input rest text out left r seen most most' (given, g, over, end, w) = done_row k t u input rest text out left given r g over end most' w
+served_row k Refused t u input rest text out left r seen most most' (same, w) = (
   readable t input (Some rest) text r seen most,
   after_program t u input rest text left r seen most same,
-  refused_alike input text out (cut_of input) w (told_text input text r.separator (pending t (Some rest)) r.told),
+  refused_alike k input text out (cut_of input) w (told_text input text r.separator (pending t (Some rest)) r.told),
 )
-served_row WriteFault t u input rest text out left r seen most most' (given, g, near, w) = (
+served_row k WriteFault t u input rest text out left r seen most most' (given, g, near, w) = (
   readable t input (Some rest) text r seen most,
   (given, reads_up_to t u input rest text left given r seen g near most', of_text text (cut_of input).text _ (told_text input text r.separator (pending t (Some rest)) r.told) w),
 )
-served_row ReadFault t u input rest text out left r seen most most' (given, g, off, w) = script_stops t u input rest text out left given r g off most' w
-served_row TooLong t u input rest text out left r seen most most' (given, g, off, w) = script_long t u input rest text out left given r g off w
-served_row Memory t u input rest text out left r seen most most' w = memory_row t u input rest text out left r seen most most' w
-served_row Usage t u input rest text out left r seen most most' never = absurd never
+served_row k ReadFault t u input rest text out left r seen most most' (given, g, off, w) = script_stops k t u input rest text out left given r g off most' w
+served_row k TooLong t u input rest text out left r seen most most' (given, g, off, w) = script_long k t u input rest text out left given r g off w
+served_row k Memory t u input rest text out left r seen most most' w = memory_row k t u input rest text out left r seen most most' w
+served_row k Usage t u input rest text out left r seen most most' never = absurd never
 
-served : (status : Status) (t u : InputState) (input text : List ℕ) (mid left sink sink' : Option (List ℕ)) → ReadsText fresh (Some input) t mid text → EndsWhereSeen t mid → bytes_read t ≤ MOST_INPUT
-    → bytes_read u ≤ MOST_INPUT → (out : List ℕ) × Appends sink sink' out × Serves status t mid u left text out → (out : List ℕ) × Appends sink sink' out × Row status Run input left out
-served status t u input text None left sink sink' r seen most most' s = absurd r.told
-served status t u input text (Some rest) left sink sink' r seen most most' s =
-    (s.0, s.1, served_row status t u input rest text s.0 left r seen most most' s.2)
+served : (k : Kept) (status : Status) (t u : InputState) (input text : List ℕ) (mid left sink sink' : Option (List ℕ)) → ReadsText fresh (Some input) t mid text → EndsWhereSeen t mid → bytes_read t ≤ MOST_INPUT
+    → bytes_read u ≤ MOST_INPUT → (out : List ℕ) × Appends sink sink' out × Serves status k t mid u left text out → (out : List ℕ) × Appends sink sink' out × Row status k Run input left out
+served k status t u input text None left sink sink' r seen most most' s = absurd r.told
+served k status t u input text (Some rest) left sink sink' r seen most most' s =
+    (s.0, s.1, served_row k status t u input rest text s.0 left r seen most most' s.2)
 
 -- the script was read and answered
-pub text_served : (status : Status) (a t u : InputState) (left mid left' sink sink' : Option (List ℕ)) (text : List ℕ) → a ≡ fresh → ReadsText a left t mid text → EndsWhereSeen t mid → bytes_read t ≤ MOST_INPUT
-    → bytes_read u ≤ MOST_INPUT → (out : List ℕ) × Appends sink sink' out × Serves status t mid u left' text out
-    → IfSome left (λ input. (out : List ℕ) × Appends sink sink' out × Row status Run input left' out)
-text_served status a t u None mid left' sink sink' text new r seen most most' s = tt
-text_served status a t u (Some input) mid left' sink sink' text new r seen most most' s =
-    served status t u input text mid left' sink sink' (subst (λ v. ReadsText v (Some input) t mid text) new r) seen most most' s
+pub text_served : (k : Kept) (status : Status) (a t u : InputState) (left mid left' sink sink' : Option (List ℕ)) (text : List ℕ) → a ≡ fresh → ReadsText a left t mid text → EndsWhereSeen t mid → bytes_read t ≤ MOST_INPUT
+    → bytes_read u ≤ MOST_INPUT → (out : List ℕ) × Appends sink sink' out × Serves status k t mid u left' text out
+    → IfSome left (λ input. (out : List ℕ) × Appends sink sink' out × Row status k Run input left' out)
+text_served k status a t u None mid left' sink sink' text new r seen most most' s = tt
+text_served k status a t u (Some input) mid left' sink sink' text new r seen most most' s =
+    served k status t u input text mid left' sink sink' (subst (λ v. ReadsText v (Some input) t mid text) new r) seen most most' s
 
-cut_replayed : (o : Option CutInput) (out : List ℕ) → CutOff o Run out → CutOff o Replay out
-cut_replayed None out off = off
-cut_replayed (Some c) out off = off
+cut_replayed : (k : Kept) (o : Option CutInput) (out : List ℕ) → CutOff k o Run out → CutOff k o Replay out
+cut_replayed k None out off = off
+cut_replayed k (Some c) out off = off
 
-stop_replayed : (input : List ℕ) (left : Option (List ℕ)) (out : List ℕ) → StopsReading Run input left out → StopsReading Replay input left out
-stop_replayed input left out (n, read, off) = (n, read, cut_replayed (cut (whole_lines (take n input))) out off)
+stop_replayed : (k : Kept) (input : List ℕ) (left : Option (List ℕ)) (out : List ℕ) → StopsReading k Run input left out → StopsReading k Replay input left out
+stop_replayed k input left out (n, read, off) = (n, read, cut_replayed k (cut (whole_lines (take n input))) out off)
 
-replayed : (status : Status) (input out : List ℕ) (left : Option (List ℕ)) → Row status Run input left out → Row status Replay input left out
-replayed Done input out left row = row
-replayed Refused input out left row = row
-replayed WriteFault input out left row = row
-replayed ReadFault input out left row = stop_replayed input left out row
-replayed TooLong input out left (long, rest, off) = (long, rest, cut_replayed (cut (whole_lines (take MOST_INPUT input))) out off)
-replayed Memory input out left (inl row) = inl (stop_replayed input left out row)
-replayed Memory input out left (inr row) = inr row
-replayed Usage input out left row = row
+replayed : (k : Kept) (status : Status) (input out : List ℕ) (left : Option (List ℕ)) → Row status k Run input left out → Row status k Replay input left out
+replayed k Done input out left row = row
+replayed k Refused input out left row = row
+replayed k WriteFault input out left row = row
+replayed k ReadFault input out left row = stop_replayed k input left out row
+replayed k TooLong input out left (long, rest, off) = (long, rest, cut_replayed k (cut (whole_lines (take MOST_INPUT input))) out off)
+replayed k Memory input out left (inl row) = inl (stop_replayed k input left out row)
+replayed k Memory input out left (inr row) = inr row
+replayed k Usage input out left row = row
 
 -- the same by replaying
-pub text_replayed : (status : Status) (left left' sink sink' : Option (List ℕ)) → IfSome left (λ input. (out : List ℕ) × Appends sink sink' out × Row status Run input left' out)
-    → IfSome left (λ input. (out : List ℕ) × Appends sink sink' out × Row status Replay input left' out)
-text_replayed status None left' sink sink' p = tt
-text_replayed status (Some input) left' sink sink' (out, written, row) = (out, written, replayed status input out left' row)
+pub text_replayed : (k : Kept) (status : Status) (left left' sink sink' : Option (List ℕ)) → IfSome left (λ input. (out : List ℕ) × Appends sink sink' out × Row status k Run input left' out)
+    → IfSome left (λ input. (out : List ℕ) × Appends sink sink' out × Row status k Replay input left' out)
+text_replayed k status None left' sink sink' p = tt
+text_replayed k status (Some input) left' sink sink' (out, written, row) = (out, written, replayed k status input out left' row)
 
 -- ---- a page was written
 
@@ -373,35 +374,45 @@ page_writes : (Is : Verdict → Type 0) (page : Page) (c : CutInput) (text out :
 page_writes Is Canonical c text out e w = subst (λ v. Outputs Is IsAll v (printed Canonical) out) (sym e) w
 page_writes Is Listing c text out e w = subst (λ v. Outputs Is IsAll v (printed Listing) out) (sym e) w
 
-page_stops : (page : Page) (input : List ℕ) (left : Option (List ℕ)) (out : List ℕ) → ReadsUpTo [] input left → OfVerdict (cut_of input).text (λ verdict. StopsInPage page verdict out)
-    → StopsWriting (job_of_page page) input left out
-page_stops Canonical input left out r w = (r, w)
-page_stops Listing input left out r w = (r, w)
+accepted_still : (P : Type 0) → P → (page : Page) (text out : List ℕ) (lines : List (List ℕ)) → Outputs IsAccepted IsAll text (printed page) out → Outputs (Accepting (still P) lines) IsAll text (printed page) out
+accepted_still P p page text out lines (Accepted items program, judged, is, w) = (Accepted items program, judged, p, w)
+accepted_still P p page text out lines (IsRefusedBy fault, judged, never, w) = absurd never
 
-printed_row : (status : Status) (page : Page) (t : InputState) (input text out : List ℕ) (left : Option (List ℕ)) → ReadsText fresh (Some input) t left text → EndsWhereSeen t left → bytes_read t ≤ MOST_INPUT
-    → Prints status page text out → Row status (job_of_page page) input left out
-printed_row Done page t input text out left r seen most w = (
+refused_still : (P : Type 0) → P → (page : Page) (text out : List ℕ) → Outputs IsRefused IsAll text (printed page) out → Outputs (Refusing (still P)) IsAll text (printed page) out
+refused_still P p page text out (Accepted items program, judged, never, w) = absurd never
+refused_still P p page text out (IsRefusedBy fault, judged, is, w) = (IsRefusedBy fault, judged, p, w)
+
+page_stops : (P : Type 0) → P → (page : Page) (input : List ℕ) (left : Option (List ℕ)) (out : List ℕ) → ReadsUpTo [] input left → OfVerdict (cut_of input).text (λ verdict. StopsInPage page verdict out)
+    → StopsWriting (still P) (job_of_page page) input left out
+page_stops P p Canonical input left out r w = (r, w, p)
+page_stops P p Listing input left out r w = (r, w, p)
+
+printed_row : (status : Status) (P : Type 0) → P → (page : Page) (t : InputState) (input text out : List ℕ) (left : Option (List ℕ)) → ReadsText fresh (Some input) t left text → EndsWhereSeen t left → bytes_read t ≤ MOST_INPUT
+    → Prints status page text out → Row status (still P) (job_of_page page) input left out
+printed_row Done P p page t input text out left r seen most w = (
   page_within page input (readable t input left text r seen most),
   page_read page input left (reads_program t input left text r seen most),
-  page_writes IsAccepted page (cut_of input) text out (told_text input text r.separator (pending t left) r.told) w,
+  page_writes (Accepting (still P) (cut_of input).script) page (cut_of input) text out (told_text input text r.separator (pending t left) r.told) (accepted_still P p page text out (cut_of input).script w),
 )
-printed_row Refused page t input text out left r seen most w = (
+printed_row Refused P p page t input text out left r seen most w = (
   readable t input left text r seen most,
   reads_program t input left text r seen most,
-  page_writes IsRefused page (cut_of input) text out (told_text input text r.separator (pending t left) r.told) w,
+  page_writes (Refusing (still P)) page (cut_of input) text out (told_text input text r.separator (pending t left) r.told) (refused_still P p page text out w),
 )
-printed_row WriteFault page t input text out left r seen most w = (
+printed_row WriteFault P p page t input text out left r seen most w = (
   readable t input left text r seen most,
-  page_stops page input left out (reads_program t input left text r seen most) (of_text text (cut_of input).text _ (told_text input text r.separator (pending t left) r.told) w),
+  page_stops P p page input left out (reads_program t input left text r seen most) (of_text text (cut_of input).text _ (told_text input text r.separator (pending t left) r.told) w),
 )
-printed_row Memory page t input text out left r seen most w = inr (lacks_room (job_of_page page) input left out (lacks_program input left out (reads_program t input left text r seen most) w))
-printed_row ReadFault page t input text out left r seen most w = absurd w
-printed_row TooLong page t input text out left r seen most w = absurd w
-printed_row Usage page t input text out left r seen most w = absurd w
+printed_row Memory P p page t input text out left r seen most w =
+    inr (lacks_room (still P) (job_of_page page) input left out (lacks_program (still P) input left out (reads_program t input left text r seen most) w p))
+printed_row ReadFault P p page t input text out left r seen most w = absurd w
+printed_row TooLong P p page t input text out left r seen most w = absurd w
+printed_row Usage P p page t input text out left r seen most w = absurd w
 
-pub text_printed : (status : Status) (page : Page) (a t : InputState) (left left' sink sink' : Option (List ℕ)) (text : List ℕ) → a ≡ fresh → ReadsText a left t left' text → EndsWhereSeen t left'
+-- nothing is done with what is held
+pub text_printed : (status : Status) (P : Type 0) → P → (page : Page) (a t : InputState) (left left' sink sink' : Option (List ℕ)) (text : List ℕ) → a ≡ fresh → ReadsText a left t left' text → EndsWhereSeen t left'
     → bytes_read t ≤ MOST_INPUT → (out : List ℕ) × Appends sink sink' out × Prints status page text out
-    → IfSome left (λ input. (out : List ℕ) × Appends sink sink' out × Row status (job_of_page page) input left' out)
-text_printed status page a t None left' sink sink' text new r seen most p = tt
-text_printed status page a t (Some input) left' sink sink' text new r seen most (out, written, w) =
-    (out, written, printed_row status page t input text out left' (subst (λ v. ReadsText v (Some input) t left' text) new r) seen most w)
+    → IfSome left (λ input. (out : List ℕ) × Appends sink sink' out × Row status (still P) (job_of_page page) input left' out)
+text_printed status P p page a t None left' sink sink' text new r seen most w = tt
+text_printed status P p page a t (Some input) left' sink sink' text new r seen most (out, written, w) =
+    (out, written, printed_row status P p page t input text out left' (subst (λ v. ReadsText v (Some input) t left' text) new r) seen most w)

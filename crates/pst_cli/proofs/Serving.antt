@@ -1,33 +1,30 @@
 -- What comes of the text of a program.
-use Rattle.std.proofs.Common.{◌≡◌, ℕ, inl, inr, List, [], ◌∷◌, take, refl, sym, ◌∙◌, subst, arith, Option, None, Some, append-nil}
-use Rattle.std.specs.Prelude.{IfSome, IsSome}
+use Rattle.std.proofs.Common.{◌≡◌, ℕ, inl, inr, List, [], ◌∷◌, refl, sym, ◌∙◌, subst, Option, Some, append-nil}
 use Rattle.std.specs.Io.KnownBytes.{Appends, IsAtEnd}
 use Rattle.pst_tree.specs.Syntax.{Item}
 use Rattle.pst_types.specs.Declarations.{NamedProgram}
 use Rattle.pst_program.specs.declared.program.Program.{Program}
 use Rattle.pst_types.specs.ProcedureView.{program_of}
-use Rattle.pst_history.specs.History.{History, opening, begun}
+use Rattle.pst_history.specs.Meaning.{Meaning}
+use Rattle.pst_history.specs.History.{History}
 use Rattle.pst_history.specs.Direct.{meaning_of}
-use Rattle.pst_io.specs.declared.room.TheConstants.{MOST_INPUT}
-use Rattle.pst_io.specs.Text.{whole_lines}
 use Rattle.pst_io.specs.Input.{InputState, Gives, IsOver}
 use Rattle.pst_io.proofs.Handing.{gives_none}
 use Rattle.pst_cli.specs.declared.fault.Fault.{Fault}
 use Rattle.pst_cli.specs.declared.job.Job.{Job}
-use Rattle.pst_cli.specs.declared.job.Job.TheVariants.{Run, Replay, Check, Code}
+use Rattle.pst_cli.specs.declared.job.Job.TheVariants.{Check, Code}
 use Rattle.pst_cli.specs.declared.page.Page.{Page}
 use Rattle.pst_cli.specs.declared.page.Page.TheVariants.{Canonical, Listing}
 use Rattle.pst_cli.specs.declared.stop.Stop.{Stop}
 use Rattle.pst_cli.specs.declared.stop.Stop.TheVariants as stop
 use Rattle.pst_cli.specs.declared.status.Status.{Status}
 use Rattle.pst_cli.specs.declared.status.Status.TheVariants.{Done, ReadFault, WriteFault, Usage, Refused, TooLong, Memory}
-use Rattle.pst_cli.specs.Input.{CutInput, cut}
-use Rattle.pst_cli.specs.Pieces.{pieces_from, IsAll, IsPartOf}
+use Rattle.pst_cli.specs.Pieces.{pieces_from, state_after, IsAll, IsPartOf}
 use Rattle.pst_cli.specs.Script.{script_of}
+use Rattle.pst_cli.specs.Kept.{Kept, first_history, kept_by, still}
 use Rattle.pst_cli.specs.Verdict.{Accepted, Refused as IsRefusedBy, Judged, HasFault}
-use Rattle.pst_cli.specs.Output.{page_text}
+use Rattle.pst_cli.specs.Output.{page_text, replied, Outputs, OfVerdict, Accepting, Refusing, StopsInPiece, StopsBeforePiece}
 use Rattle.pst_cli.specs.Reading.{IsNear}
-use Rattle.pst_cli.specs.Rows.{IsWithin, CutOff, Row, IsComplete}
 use Rattle.pst_cli.specs.Serving.{Refuses, StopsAtReply, StopsAnswering, Serves, Prints, status_of}
 
 one_whole : (piece out : List ℕ) → out ≡ piece → IsAll (piece ∷ []) out
@@ -44,14 +41,15 @@ fault_printed ReadFault page text out fault has w = absurd w
 fault_printed TooLong page text out fault has w = absurd w
 fault_printed Usage page text out fault has w = absurd w
 
-pub fault_served : (status : Status) (a : InputState) (left : Option (List ℕ)) (text out : List ℕ) (fault : Fault) → IsNear a → HasFault text fault.kind fault.line → Refuses status fault out → Serves status a left a left text out
-fault_served Refused a left text out fault near has w = ((refl, refl), (IsRefusedBy fault, has, tt, one_whole _ out w))
-fault_served WriteFault a left text out fault near has w = ([], gives_none a left, near, (IsRefusedBy fault, has, (refl, w)))
-fault_served Memory a left text out fault near has w = inl (w, (refl, refl))
-fault_served Done a left text out fault near has w = absurd w
-fault_served ReadFault a left text out fault near has w = absurd w
-fault_served TooLong a left text out fault near has w = absurd w
-fault_served Usage a left text out fault near has w = absurd w
+pub fault_served : (status : Status) (k : Kept) (a : InputState) (left : Option (List ℕ)) (text out : List ℕ) (fault : Fault) → k.untouched → IsNear a → HasFault text fault.kind fault.line → Refuses status fault out
+    → Serves status k a left a left text out
+fault_served Refused k a left text out fault same near has w = ((refl, refl), (IsRefusedBy fault, has, same, one_whole _ out w))
+fault_served WriteFault k a left text out fault same near has w = ([], gives_none a left, near, (IsRefusedBy fault, has, (refl, w, same)))
+fault_served Memory k a left text out fault same near has w = inl (w, same, (refl, refl))
+fault_served Done k a left text out fault same near has w = absurd w
+fault_served ReadFault k a left text out fault same near has w = absurd w
+fault_served TooLong k a left text out fault same near has w = absurd w
+fault_served Usage k a left text out fault same near has w = absurd w
 
 -- ---- a page
 
@@ -70,26 +68,67 @@ page_stopped stop.TooLong page text piece out items program judged is s = absurd
 
 -- ---- the script
 
-pub script_answered : (a b : InputState) (left left' : Option (List ℕ)) (text out : List ℕ) (items : List Item) (program : Program) (history : History) (given : List (List ℕ))
-    → Judged text (Accepted items (program_of program)) → history ≡ begun (opening (meaning_of program).shape) → Gives a left b left' given → IsOver b → IsAtEnd left'
-    → IsAll (pieces_from (script_of (meaning_of program)) history given) out → Serves Done a left b left' text out
-script_answered a b left left' text out items program history given judged new g over end w =
-    (given, g, over, end, (Accepted items (program_of program), judged, tt, subst (λ h. IsAll (pieces_from (script_of (meaning_of program)) h given) out) new w))
+pub script_answered : {T : Type 0} (leaves breaks : Meaning → T → History → Type 0) (old new : T) (a b : InputState) (left left' : Option (List ℕ)) (text out : List ℕ) (items : List Item) (program : Program)
+    (given : List (List ℕ)) → Judged text (Accepted items (program_of program)) → Gives a left b left' given → IsOver b → IsAtEnd left'
+    → IsAll (pieces_from (script_of (meaning_of program)) (first_history (meaning_of program)) given) out
+    → leaves (meaning_of program) new (state_after (script_of (meaning_of program)) (first_history (meaning_of program)) given)
+    → Serves Done (kept_by leaves breaks old new) a left b left' text out
+script_answered leaves breaks old new a b left left' text out items program given judged g over end w kept =
+    (given, g, over, end, (Accepted items (program_of program), judged, kept, w))
 
-stopped : (s : Stop) (a b : InputState) (left left' : Option (List ℕ)) (text out : List ℕ) (items : List Item) (program : Program) (given : List (List ℕ))
-    → Judged text (Accepted items (program_of program)) → StopsAnswering (script_of (meaning_of program)) (begun (opening (meaning_of program).shape)) s a left b left' given out
-    → Serves (status_of s) a left b left' text out
-stopped stop.Read a b left left' text out items program given judged (g, off, w) = (given, g, off, (Accepted items (program_of program), judged, tt, w))
-stopped stop.TooLong a b left left' text out items program given judged (g, off, w) = (given, g, off, (Accepted items (program_of program), judged, tt, w))
-stopped stop.Write a b left left' text out items program given judged (g, near, w) = (given, g, near, (Accepted items (program_of program), judged, w))
-stopped stop.Memory a b left left' text out items program given judged (g, inl (off, w)) = inr (inl (given, g, off, (Accepted items (program_of program), judged, tt, w)))
-stopped stop.Memory a b left left' text out items program given judged (g, inr (near, w)) = inr (inr (given, g, near, (Accepted items (program_of program), judged, w)))
+pub script_stopped : {T : Type 0} (leaves breaks : Meaning → T → History → Type 0) (old new : T) (s : Stop) (a b : InputState) (left left' : Option (List ℕ)) (text out : List ℕ) (items : List Item)
+    (program : Program) (given : List (List ℕ)) → Judged text (Accepted items (program_of program))
+    → StopsAnswering (script_of (meaning_of program)) (first_history (meaning_of program)) (leaves (meaning_of program) new) (breaks (meaning_of program) new) s a left b left' given out
+    → Serves (status_of s) (kept_by leaves breaks old new) a left b left' text out
+script_stopped leaves breaks old new stop.Read a b left left' text out items program given judged (g, off, w, kept) = (given, g, off, (Accepted items (program_of program), judged, kept, w))
+script_stopped leaves breaks old new stop.TooLong a b left left' text out items program given judged (g, off, w, kept) = (given, g, off, (Accepted items (program_of program), judged, kept, w))
+script_stopped leaves breaks old new stop.Write a b left left' text out items program given judged (g, near, w, kept) = (given, g, near, (Accepted items (program_of program), judged, (w, kept)))
+script_stopped leaves breaks old new stop.Memory a b left left' text out items program given judged (g, inl (off, w, kept)) = inr (inl (given, g, off, (Accepted items (program_of program), judged, kept, w)))
+script_stopped leaves breaks old new stop.Memory a b left left' text out items program given judged (g, inr (near, w, kept)) = inr (inr (given, g, near, (Accepted items (program_of program), judged, (w, kept))))
 
-pub script_stopped : (s : Stop) (a b : InputState) (left left' : Option (List ℕ)) (text out : List ℕ) (items : List Item) (program : Program) (history : History) (given : List (List ℕ))
-    → Judged text (Accepted items (program_of program)) → history ≡ begun (opening (meaning_of program).shape)
-    → StopsAnswering (script_of (meaning_of program)) history s a left b left' given out → Serves (status_of s) a left b left' text out
-script_stopped s a b left left' text out items program history given judged new w =
-    stopped s a b left left' text out items program given judged (subst (λ h. StopsAnswering (script_of (meaning_of program)) h s a left b left' given out) new w)
+-- ---- what is held, said otherwise
+
+-- what is held as the one says is held as the other says
+pub record Implies (k n : Kept) : Type 0 where
+  pub leaves : (m : Meaning) (lines : List (List ℕ)) → k.leaves m lines → n.leaves m lines
+  pub breaks : (m : Meaning) (lines : List (List ℕ)) → k.breaks m lines → n.breaks m lines
+  pub untouched : k.untouched → n.untouched
+
+accepted_as : (k n : Kept) → Implies k n → (text out : List ℕ) (lines : List (List ℕ)) → Outputs (Accepting k lines) IsAll text (replied lines) out → Outputs (Accepting n lines) IsAll text (replied lines) out
+accepted_as k n i text out lines (Accepted items program, judged, kept, w) = (Accepted items program, judged, i.leaves _ lines kept, w)
+accepted_as k n i text out lines (IsRefusedBy fault, judged, never, w) = absurd never
+
+refused_as : (k n : Kept) → Implies k n → (text out : List ℕ) → Outputs (Refusing k) IsAll text (replied []) out → Outputs (Refusing n) IsAll text (replied []) out
+refused_as k n i text out (Accepted items program, judged, never, w) = absurd never
+refused_as k n i text out (IsRefusedBy fault, judged, same, w) = (IsRefusedBy fault, judged, i.untouched same, w)
+
+in_piece_as : (k n : Kept) → Implies k n → (text out : List ℕ) (lines : List (List ℕ)) → OfVerdict text (λ verdict. StopsInPiece k lines verdict out) → OfVerdict text (λ verdict. StopsInPiece n lines verdict out)
+in_piece_as k n i text out lines (Accepted items program, judged, (w, kept)) = (Accepted items program, judged, (w, i.leaves _ lines kept))
+in_piece_as k n i text out lines (IsRefusedBy fault, judged, (none, w, same)) = (IsRefusedBy fault, judged, (none, w, i.untouched same))
+
+before_piece_as : (k n : Kept) → Implies k n → (text out : List ℕ) (lines : List (List ℕ)) → OfVerdict text (λ verdict. StopsBeforePiece k lines verdict out) → OfVerdict text (λ verdict. StopsBeforePiece n lines verdict out)
+before_piece_as k n i text out lines (Accepted items program, judged, (w, kept)) = (Accepted items program, judged, (w, i.breaks _ lines kept))
+before_piece_as k n i text out lines (IsRefusedBy fault, judged, never) = absurd never
+
+-- what is left of a program and its script is left so too
+pub serves_as : (status : Status) (k n : Kept) → Implies k n → (a b : InputState) (left left' : Option (List ℕ)) (text out : List ℕ) → Serves status k a left b left' text out → Serves status n a left b left' text out
+serves_as Done k n i a b left left' text out (lines, g, over, end, w) = (lines, g, over, end, accepted_as k n i text out lines w)
+serves_as Refused k n i a b left left' text out (same, w) = (same, refused_as k n i text out w)
+serves_as WriteFault k n i a b left left' text out (lines, g, near, w) = (lines, g, near, in_piece_as k n i text out lines w)
+serves_as ReadFault k n i a b left left' text out (lines, g, off, w) = (lines, g, off, accepted_as k n i text out lines w)
+serves_as TooLong k n i a b left left' text out (lines, g, off, w) = (lines, g, off, accepted_as k n i text out lines w)
+serves_as Memory k n i a b left left' text out (inl (none, same, reads)) = inl (none, i.untouched same, reads)
+serves_as Memory k n i a b left left' text out (inr (inl (lines, g, off, w))) = inr (inl (lines, g, off, accepted_as k n i text out lines w))
+serves_as Memory k n i a b left left' text out (inr (inr (lines, g, near, w))) = inr (inr (lines, g, near, before_piece_as k n i text out lines w))
+serves_as Usage k n i a b left left' text out never = absurd never
+
+-- the same, with what was written
+pub served_as : (status : Status) (k n : Kept) → Implies k n → (a b : InputState) (left left' sink sink' : Option (List ℕ)) (text : List ℕ)
+    → (out : List ℕ) × Appends sink sink' out × Serves status k a left b left' text out → (out : List ℕ) × Appends sink sink' out × Serves status n a left b left' text out
+served_as status k n i a b left left' sink sink' text (out, written, w) = (out, written, serves_as status k n i a b left left' text out w)
+
+pub all_still : (P : Type 0) → P → (k : Kept) → Implies k (still P)
+all_still P p k = record { leaves = λ m lines kept. p; breaks = λ m lines kept. p; untouched = λ kept. p }
 
 -- ---- how a call ends where nothing failed
 
@@ -97,31 +136,3 @@ script_stopped s a b left left' text out items program history given judged new 
 abbrev pub job_of_page : Page → Job
 job_of_page Canonical = Check
 job_of_page Listing = Code
-
-not_cut_off : (page : Page) (o : Option CutInput) (out : List ℕ) → IsSome o → CutOff o (job_of_page page) out → ⊥
-not_cut_off page None out there off = cc
-not_cut_off Canonical (Some c) out there off = off
-not_cut_off Listing (Some c) out there off = off
-
-not_too_long : (job : Job) (input out : List ℕ) (left : Option (List ℕ)) → IsWithin job input → Row TooLong job input left out → ⊥
-not_too_long Run input out left within (long, rest, off) = omega (arith, within, long)
-not_too_long Replay input out left within (long, rest, off) = omega (arith, within, long)
-not_too_long Check input out left (inl within) (long, rest, off) = omega (arith, within, long)
-not_too_long Check input out left (inr there) (long, rest, off) = not_cut_off Canonical (cut (whole_lines (take MOST_INPUT input))) out there off
-not_too_long Code input out left (inl within) (long, rest, off) = omega (arith, within, long)
-not_too_long Code input out left (inr there) (long, rest, off) = not_cut_off Listing (cut (whole_lines (take MOST_INPUT input))) out there off
-
-complete : (status : Status) (job : Job) (input out : List ℕ) (left : Option (List ℕ)) (P Q : Type 0) → Row status job input left out → (status ≡ ReadFault → P) → (status ≡ WriteFault → Q)
-    → IsWithin job input → (P → ⊥) → (Q → ⊥) → IsComplete status
-complete Done job input out left P Q row read write within p q = tt
-complete Refused job input out left P Q row read write within p q = tt
-complete Memory job input out left P Q row read write within p q = tt
-complete ReadFault job input out left P Q row read write within p q = absurd (p (read refl))
-complete WriteFault job input out left P Q row read write within p q = absurd (q (write refl))
-complete TooLong job input out left P Q row read write within p q = absurd (not_too_long job input out left within row)
-complete Usage job input out left P Q row read write within p q = absurd row
-
-pub completes : (status : Status) (job : Job) (left left' sink sink' : Option (List ℕ)) (P Q : Type 0) → IfSome left (λ input. (out : List ℕ) × Appends sink sink' out × Row status job input left' out)
-    → (status ≡ ReadFault → P) → (status ≡ WriteFault → Q) → IfSome left (λ input. IsWithin job input → (P → ⊥) → (Q → ⊥) → IsComplete status)
-completes status job None left' sink sink' P Q row read write = tt
-completes status job (Some input) left' sink sink' P Q (out, written, row) read write = λ within p q. complete status job input out left' P Q row read write within p q

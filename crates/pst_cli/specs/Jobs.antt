@@ -1,8 +1,12 @@
 -- What the words ask for.
-use Rattle.std.specs.Prelude.{ℕ, List, [], ◌∷◌, Option, Some, None, if◌then◌else◌, codes}
+use Rattle.std.specs.Prelude.{ℕ, ◌^◌, Bool, List, [], ◌∷◌, Option, Some, None, if◌then◌else◌, codes, nat_lt}
+use Rattle.std.specs.Option.{option_map}
 use Rattle.std.specs.Str.{bytes_eq}
+use Rattle.pst_script.specs.Numerals.{number_of as written_number, passing}
 use Rattle.pst_cli.specs.declared.job.Job.{Job}
 use Rattle.pst_cli.specs.declared.job.Job.TheVariants.{Run, Replay, Check, Code}
+use Rattle.pst_cli.specs.declared.job.Task.{Task}
+use Rattle.pst_cli.specs.declared.job.Task.TheVariants.{Input, Bench}
 use Rattle.pst_cli.specs.declared.status.Status.{Status}
 use Rattle.pst_cli.specs.declared.status.Status.TheVariants as status
 
@@ -14,11 +18,19 @@ job_named word =
     else (if bytes_eq word (codes "code") then Some Code
     else None)))
 
--- one word, which names a job
-abbrev pub job_of : List (List ℕ) → Option Job
-job_of [] = None
-job_of (word ∷ []) = job_named word
-job_of (word ∷ more ∷ words) = None
+abbrev pub fits_64_bits : ℕ → Bool
+fits_64_bits n = nat_lt n (2 ^ 64)
+
+-- a numeral, as a script writes it, of at most 64 bits
+abbrev pub bench_number : List ℕ → Option ℕ
+bench_number word = passing fits_64_bits (written_number word)
+
+-- one word, which names a job, or `bench` and its number
+abbrev pub task_of : List (List ℕ) → Option Task
+task_of [] = None
+task_of (word ∷ []) = option_map Input (job_named word)
+task_of (word ∷ number ∷ []) = if bytes_eq word (codes "bench") then option_map Bench (bench_number number) else None
+task_of (word ∷ number ∷ more ∷ words) = None
 
 -- the number of a status, with which the program ends
 abbrev pub number_of : Status → ℕ

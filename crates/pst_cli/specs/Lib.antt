@@ -1,6 +1,7 @@
 pub mod Input
 pub mod Pieces
 pub mod Script
+pub mod Kept
 pub mod Verdict
 pub mod Jobs
 pub mod Output
@@ -8,4 +9,6 @@ pub mod Reasons
 pub mod Reading
 pub mod Rows
 pub mod Serving
+pub mod Storing
+pub mod Bench
 pub mod Laws

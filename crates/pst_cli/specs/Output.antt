@@ -7,7 +7,6 @@ use Rattle.pst_notation.specs.Canonical.{canonical}
 use Rattle.pst_compiled.specs.Compiled.{code_of}
 use Rattle.pst_listing.specs.Listing.{listed}
 use Rattle.pst_history.specs.Meaning.{Meaning}
-use Rattle.pst_history.specs.History.{opening, begun}
 use Rattle.pst_history.specs.Direct.{direct}
 use Rattle.pst_cli.specs.declared.job.Job.{Job}
 use Rattle.pst_cli.specs.declared.job.Job.TheVariants.{Run, Replay, Check, Code}
@@ -15,6 +14,7 @@ use Rattle.pst_cli.specs.declared.page.Page.{Page}
 use Rattle.pst_cli.specs.declared.page.Page.TheVariants.{Canonical, Listing}
 use Rattle.pst_cli.specs.Pieces.{pieces_from, IsPartOf, StopsInReply, StopsBeforeReply}
 use Rattle.pst_cli.specs.Script.{script_of}
+use Rattle.pst_cli.specs.Kept.{Kept, first_history}
 use Rattle.pst_cli.specs.Verdict.{Verdict, Accepted, Refused, Judged, fault_text}
 
 -- a program without the names that only its text needs
@@ -23,7 +23,7 @@ routines_in program = record { shape = program.shape; procedures = program.proce
 
 -- the replies to a script, from the history of the opening on in which version 0 is alone
 abbrev pub replies_of : Meaning → List (List ℕ) → List (List ℕ)
-replies_of m script = pieces_from (script_of m) (begun (opening m.shape)) script
+replies_of m script = pieces_from (script_of m) (first_history m) script
 
 -- the line of the fault, or the replies to the script
 abbrev pub replied : List (List ℕ) → Verdict → List (List ℕ)
@@ -54,20 +54,30 @@ Outputs Is IsWritten text output out = (verdict : Verdict) × Judged text verdic
 abbrev pub OfVerdict : List ℕ → (Verdict → Type 0) → Type 0
 OfVerdict text P = (verdict : Verdict) × Judged text verdict × P verdict
 
--- A proper part of the line of the fault is written, before any line of the script is read; or the lines of the script are
--- answered but for the last, and a proper part of the reply to that one is written.
-abbrev pub StopsInPiece : List (List ℕ) → Verdict → List ℕ → Type 0
-StopsInPiece given (Refused fault) out = (given ≡ []) × IsPartOf (fault_text fault) out
-StopsInPiece given (Accepted items program) out =
-    let m = direct (routines_in program) in
-    StopsInReply (script_of m) (begun (opening m.shape)) given out
+-- the program is accepted, and what is held is left after these lines of the script
+abbrev pub Accepting : Kept → List (List ℕ) → Verdict → Type 0
+Accepting k lines (Accepted items program) = k.leaves (direct (routines_in program)) lines
+Accepting k lines (Refused fault) = ⊥
 
--- the lines of the script are answered but for the last one
-abbrev pub StopsBeforePiece : List (List ℕ) → Verdict → List ℕ → Type 0
-StopsBeforePiece given (Refused fault) out = ⊥
-StopsBeforePiece given (Accepted items program) out =
+-- the program is refused, and what is held is untouched
+abbrev pub Refusing : Kept → Verdict → Type 0
+Refusing k (Accepted items program) = ⊥
+Refusing k (Refused fault) = k.untouched
+
+-- A proper part of the line of the fault is written, before any line of the script is read; or the lines of the script are
+-- carried out and answered but for the last, which is carried out, and a proper part of the reply to it is written.
+abbrev pub StopsInPiece : Kept → List (List ℕ) → Verdict → List ℕ → Type 0
+StopsInPiece k given (Refused fault) out = (given ≡ []) × IsPartOf (fault_text fault) out × k.untouched
+StopsInPiece k given (Accepted items program) out =
     let m = direct (routines_in program) in
-    StopsBeforeReply (script_of m) (begun (opening m.shape)) given out
+    StopsInReply (script_of m) (first_history m) given out × k.leaves m given
+
+-- the lines of the script are answered but for the last one, in which there was no room
+abbrev pub StopsBeforePiece : Kept → List (List ℕ) → Verdict → List ℕ → Type 0
+StopsBeforePiece k given (Refused fault) out = ⊥
+StopsBeforePiece k given (Accepted items program) out =
+    let m = direct (routines_in program) in
+    StopsBeforeReply (script_of m) (first_history m) given out × k.breaks m given
 
 -- a proper part of the line of the fault or of the page is written
 abbrev pub StopsInPage : Page → Verdict → List ℕ → Type 0

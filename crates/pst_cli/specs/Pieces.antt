@@ -1,5 +1,5 @@
 -- The pieces that answer the lines of a script, and how far they are written.
-use Rattle.std.specs.Prelude.{◌≡◌, ℕ, ◌<◌, List, [], ◌∷◌, ◌++◌, Option, Some, length, take}
+use Rattle.std.specs.Prelude.{◌≡◌, ℕ, ◌<◌, ◌⊎◌, List, [], ◌∷◌, ◌++◌, Option, Some, length, take}
 use Rattle.std.specs.List.{concat}
 use Rattle.std.specs.Option.{option_to_list}
 
@@ -43,3 +43,17 @@ pub record StopsBeforeReply {A : Type 0} (m : Answering A) (a : A) (lines : List
   pub last : List ℕ
   pub split : lines ≡ before ++ last ∷ []
   pub bytes : out ≡ concat (pieces_from m a before)
+
+-- There was no room in the last of the lines: this holds of the state before that line, or of the one after it.
+pub record BreaksIn {A : Type 0} (m : Answering A) (a : A) (P : A → Type 0) (lines : List (List ℕ)) : Type 0 where
+  pub before : List (List ℕ)
+  pub last : List ℕ
+  pub split : lines ≡ before ++ last ∷ []
+  pub state : P (state_after m a before) ⊎ P (state_after m a lines)
+
+-- This holds of the state after some first ones of the lines.
+pub record AfterSome {A : Type 0} (m : Answering A) (a : A) (P : A → Type 0) (lines : List (List ℕ)) : Type 0 where
+  pub given : List (List ℕ)
+  pub behind : List (List ℕ)
+  pub first : lines ≡ given ++ behind
+  pub state : P (state_after m a given)

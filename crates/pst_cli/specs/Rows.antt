@@ -1,18 +1,20 @@
--- The table of statuses: what was read of the input, and what was written.
--- The rows speak of the input and the output alone; where a call also leaves versions in a store, their rows will stand beside these.
+-- The table of statuses: what was read of the input, what was written, and what is held in the end.
 use Rattle.std.specs.Prelude.{◌≡◌, ℕ, ◌+◌, ◌<◌, ◌≤◌, ◌⊎◌, min, List, [], ◌++◌, length, take, drop, Option, Some, None, IsSome}
 use Rattle.pst_io.specs.declared.room.TheConstants.{MOST_INPUT, MOST_READ}
 use Rattle.pst_io.specs.Text.{whole_lines}
 use Rattle.pst_cli.specs.declared.job.Job.{Job}
 use Rattle.pst_cli.specs.declared.job.Job.TheVariants.{Run, Replay, Check, Code}
+use Rattle.pst_cli.specs.declared.job.Task.{Task}
+use Rattle.pst_cli.specs.declared.job.Task.TheVariants.{Input, Bench}
 use Rattle.pst_cli.specs.declared.page.Page.{Page}
 use Rattle.pst_cli.specs.declared.page.Page.TheVariants.{Canonical, Listing}
 use Rattle.pst_cli.specs.declared.status.Status.{Status}
 use Rattle.pst_cli.specs.declared.status.Status.TheVariants.{Done, ReadFault, WriteFault, Usage, Refused, TooLong, Memory}
 use Rattle.pst_cli.specs.Input.{CutInput, cut, cut_of, up_to}
 use Rattle.pst_cli.specs.Pieces.{IsAll}
-use Rattle.pst_cli.specs.Verdict.{Verdict, IsAccepted, IsRefused}
-use Rattle.pst_cli.specs.Output.{pieces, Outputs, OfVerdict, StopsInPiece, StopsBeforePiece, StopsInPage}
+use Rattle.pst_cli.specs.Verdict.{Verdict}
+use Rattle.pst_cli.specs.Kept.{Kept}
+use Rattle.pst_cli.specs.Output.{pieces, Outputs, OfVerdict, Accepting, Refusing, StopsInPiece, StopsBeforePiece, StopsInPage}
 
 -- ---- what was read
 
@@ -57,61 +59,56 @@ abbrev pub Writes : (Verdict → Type 0) → (List (List ℕ) → List ℕ → T
 Writes Is IsWritten job c out = Outputs Is IsWritten c.text (pieces job c.script) out
 
 -- Reading was cut off: before the program was read, and nothing was written; or in the script, of which all whole lines that were read are answered.
-abbrev pub CutOff : Option CutInput → Job → List ℕ → Type 0
-CutOff None job out = out ≡ []
-CutOff (Some c) Run out = Writes IsAccepted IsAll Run c out
-CutOff (Some c) Replay out = Writes IsAccepted IsAll Replay c out
-CutOff (Some c) Check out = ⊥
-CutOff (Some c) Code out = ⊥
+abbrev pub CutOff : Kept → Option CutInput → Job → List ℕ → Type 0
+CutOff k None job out = (out ≡ []) × k.untouched
+CutOff k (Some c) Run out = Writes (Accepting k c.script) IsAll Run c out
+CutOff k (Some c) Replay out = Writes (Accepting k c.script) IsAll Replay c out
+CutOff k (Some c) Check out = ⊥
+CutOff k (Some c) Code out = ⊥
 
 -- a read that was due did not come
-abbrev pub StopsReading : Job → List ℕ → Option (List ℕ) → List ℕ → Type 0
-StopsReading job input left out = (n : ℕ) × HasRead n input left × CutOff (cut (whole_lines (take n input))) job out
+abbrev pub StopsReading : Kept → Job → List ℕ → Option (List ℕ) → List ℕ → Type 0
+StopsReading k job input left out = (n : ℕ) × HasRead n input left × CutOff k (cut (whole_lines (take n input))) job out
 
 -- a reply or the line of the fault was not written whole, and nothing was read behind the line whose reply it was
-abbrev pub StopsScript : List ℕ → Option (List ℕ) → List ℕ → Type 0
-StopsScript input left out = (given : List (List ℕ)) × ReadsUpTo given input left × OfVerdict (cut_of input).text (λ verdict. StopsInPiece given verdict out)
+abbrev pub StopsScript : Kept → List ℕ → Option (List ℕ) → List ℕ → Type 0
+StopsScript k input left out = (given : List (List ℕ)) × ReadsUpTo given input left × OfVerdict (cut_of input).text (λ verdict. StopsInPiece k given verdict out)
 
 -- a page or the line of the fault was not written whole
-abbrev pub StopsPage : Page → List ℕ → Option (List ℕ) → List ℕ → Type 0
-StopsPage page input left out = ReadsUpTo [] input left × OfVerdict (cut_of input).text (λ verdict. StopsInPage page verdict out)
+abbrev pub StopsPage : Kept → Page → List ℕ → Option (List ℕ) → List ℕ → Type 0
+StopsPage k page input left out = ReadsUpTo [] input left × OfVerdict (cut_of input).text (λ verdict. StopsInPage page verdict out) × k.untouched
 
-abbrev pub StopsWriting : Job → List ℕ → Option (List ℕ) → List ℕ → Type 0
-StopsWriting Run input left out = StopsScript input left out
-StopsWriting Replay input left out = StopsScript input left out
-StopsWriting Check input left out = StopsPage Canonical input left out
-StopsWriting Code input left out = StopsPage Listing input left out
+abbrev pub StopsWriting : Kept → Job → List ℕ → Option (List ℕ) → List ℕ → Type 0
+StopsWriting k Run input left out = StopsScript k input left out
+StopsWriting k Replay input left out = StopsScript k input left out
+StopsWriting k Check input left out = StopsPage k Canonical input left out
+StopsWriting k Code input left out = StopsPage k Listing input left out
 
 -- there was no room for the program, or for what is written of it
-abbrev pub LacksProgram : List ℕ → Option (List ℕ) → List ℕ → Type 0
-LacksProgram input left out = (out ≡ []) × ((n : ℕ) × HasRead n input left × (n < up_to (cut_of input) [] + MOST_READ))
+abbrev pub LacksProgram : Kept → List ℕ → Option (List ℕ) → List ℕ → Type 0
+LacksProgram k input left out = (out ≡ []) × k.untouched × ((n : ℕ) × HasRead n input left × (n < up_to (cut_of input) [] + MOST_READ))
 
--- there was no room for the reply to a line, and nothing was read behind it
-abbrev pub LacksReply : List ℕ → Option (List ℕ) → List ℕ → Type 0
-LacksReply input left out = (given : List (List ℕ)) × ReadsUpTo given input left × OfVerdict (cut_of input).text (λ verdict. StopsBeforePiece given verdict out)
+-- there was no room in a line of the script, and nothing was read behind it
+abbrev pub LacksReply : Kept → List ℕ → Option (List ℕ) → List ℕ → Type 0
+LacksReply k input left out = (given : List (List ℕ)) × ReadsUpTo given input left × OfVerdict (cut_of input).text (λ verdict. StopsBeforePiece k given verdict out)
 
-abbrev pub LacksRoom : Job → List ℕ → Option (List ℕ) → List ℕ → Type 0
-LacksRoom Run input left out = LacksProgram input left out ⊎ (IsReadable input × LacksReply input left out)
-LacksRoom Replay input left out = LacksProgram input left out ⊎ (IsReadable input × LacksReply input left out)
-LacksRoom Check input left out = LacksProgram input left out
-LacksRoom Code input left out = LacksProgram input left out
+abbrev pub LacksRoom : Kept → Job → List ℕ → Option (List ℕ) → List ℕ → Type 0
+LacksRoom k Run input left out = LacksProgram k input left out ⊎ (IsReadable input × LacksReply k input left out)
+LacksRoom k Replay input left out = LacksProgram k input left out ⊎ (IsReadable input × LacksReply k input left out)
+LacksRoom k Check input left out = LacksProgram k input left out
+LacksRoom k Code input left out = LacksProgram k input left out
 
 -- ---- the table
 
--- the row of a status, for a job, an input, what the source has left of it, and what was written
-abbrev pub Row : Status → Job → List ℕ → Option (List ℕ) → List ℕ → Type 0
-Row Done job input left out = IsWithin job input × ReadsAll job input left × Writes IsAccepted IsAll job (cut_of input) out
-Row Refused job input left out = IsReadable input × ReadsUpTo [] input left × Writes IsRefused IsAll job (cut_of input) out
-Row WriteFault job input left out = IsReadable input × StopsWriting job input left out
-Row ReadFault job input left out = StopsReading job input left out
-Row TooLong job input left out = (MOST_INPUT < length input) × (left ≡ Some (drop (MOST_INPUT + 1) input)) × CutOff (cut (whole_lines (take MOST_INPUT input))) job out
-Row Memory job input left out = StopsReading job input left out ⊎ LacksRoom job input left out
-Row Usage job input left out = ⊥
-
--- where the words ask for nothing, nothing is written
-abbrev pub RowOf : Option Job → Status → List ℕ → Option (List ℕ) → List ℕ → Type 0
-RowOf None status input left out = out ≡ []
-RowOf (Some job) status input left out = Row status job input left out
+-- the row of a status, for what is held, a job, an input, what the source has left of it, and what was written
+abbrev pub Row : Status → Kept → Job → List ℕ → Option (List ℕ) → List ℕ → Type 0
+Row Done k job input left out = IsWithin job input × ReadsAll job input left × Writes (Accepting k (cut_of input).script) IsAll job (cut_of input) out
+Row Refused k job input left out = IsReadable input × ReadsUpTo [] input left × Writes (Refusing k) IsAll job (cut_of input) out
+Row WriteFault k job input left out = IsReadable input × StopsWriting k job input left out
+Row ReadFault k job input left out = StopsReading k job input left out
+Row TooLong k job input left out = (MOST_INPUT < length input) × (left ≡ Some (drop (MOST_INPUT + 1) input)) × CutOff k (cut (whole_lines (take MOST_INPUT input))) job out
+Row Memory k job input left out = StopsReading k job input left out ⊎ LacksRoom k job input left out
+Row Usage k job input left out = ⊥
 
 -- how a call ends in which neither the source nor the sink failed, and the input was not too long
 abbrev pub IsComplete : Status → Type 0
@@ -123,7 +120,8 @@ IsComplete WriteFault = ⊥
 IsComplete Usage = ⊥
 IsComplete TooLong = ⊥
 
--- what the job of the words needs may be read; there is nothing that it needs where they ask for nothing
-abbrev pub IsServable : Option Job → List ℕ → Type 0
+-- What the words ask for needs no more of the input than may be read: the bench needs nothing. They ask for something.
+abbrev pub IsServable : Option Task → List ℕ → Type 0
 IsServable None input = ⊥
-IsServable (Some job) input = IsWithin job input
+IsServable (Some (Input job)) input = IsWithin job input
+IsServable (Some (Bench number)) input = Unit {0}

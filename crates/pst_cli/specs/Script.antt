@@ -1,8 +1,10 @@
 -- What the lines of a script are answered.
 use Rattle.std.specs.Prelude.{ℕ, List, Option, Some, None, Result, Ok, Err}
+use Rattle.std.specs.Option.{option_map}
 use Rattle.pst_script.specs.declared.command.Command.{Command}
 use Rattle.pst_script.specs.declared.command.LineFault.{LineFault}
 use Rattle.pst_script.specs.declared.command.LineFault.TheVariants.{Line, Number, Memory}
+use Rattle.pst_script.specs.declared.reply.Reply.{Reply}
 use Rattle.pst_script.specs.declared.reply.Reply.TheVariants.{Refused}
 use Rattle.pst_script.specs.declared.reply.Refusal.TheVariants as because
 use Rattle.pst_script.specs.Commands.{reading}
@@ -11,13 +13,17 @@ use Rattle.pst_history.specs.Meaning.{Meaning}
 use Rattle.pst_history.specs.History.{History, reply, after}
 use Rattle.pst_cli.specs.Pieces.{Answering}
 
--- the text of the reply, if there is one
+-- the reply, if there is one
+abbrev pub answer_of : Meaning → History → Result (Option Command) LineFault → Option Reply
+answer_of m h (Ok None) = None
+answer_of m h (Ok (Some c)) = Some (reply m h c)
+answer_of m h (Err Line) = Some (Refused because.Line)
+answer_of m h (Err Number) = Some (Refused because.Number)
+answer_of m h (Err Memory) = None
+
+-- its text
 abbrev pub reply_of : Meaning → History → Result (Option Command) LineFault → Option (List ℕ)
-reply_of m h (Ok None) = None
-reply_of m h (Ok (Some c)) = Some (text_of (reply m h c))
-reply_of m h (Err Line) = Some (text_of (Refused because.Line))
-reply_of m h (Err Number) = Some (text_of (Refused because.Number))
-reply_of m h (Err Memory) = None
+reply_of m h line = option_map text_of (answer_of m h line)
 
 -- only a command makes another history
 abbrev pub next_of : Meaning → History → Result (Option Command) LineFault → History

@@ -1,23 +1,21 @@
 //! The reply to a line of a script.
 
-ghost use Rattle.std.specs.Prelude.{◌≡◌, ◌≤◌, List, ℕ, Some, IfOk, OnOk, MatchResult};
-ghost use Rattle.std.specs.Option.{option_map};
+ghost use Rattle.std.specs.Prelude.{◌≡◌, ◌≤◌, ◌⊎◌, List, ℕ, Some, IfOk, IfErr, OnOk, OnErr, MatchResult};
+ghost use Rattle.std.specs.List.{concat};
+ghost use Rattle.std.specs.Option.{option_map, option_to_list};
 ghost use Rattle.std.specs.Io.KnownBytes.{Appends};
 ghost use Rattle.pst_io.specs.Causes.{Rose};
-ghost use Rattle.pst_script.specs.Texts.{text_of};
-ghost use Rattle.pst_history.specs.Direct.{meaning_of};
-ghost use Rattle.std.specs.List.{concat};
-ghost use Rattle.std.specs.Option.{option_to_list};
 ghost use Rattle.pst_script.specs.Commands.{reading};
-ghost use Rattle.pst_replay.specs.Replay.{kept_for};
-ghost use Rattle.pst_cli.specs.Script.{script_of, reply_of, next_of};
-ghost use Rattle.pst_cli.specs.Serving.{CanReplay, StopsAtReply};
+ghost use Rattle.pst_script.specs.Texts.{text_of};
+ghost use Rattle.pst_history.specs.Meaning.{Meaning};
+ghost use Rattle.pst_history.specs.History.{History};
+ghost use Rattle.pst_cli.specs.Script.{script_of, answer_of, next_of};
+ghost use Rattle.pst_cli.specs.Serving.{StandForSome, StopsAtReply, HeldAtReply};
 
+use crate::session::Session;
 use crate::stop::Stop;
 use pst_base::{NoMemory, Text};
 use pst_io::{Sink, put};
-use pst_program::Program;
-use pst_replay::Replayer;
 use pst_script::{LineFault, Refusal, Reply, read_line, reply_text};
 use std::alloc::Global;
 
@@ -34,65 +32,80 @@ pub(crate) fn say<K: Sink>(sink: &mut K, piece: &[u8]) -> Result<(), Stop>
     }
 }
 
-/// The reply to a line on the history that the replayer keeps, which becomes the one after the line.
-fn reply_to(
+/// The reply to a line on each history that the session stands for, which becomes the one after the line.
+pub(crate) fn reply_to<X: Session>(
     alloc: Global,
-    program: &Program,
-    replayer: &mut Replayer,
+    session: &mut X,
+    held: &mut X::Held,
     line: &[u8],
 ) -> Result<Option<Reply>, NoMemory>
-    requires { CanReplay program.now replayer.old }
-    ensures reply { IfOk result (λ reply. option_map text_of reply ≡ reply_of (meaning_of program.now) (kept_for program.now replayer.old.history) (reading line.now)) }
-    ensures after { OnOk result (kept_for program.now replayer.new.history ≡ next_of (meaning_of program.now) (kept_for program.now replayer.old.history) (reading line.now)) }
-    ensures ready { OnOk result (CanReplay program.now replayer.new) }
+    requires { StandForSome X.stands session.old held.old }
+    ensures reply { IfOk result (λ reply. (m : Meaning) (h : History) → X.stands session.old held.old m h → reply ≡ answer_of m h (reading line.now)) }
+    ensures stands { OnOk result ((m : Meaning) (h : History) → X.stands session.old held.old m h → X.stands session.new held.new m (next_of m h (reading line.now))) }
+    ensures breaks { OnErr result ((m : Meaning) (h : History) → X.stands session.old held.old m h → X.breaks m held.new h ⊎ X.breaks m held.new (next_of m h (reading line.now))) }
 {
     match read_line(alloc, line) {
         Ok(None) => Ok(None),
-        Ok(Some(command)) => Ok(Some(replayer.apply(program, &command)?)),
+        Ok(Some(command)) => Ok(Some(session.apply(alloc, held, &command)?)),
         Err(LineFault::Line) => Ok(Some(Reply::Refused(Refusal::Line))),
         Err(LineFault::Number) => Ok(Some(Reply::Refused(Refusal::Number))),
-        Err(LineFault::Memory) => Err(NoMemory),
+        Err(LineFault::Memory) => {
+            session.known(held);
+            Err(NoMemory)
+        }
     }
 }
 
-/// The piece that answers a line, if it has a reply.
-fn piece_for(
-    alloc: Global,
-    program: &Program,
-    replayer: &mut Replayer,
-    line: &[u8],
-) -> Result<Option<Text>, NoMemory>
-    requires { CanReplay program.now replayer.old }
-    ensures piece { IfOk result (λ piece. piece ≡ (script_of (meaning_of program.now)).reply (kept_for program.now replayer.old.history) line.now) }
-    ensures after { OnOk result (kept_for program.now replayer.new.history ≡ (script_of (meaning_of program.now)).next (kept_for program.now replayer.old.history) line.now) }
-    ensures ready { OnOk result (CanReplay program.now replayer.new) }
+/// The text of a reply, if there is one.
+fn text_for(alloc: Global, reply: Option<Reply>) -> Result<Option<Text>, NoMemory>
+    ensures { IfOk result (λ text. text ≡ option_map text_of reply) }
 {
-    match reply_to(alloc, program, replayer, line)? {
+    match reply {
         None => Ok(None),
         Some(reply) => Ok(Some(reply_text(alloc, &reply)?)),
     }
 }
 
-/// Answers a line: its command is carried out, and then the reply is written.
-pub(crate) fn answer_line<K: Sink>(
+/// The piece that answers a line, if it has a reply.
+fn piece_for<X: Session>(
     alloc: Global,
-    program: &Program,
-    replayer: &mut Replayer,
+    session: &mut X,
+    held: &mut X::Held,
+    line: &[u8],
+) -> Result<Option<Text>, NoMemory>
+    requires { StandForSome X.stands session.old held.old }
+    ensures piece { IfOk result (λ piece. (m : Meaning) (h : History) → X.stands session.old held.old m h → piece ≡ (script_of m).reply h line.now) }
+    ensures stands { OnOk result ((m : Meaning) (h : History) → X.stands session.old held.old m h → X.stands session.new held.new m ((script_of m).next h line.now)) }
+    ensures breaks { OnErr result ((m : Meaning) (h : History) → X.stands session.old held.old m h → X.breaks m held.new h ⊎ X.breaks m held.new ((script_of m).next h line.now)) }
+{
+    let reply = reply_to(alloc, session, held, line)?;
+    session.known(held);
+    text_for(alloc, reply)
+}
+
+/// Answers a line: its command is carried out, and then the reply is written.
+pub(crate) fn answer_line<X: Session, K: Sink>(
+    alloc: Global,
+    session: &mut X,
+    held: &mut X::Held,
     sink: &mut K,
     line: &[u8],
 ) -> Result<(), Stop>
-    requires { CanReplay program.now replayer.old }
-    ensures answered { (out : List ℕ) × Appends (K.taken sink.old) (K.taken sink.new) out
-        × MatchResult result (λ _. out ≡ concat (option_to_list ((script_of (meaning_of program.now)).reply (kept_for program.now replayer.old.history) line.now)))
-        (λ stop. StopsAtReply stop ((script_of (meaning_of program.now)).reply (kept_for program.now replayer.old.history) line.now) out) }
-    ensures after { OnOk result (kept_for program.now replayer.new.history ≡ (script_of (meaning_of program.now)).next (kept_for program.now replayer.old.history) line.now) }
-    ensures ready { OnOk result (CanReplay program.now replayer.new) }
+    requires { StandForSome X.stands session.old held.old }
+    ensures answered { (m : Meaning) (h : History) → X.stands session.old held.old m h → (out : List ℕ) × Appends (K.taken sink.old) (K.taken sink.new) out
+        × MatchResult result (λ _. out ≡ concat (option_to_list ((script_of m).reply h line.now))) (λ stop. StopsAtReply stop ((script_of m).reply h line.now) out) }
+    ensures stands { OnOk result ((m : Meaning) (h : History) → X.stands session.old held.old m h → X.stands session.new held.new m ((script_of m).next h line.now)) }
+    ensures held { IfErr result (λ stop. (m : Meaning) (h : History) → X.stands session.old held.old m h
+        → HeldAtReply (script_of m) (X.leaves m held.new) (X.breaks m held.new) stop h line.now) }
     ensures later { K.faults sink.old ≤ K.faults sink.new }
     ensures write { result ≡ Err Stop.Write → Rose (K.faults sink.old) (K.faults sink.new) }
 {
-    match piece_for(alloc, program, replayer, line) {
+    match piece_for(alloc, session, held, line) {
         Err(_) => Err(Stop::Memory),
         Ok(None) => Ok(()),
-        Ok(Some(piece)) => say(sink, piece.as_slice()),
+        Ok(Some(piece)) => {
+            session.known(held);
+            say(sink, piece.as_slice())
+        }
     }
 }

@@ -1,7 +1,10 @@
 //! What the words ask for.
 
-ghost use Rattle.std.specs.Prelude.{◌≡◌, map, string_bytes};
-ghost use Rattle.pst_cli.specs.Jobs.{job_named, job_of};
+ghost use Rattle.std.specs.Prelude.{◌≡◌, map, string_bytes, true};
+ghost use Rattle.std.specs.Char.{is_ascii_digit};
+ghost use Rattle.std.specs.List.{list_all};
+ghost use Rattle.pst_script.specs.Numerals.{is_numeral};
+ghost use Rattle.pst_cli.specs.Jobs.{bench_number, job_named, task_of};
 
 /// What the program can do.
 #[derive(Clone, Copy, Debug, PartialEq, Eq)]
@@ -14,6 +17,15 @@ pub enum Job {
     Check,
     /// To print the listing of its code.
     Code,
+}
+
+/// What the words ask for.
+#[derive(Clone, Copy, Debug, PartialEq, Eq)]
+pub enum Task {
+    /// To do a job with the input.
+    Input(Job),
+    /// To run the script of the bench with this number, and to print what came of it. No input is read.
+    Bench(u64),
 }
 
 /// The job that a word names.
@@ -33,12 +45,42 @@ fn job_named(word: &[u8]) -> Option<Job>
     }
 }
 
-/// The job that the words ask for: one word that names one.
-pub(crate) fn job_of(words: &[String]) -> Option<Job>
-    ensures { result ≡ job_of (map string_bytes words.now) }
+fn are_digits(bytes: &[u8]) -> bool
+    ensures { result ≡ list_all is_ascii_digit bytes.now }
+{
+    bytes.iter().all(|byte| byte.is_ascii_digit())
+}
+
+/// Whether the word is a numeral: `0`, or a digit from 1 to 9 and then digits.
+fn is_numeral(word: &[u8]) -> bool
+    ensures { result ≡ is_numeral word.now }
+{
+    match word.split_first() {
+        None => false,
+        Some((b'0', rest)) => rest.is_empty(),
+        Some((first, rest)) => first.is_ascii_digit() && are_digits(rest),
+    }
+}
+
+/// The number that a numeral writes. None where it has more than 64 bits, and where the word is no numeral.
+fn bench_number(word: &str) -> Option<u64>
+    ensures { result ≡ bench_number word.now }
+{
+    if !is_numeral(word.as_bytes()) {
+        return None;
+    }
+    word.parse().ok()
+}
+
+/// What the words ask for: one word that names a job, or `bench` and a number.
+pub(crate) fn task_of(words: &[String]) -> Option<Task>
+    ensures { result ≡ task_of (map string_bytes words.now) }
 {
     match words {
-        [word] => job_named(word.as_bytes()),
+        [word] => Some(Task::Input(job_named(word.as_bytes())?)),
+        [word, number] if word.as_bytes() == b"bench".as_slice() => {
+            Some(Task::Bench(bench_number(number.as_str())?))
+        }
         _ => None,
     }
 }

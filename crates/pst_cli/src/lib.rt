@@ -2,12 +2,16 @@
 #![tactic(auto)]
 
 mod answer;
+mod bench;
 mod fault;
 mod job;
 mod judge;
 mod laws;
 mod page;
 mod program;
+mod replaying;
+mod running;
+mod script;
 mod serve;
 mod session;
 mod status;
@@ -15,7 +19,7 @@ mod stop;
 mod top;
 
 pub use fault::{Fault, FaultKind};
-pub use job::Job;
+pub use job::{Job, Task};
 pub use laws::{input_has_one_output, text_has_one_verdict};
 pub use status::{Status, number};
 pub use top::persist;

@@ -5,6 +5,7 @@ ghost use Rattle.std.specs.Io.KnownBytes.{Appends};
 ghost use Rattle.pst_io.specs.Causes.{Rose};
 ghost use Rattle.pst_io.specs.Input.{bytes_read};
 ghost use Rattle.pst_io.specs.Lines.{IsOpen};
+ghost use Rattle.pst_cli.specs.Kept.{kept_by};
 ghost use Rattle.pst_cli.specs.Reading.{IsNear};
 ghost use Rattle.pst_cli.specs.Serving.{Refuses, Serves, Prints};
 
@@ -13,14 +14,14 @@ use crate::answer::say;
 use crate::fault::{Fault, fault_text};
 use crate::judge::{NoProgram, program_of};
 use crate::page::{Page, page_of};
-use crate::session::answer_script;
+use crate::script::answer_script;
+use crate::session::Session;
 use crate::status::status_of;
 use pst_io::{Lines, MOST_INPUT, Sink, Source};
-use pst_replay::Replayer;
 use std::alloc::Global;
 
 /// Writes the line of a fault.
-fn refuse<K: Sink>(alloc: Global, sink: &mut K, fault: Fault) -> Status
+pub(crate) fn refuse<K: Sink>(alloc: Global, sink: &mut K, fault: Fault) -> Status
     ensures refused { (out : List ℕ) × Appends (K.taken sink.old) (K.taken sink.new) out × Refuses result fault out }
     ensures later { K.faults sink.old ≤ K.faults sink.new }
     ensures write { result ≡ Status.WriteFault → Rose (K.faults sink.old) (K.faults sink.new) }
@@ -34,20 +35,22 @@ fn refuse<K: Sink>(alloc: Global, sink: &mut K, fault: Fault) -> Status
     }
 }
 
-/// Answers the script behind a program, or writes the line of its fault.
-pub(crate) fn serve<S: Source, K: Sink>(
+/// Answers the script behind a program by a session that is begun for it, or writes the line of its fault.
+pub(crate) fn serve<X: Session, S: Source, K: Sink>(
     alloc: Global,
     text: Vec<u8>,
+    held: &mut X::Held,
     lines: &mut Lines,
     source: &mut S,
     sink: &mut K,
 ) -> Status
+    requires fresh { X.fresh held.old }
     requires short { length text.items + 1 < 2 ^ 32 }
     requires open { IsOpen lines.old (S.left source.old) }
     requires near { IsNear lines.old.input }
     requires within_old { bytes_read lines.old.input ≤ MOST_INPUT }
     ensures served { (out : List ℕ) × Appends (K.taken sink.old) (K.taken sink.new) out
-        × Serves result lines.old.input (S.left source.old) lines.new.input (S.left source.new) text.items out }
+        × Serves result (kept_by X.leaves X.breaks held.old held.new) lines.old.input (S.left source.old) lines.new.input (S.left source.new) text.items out }
     ensures within { bytes_read lines.new.input ≤ MOST_INPUT }
     ensures later { S.faults source.old ≤ S.faults source.new }
     ensures sink_later { K.faults sink.old ≤ K.faults sink.new }
@@ -57,13 +60,15 @@ pub(crate) fn serve<S: Source, K: Sink>(
     match program_of(alloc, text) {
         Err(NoProgram::Memory) => Status::Memory,
         Err(NoProgram::Fault(fault)) => refuse(alloc, sink, fault),
-        Ok(program) => {
-            let mut replayer = Replayer::new(alloc);
-            match answer_script(alloc, &program, &mut replayer, lines, source, sink) {
-                Ok(()) => Status::Done,
-                Err(stop) => status_of(stop),
+        Ok(program) => match X::begin(alloc, program, held) {
+            Err(_) => Status::Memory,
+            Ok(mut session) => {
+                match answer_script(alloc, &mut session, held, lines, source, sink) {
+                    Ok(()) => Status::Done,
+                    Err(stop) => status_of(stop),
+                }
             }
-        }
+        },
     }
 }
 

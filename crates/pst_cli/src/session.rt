@@ -1,55 +1,62 @@
-//! The script: each line is answered before the next one is read.
+//! What answers the commands of a script.
 
-ghost use Rattle.std.specs.Prelude.{◌≡◌, ◌≤◌, List, ℕ, Err};
-ghost use Rattle.std.specs.Io.KnownBytes.{Appends};
-ghost use Rattle.pst_io.specs.Causes.{Rose};
-ghost use Rattle.pst_io.specs.Input.{bytes_read};
-ghost use Rattle.pst_io.specs.Lines.{IsOpen};
+ghost use Rattle.std.specs.Prelude.{◌≡◌, ◌⊎◌, true, IfOk, OnOk, OnErr};
+ghost use Rattle.pst_program.specs.View.{routines_of};
+ghost use Rattle.pst_program.specs.Typed.{IsTyped};
+ghost use Rattle.pst_script.specs.Commands.{in_range};
+ghost use Rattle.pst_history.specs.Meaning.{Meaning};
+ghost use Rattle.pst_history.specs.History.{History, reply, after};
 ghost use Rattle.pst_history.specs.Direct.{meaning_of};
-ghost use Rattle.pst_replay.specs.Replay.{kept_for};
-ghost use Rattle.pst_cli.specs.Script.{script_of};
-ghost use Rattle.pst_cli.specs.Reading.{IsNear};
-ghost use Rattle.pst_cli.specs.Serving.{CanReplay, Answers};
+ghost use Rattle.pst_cli.specs.Kept.{first_history};
+ghost use Rattle.pst_cli.specs.Serving.{StandForSome};
 
-use crate::answer::answer_line;
-use crate::stop::Stop;
-use pst_io::{Lines, MOST_INPUT, Sink, Source};
+use pst_base::NoMemory;
 use pst_program::Program;
-use pst_replay::Replayer;
+use pst_script::{Command, Reply};
 use std::alloc::Global;
 
-/// Answers the lines that are left.
-pub(crate) fn answer_script<S: Source, K: Sink>(
-    alloc: Global,
-    program: &Program,
-    replayer: &mut Replayer,
-    lines: &mut Lines,
-    source: &mut S,
-    sink: &mut K,
-) -> Result<(), Stop>
-    requires ready { CanReplay program.now replayer.old }
-    requires open { IsOpen lines.old (S.left source.old) }
-    requires near { IsNear lines.old.input }
+/// What answers commands one after another, by a program and by what is held beside it.
+pub(crate) trait Session: Drop {
+    /// What is held beside it, and handed in at each call.
+    type Held;
 
-    ensures answered { (out : List ℕ) × Appends (K.taken sink.old) (K.taken sink.new) out
-        × Answers (script_of (meaning_of program.now)) (kept_for program.now replayer.old.history) result
-        lines.old.input (S.left source.old) lines.new.input (S.left source.new) out }
-    ensures within { bytes_read lines.new.input ≤ MOST_INPUT }
+    /// What is held is as a session may begin with it.
+    ghost fresh: { Self.Held → Type 0 };
 
-    ensures later { S.faults source.old ≤ S.faults source.new }
-    ensures sink_later { K.faults sink.old ≤ K.faults sink.new }
-    ensures read { result ≡ Err Stop.Read → Rose (S.faults source.old) (S.faults source.new) }
-    ensures write { result ≡ Err Stop.Write → Rose (K.faults sink.old) (K.faults sink.new) }
-{
-    'answering: loop {
-        match lines.next(source) {
-            Ok(true) => {}
-            Ok(false) => return Ok(()),
-            Err(fault) => return Err(Stop::from(fault)),
-        }
-        match answer_line(alloc, program, replayer, sink, lines.line()) {
-            Ok(()) => {}
-            Err(stop) => return Err(stop),
-        }
-    }
+    /// The program has this meaning, and the session and what is held stand for this history of it.
+    ghost stands: { Self → Self.Held → Meaning → History → Type 0 };
+
+    /// What is held is what is left in this history of a program with this meaning.
+    ghost leaves: { Meaning → Self.Held → History → Type 0 };
+
+    /// The same after want of memory in the command before or behind this history.
+    ghost breaks: { Meaning → Self.Held → History → Type 0 };
+
+    /// A session that stands for the history of its program before the first command. After `NoMemory` what is held is as
+    /// before.
+    fn begin(alloc: Global, program: Program, held: &mut Self::Held) -> Result<Self, NoMemory>
+        requires typed { IsTyped (routines_of program) }
+        requires fresh { fresh held.old }
+        ensures stands { IfOk result (λ session. stands session held.new (meaning_of program) (first_history (meaning_of program))) }
+        ensures err { OnErr result (held.new ≡ held.old) };
+
+    /// What is held where they stand for a history.
+    fn known(&self, held: &Self::Held)
+        ensures leaves { (m : Meaning) (h : History) → stands self.now held.now m h → leaves m held.now h }
+        ensures breaks { (m : Meaning) (h : History) → stands self.now held.now m h → breaks m held.now h };
+
+    /// Answers a command whose numbers a line can give. For each history that they stand for, the answer is its reply, and
+    /// afterwards they stand for the history after the command. Want of memory is the one fault, and the last answer:
+    /// what is held is then as it is left in the history before the command, or in the one after it.
+    fn apply(
+        &mut self,
+        alloc: Global,
+        held: &mut Self::Held,
+        command: &Command,
+    ) -> Result<Reply, NoMemory>
+        requires stands { StandForSome stands self.old held.old }
+        requires range { in_range command.now ≡ true }
+        ensures answer { IfOk result (λ r. (m : Meaning) (h : History) → stands self.old held.old m h → r ≡ reply m h command.now) }
+        ensures stands { OnOk result ((m : Meaning) (h : History) → stands self.old held.old m h → stands self.new held.new m (after m h command.now)) }
+        ensures breaks { OnErr result ((m : Meaning) (h : History) → stands self.old held.old m h → breaks m held.new h ⊎ breaks m held.new (after m h command.now)) };
 }

@@ -4,65 +4,92 @@ ghost use Rattle.std.specs.Prelude.{◌≡◌, ◌↔◌, ◌≤◌, List, ℕ, 
 ghost use Rattle.std.specs.Io.KnownBytes.{Appends};
 ghost use Rattle.pst_io.specs.Causes.{Rose};
 ghost use Rattle.pst_io.specs.Lines.{not_begun};
-ghost use Rattle.pst_cli.specs.Jobs.{job_of};
-ghost use Rattle.pst_cli.specs.Rows.{Row, RowOf, IsServable, IsComplete};
+ghost use Rattle.pst_cli.specs.declared.job.Job.{Job};
+ghost use Rattle.pst_cli.specs.Jobs.{task_of};
+ghost use Rattle.pst_cli.specs.Bench.{BenchRow, bench_lines};
+ghost use Rattle.pst_samples.specs.declared.TheConstants.{RING};
+ghost use Rattle.pst_cli.specs.Storing.{kept_in};
+ghost use Rattle.pst_cli.specs.Rows.{Row, IsServable, IsComplete};
 
 use crate::Status;
-use crate::job::{Job, job_of};
+use crate::bench::bench;
+use crate::job::{Job, Task, task_of};
 use crate::page::Page;
 use crate::program::read_text;
+use crate::replaying::Replaying;
+use crate::running::Running;
 use crate::serve::{print, serve};
 use crate::status::status_of;
+use pst_arena::FatNodes;
 use pst_io::{Lines, Sink, Source};
+use pst_order::Order;
+use pst_samples::ring;
+use pst_store::StoreOf;
 use std::alloc::Global;
 
 /// Does everything that the program does.
 ///
-/// The words are `run`, `replay`, `check` or `code`. First the input up to its separator line, or to its end, is read, and the
-/// program is judged: a refused one is answered by the line of its fault alone. For `check` its canonical text is
-/// written then, and for `code` the listing of its code. For `run` and `replay` each line of the script is read, carried out and answered before the next one
-/// is read, and each reply is written as one piece.
-pub fn persist<S: Source, K: Sink>(
+/// The words are `run`, `replay`, `check` or `code`, or `bench` and a number.
+///
+/// For `bench` nothing is read: the script of the bench with that number is carried out for the program of a ring, and a summary of
+/// what came of it is written as one piece.
+///
+/// Otherwise the input up to its separator line, or to its end, is read first, and the program is judged: a refused one is answered
+/// by the line of its fault alone. For `check` its canonical text is written then, and for `code` the listing of its code. For `run`
+/// and `replay` each line of the script is read, carried out and answered before the next one is read, and each reply is written as
+/// one piece.
+pub fn persist<S: Source, K: Sink, O: Order + Drop, N: FatNodes>(
     alloc: Global,
     words: &[String],
     source: &mut S,
     sink: &mut K,
+    store: &mut StoreOf<O, N>,
 ) -> Status
-    // What was read and written, where the source tells its bytes.
-    ensures table { IfSome (S.left source.old) (λ input. (out : List ℕ) × Appends (K.taken sink.old) (K.taken sink.new) out
-        × RowOf (job_of (map string_bytes words.now)) result input (S.left source.new) out) }
+    // The store is as `empty` makes one.
+    requires empty { store.old ≡ None }
+
+    // What a job has read and written, and what the store is left in, where the source tells its bytes.
+    ensures table { (job : Job) → task_of (map string_bytes words.now) ≡ Some (Task.Input job) → IfSome (S.left source.old) (λ input. (out : List ℕ)
+        × Appends (K.taken sink.old) (K.taken sink.new) out × Row result (kept_in store.old store.new job) job input (S.left source.new) out) }
+
+    // The bench reads nothing. What it has written, and what the store is left in.
+    ensures bench { (number : ℕ) → task_of (map string_bytes words.now) ≡ Some (Task.Bench number) → (source.new ≡ source.old) × ((out : List ℕ)
+        × Appends (K.taken sink.old) (K.taken sink.new) out × BenchRow result RING.now (bench_lines number) store.old store.new out) }
 
     // When each status comes.
     ensures read { result ≡ Status.ReadFault → Rose (S.faults source.old) (S.faults source.new) }
     ensures write { result ≡ Status.WriteFault → Rose (K.faults sink.old) (K.faults sink.new) }
-    ensures usage { (result ≡ Status.Usage) ↔ (job_of (map string_bytes words.now) ≡ None) }
-    ensures complete { IfSome (S.left source.old) (λ input. IsServable (job_of (map string_bytes words.now)) input
+    ensures usage { (result ≡ Status.Usage) ↔ (task_of (map string_bytes words.now) ≡ None) }
+    ensures complete { IfSome (S.left source.old) (λ input. IsServable (task_of (map string_bytes words.now)) input
         → (Rose (S.faults source.old) (S.faults source.new) → ⊥) → (Rose (K.faults sink.old) (K.faults sink.new) → ⊥) → IsComplete result) }
     ensures later { (S.faults source.old ≤ S.faults source.new) × (K.faults sink.old ≤ K.faults sink.new) }
 
     // Nothing is read or written.
-    ensures silent { result ≡ Status.Usage → (source.new ≡ source.old) × (sink.new ≡ sink.old) }
+    ensures silent { result ≡ Status.Usage → (source.new ≡ source.old) × (sink.new ≡ sink.old) × (store.new ≡ store.old) }
 {
-    match job_of(words) {
+    match task_of(words) {
         None => Status::Usage,
-        Some(job) => {
+        Some(Task::Input(job)) => {
             let mut lines = Lines::new(alloc);
-            carry_out(alloc, job, &mut lines, source, sink)
+            carry_out(alloc, job, &mut lines, source, sink, store)
         }
+        Some(Task::Bench(number)) => { bench(alloc, ring().as_bytes(), number, sink, store) }
     }
 }
 
 /// Does a job, by a reader that has not begun.
-fn carry_out<S: Source, K: Sink>(
+fn carry_out<S: Source, K: Sink, O: Order + Drop, N: FatNodes>(
     alloc: Global,
     job: Job,
     lines: &mut Lines,
     source: &mut S,
     sink: &mut K,
+    store: &mut StoreOf<O, N>,
 ) -> Status
-    requires { lines.old ≡ not_begun }
+    requires lines { lines.old ≡ not_begun }
+    requires empty { store.old ≡ None }
     ensures table { IfSome (S.left source.old) (λ input. (out : List ℕ) × Appends (K.taken sink.old) (K.taken sink.new) out
-        × Row result job input (S.left source.new) out) }
+        × Row result (kept_in store.old store.new job) job input (S.left source.new) out) }
     ensures read { result ≡ Status.ReadFault → Rose (S.faults source.old) (S.faults source.new) }
     ensures write { result ≡ Status.WriteFault → Rose (K.faults sink.old) (K.faults sink.new) }
     ensures not_usage { result ≡ Status.Usage → ⊥ }
@@ -73,8 +100,8 @@ fn carry_out<S: Source, K: Sink>(
         Ok(text) => match job {
             Job::Check => print(alloc, Page::Canonical, text, sink),
             Job::Code => print(alloc, Page::Listing, text, sink),
-            Job::Run => serve(alloc, text, lines, source, sink),
-            Job::Replay => serve(alloc, text, lines, source, sink),
+            Job::Run => serve::<Running<O, N>, S, K>(alloc, text, store, lines, source, sink),
+            Job::Replay => serve::<Replaying, S, K>(alloc, text, &mut (), lines, source, sink),
         },
     }
 }

@@ -1,0 +1,54 @@
+-- What is kept where no script was begun, and how a session over a store begins.
+use Rattle.std.proofs.Common.{◌≡◌, refl, sym, ◌∙◌, subst, ap, false, true, ⊎_elim, ℕ, List, [], ◌∷◌, Option, Some, None, map}
+use Rattle.std.specs.Prelude.{IsSomeAnd}
+use Rattle.pst_base.specs.declared.shape.TypeShape.{TypeShape}
+use Rattle.pst_base.specs.Heap.{initial_heap}
+use Rattle.pst_program.specs.Syntax.{Routines}
+use Rattle.pst_history.specs.Meaning.{Meaning}
+use Rattle.pst_history.specs.Direct.{direct}
+use Rattle.pst_engine.specs.Stands.{IsStartedHeap}
+use Rattle.pst_meaning.specs.declared.place.Place.{Place}
+use Rattle.pst_meaning.specs.declared.place.Fork.{Fork}
+use Rattle.pst_meaning.specs.Store.{Stored, IsForked, IsPlace, as_fork}
+use Rattle.pst_store.specs.Calls.{IsStarted}
+use Rattle.pst_store.specs.Whole.{state_in}
+use Rattle.pst_cli.specs.declared.job.Job.{Job}
+use Rattle.pst_cli.specs.declared.job.Job.TheVariants.{Run, Replay, Check, Code}
+use Rattle.pst_cli.specs.Storing.{kept_in}
+
+pub untouched : (store : Option Stored) (job : Job) → (kept_in store store job).untouched
+untouched store Run = refl
+untouched store Replay = refl
+untouched store Check = refl
+untouched store Code = refl
+
+-- no fork is in an empty list
+none_forked : (p : Place) → IsForked [] p → ⊥
+none_forked p f = let none : None ≡ Some f.fork = f.at in cc
+
+only_start : (s : Stored) (p : Place) → s.forks ≡ [] → IsPlace s p → p ≡ s.start
+only_start s p none is = ⊎_elim (λ (e : p ≡ s.start). e) (λ (f : IsForked s.forks p). absurd (none_forked p (subst (λ (fs : List Fork). IsForked fs p) none f))) is
+
+-- a store as it is started is a heap with which a new engine begins
+pub started : (m : Meaning) (shape : List TypeShape) (o : Option Stored) → m.shape ≡ shape → IsSomeAnd o (IsStarted shape) → IsStartedHeap m (state_in o)
+started m shape None e h = absurd h
+started m shape (Some s) e h = record {
+  shape = h.shape_is ∙ sym e;
+  place = s.start;
+  versions = h.versions;
+  only = λ p is. only_start s p h.forks is;
+  heap = h.heap ∙ ap initial_heap (sym e);
+  counts = h.counts;
+  calls = h.calls;
+  forks = ap (map as_fork) h.forks;
+}
+
+-- a list that is not known to have anything is empty
+pub nothing_waits : (xs : List ℕ) → ((xs ≡ [] → ⊥) → false ≡ true) → xs ≡ []
+nothing_waits [] some = refl
+nothing_waits (x ∷ xs) some = let bad : false ≡ true = some (λ (e : x ∷ xs ≡ []). cc) in cc
+
+-- the records of a program's meaning are its own
+pub meaning_shape : (r : Routines) → (direct r).shape ≡ r.shape
+unfolding direct
+meaning_shape r = refl
