@@ -3,6 +3,7 @@
 
 use pst_cli::{number, persist};
 use pst_io::{StdSink, StdSource};
+use pst_store::Store;
 use std::process::ExitCode;
 use std::rt::Env;
 use std::{env, io};
@@ -32,6 +33,7 @@ fn main(rt: HostRuntime) -> ExitCode {
     };
     let mut source = StdSource::new(rt.stdin());
     let mut sink = StdSink::new(rt.stdout());
-    let status = persist(rt.alloc(), &words, &mut source, &mut sink);
+    let mut store: Store = Store::empty();
+    let status = persist(rt.alloc(), &words, &mut source, &mut sink, &mut store);
     ExitCode::from(number(status))
 }
