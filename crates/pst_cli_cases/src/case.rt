@@ -29,6 +29,8 @@ pub(crate) struct Case {
     pub(crate) failing_writes: Vec<u64>,
     /// How many bytes may be written. None: more than enough.
     pub(crate) room: Option<usize>,
+    /// How many versions, records, pointer writes and value writes the store has in the end. Empty: that is not looked at.
+    pub(crate) store: Vec<usize>,
     pub(crate) input: Text,
     pub(crate) output: Text,
     part: Part,
@@ -79,6 +81,7 @@ impl Case {
             failing_reads: Vec::new(alloc),
             failing_writes: Vec::new(alloc),
             room: None,
+            store: Vec::new(alloc),
             input: Text::new(alloc),
             output: Text::new(alloc),
             part: Part::Head,
@@ -125,6 +128,8 @@ impl Case {
             self.failing_writes = calls_of(alloc, rest)?;
         } else if let Some(rest) = line.strip_prefix(b"room: ") {
             self.room = number(rest);
+        } else if let Some(rest) = line.strip_prefix(b"store: ") {
+            self.store = numbers_of(alloc, rest)?;
         }
         Ok(())
     }

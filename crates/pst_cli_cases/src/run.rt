@@ -3,6 +3,8 @@
 use crate::case::Case;
 use pst_cli::{Status, number, persist};
 use pst_io::{MemSink, MemSource};
+use pst_places::VersionedHeap;
+use pst_store::Store;
 use std::alloc::{AllocError, Global};
 use std::io;
 
@@ -30,6 +32,18 @@ impl Score {
 struct Ended {
     status: Status,
     written: Vec<u8>,
+    store: Vec<usize>,
+}
+
+/// How many versions, records, pointer writes and value writes a store has.
+fn numbers_of(alloc: Global, store: &Store) -> Result<Vec<usize>, AllocError> {
+    let counts = store.counts();
+    let mut numbers = Vec::new(alloc);
+    numbers.push(store.count() as usize)?;
+    for count in [counts.records, counts.pointer_writes, counts.value_writes] {
+        numbers.push(count as usize)?;
+    }
+    Ok(numbers)
 }
 
 /// Runs the program with these words, at most so many bytes a read and a write.
@@ -49,16 +63,20 @@ fn run(
         case.failing_reads.clone()?,
     );
     let mut sink = MemSink::new(alloc, room, write.max(1), case.failing_writes.clone()?)?;
-    let status = persist(alloc, words, &mut source, &mut sink);
+    let mut store: Store = Store::empty();
+    let status = persist(alloc, words, &mut source, &mut sink, &mut store);
     Ok(Ended {
         status,
         written: sink.taken().to_vec(alloc)?,
+        store: numbers_of(alloc, &store)?,
     })
 }
 
 /// Whether a call ended as it has to.
 fn passes(case: &Case, ended: &Ended) -> bool {
-    usize::from(number(ended.status)) == case.status && ended.written == case.output.bytes
+    usize::from(number(ended.status)) == case.status
+        && ended.written == case.output.bytes
+        && (case.store.is_empty() || ended.store == case.store)
 }
 
 /// Runs the program once, and says what is wrong.
@@ -79,8 +97,9 @@ fn run_once<R: Print + AllocGlobal>(
     let name = String::from_utf8_lossy(rt.alloc(), &case.name)?;
     let written = String::from_utf8_lossy(rt.alloc(), &ended.written)?;
     let status = number(ended.status);
+    let store = ended.store;
     println!(rt;
-        "{name}: {words:?}, reads of {read}, writes of {write}: status {status}\n{written}"
+        "{name}: {words:?}, reads of {read}, writes of {write}: status {status}, store {store:?}\n{written}"
     )
 }
 
