@@ -4,8 +4,8 @@ ghost use Rattle.std.specs.Prelude.{◌≡◌, ◌+◌, ◌++◌, true, length, 
 ghost use Rattle.pst_program.specs.View.{expr_of};
 ghost use Rattle.pst_compiled.specs.Code.{reg, arithmetic, opposite, jump_of, compare_code, test_size, test_code};
 ghost use Rattle.pst_compiled.specs.Needs.{temp_of};
-ghost use Rattle.pst_codegen.specs.Ready.{HasNoted, IsTest};
-ghost use Rattle.pst_codegen.specs.Sizes.{expr_size};
+ghost use Rattle.pst_codegen.specs.Ready.{HasNoted, IsOperand, IsTest};
+ghost use Rattle.pst_codegen.specs.Sizes.{expr_size, comparison_code};
 
 use crate::expressions::{emit_expr, put};
 use crate::layout::Layout;
@@ -150,6 +150,25 @@ fn emit_compare(
     put_jump(code, op, a, b, to)
 }
 
+/// Adds the code of a comparison with its operands: it goes to an index where it comes out as wanted.
+fn emit_comparison(
+    code: &mut Vec<Instr>,
+    layout: &Layout<'_>,
+    op: Op,
+    left: &Typed,
+    right: &Typed,
+    want: bool,
+    to: u32,
+) -> Result<(), NoMemory>
+    requires left { IsOperand layout.now.shape.now (HasNoted layout.now.table) (expr_of left.now) 0 }
+    requires right { IsOperand layout.now.shape.now (HasNoted layout.now.table) (expr_of right.now) 1 }
+    ensures { OnOk result (code.new.items ≡ code.old.items ++ comparison_code layout.now.shape.now (temp_of layout.now.locals layout.now.table) op (expr_of left.now) (expr_of right.now) want to) }
+{
+    let a = emit_expr(code, layout, left, 0)?;
+    let b = emit_expr(code, layout, right, 1)?;
+    emit_compare(code, op, want, a, b, to)
+}
+
 /// Adds the code of a condition, which stands at the index `at`: it goes to the index `to` where its truth is the wanted
 /// one, and on otherwise.
 pub fn emit_test(
@@ -189,11 +208,7 @@ pub fn emit_test(
             | Op::Less
             | Op::LessEqual
             | Op::Greater
-            | Op::GreaterEqual => {
-                let a = emit_expr(code, layout, left, 0)?;
-                let b = emit_expr(code, layout, right, 1)?;
-                emit_compare(code, *op, want, a, b, to)
-            }
+            | Op::GreaterEqual => emit_comparison(code, layout, *op, left, right, want, to),
         },
         // A typed program has no other conditions.
         Typed::Number(_)
