@@ -48,6 +48,13 @@ impl Compiled {
     {
         Compiled { program, code }
     }
+
+    /// The program.
+    pub fn program(&self) -> &Program
+        ensures { result.now ≡ self.now }
+    {
+        &self.program
+    }
 }
 
 impl Meant for Compiled {
