@@ -28,7 +28,7 @@ use Rattle.pst_history.proofs.After.{may_open-sound, run_at-new}
 use Rattle.pst_history.specs.Accepted.{MayOpen}
 use Rattle.pst_machine.specs.declared.activation.Activation.{Activation}
 use Rattle.pst_engine.specs.declared.entry.OpenEntry.{OpenEntry}
-use Rattle.pst_runs.specs.Runs.{Runs, MayBegin, StillStands}
+use Rattle.pst_runs.specs.Runs.{Runs, IsFreeFor, SurvivesOthers}
 use Rattle.pst_engine.specs.Stands.{HasVersion, IsForkOf, HoldsForks, IsEntry, StandsFor, MayCall}
 use Rattle.pst_engine.proofs.Parts.{versions-kept, versions-same, entry-run, entry-writable, entry-kept, forked-alone}
 
@@ -43,7 +43,7 @@ no-version m x s active budget next h stand has =
     let within = numbered-within h.start.next_run h.runs has.1.run.0 v.run v.found in
     omega (arith, within.1, has.3)
 
-module _ {H P R : Type 0} (m : Meaning) (x : Runs P R (Activation H R P)) (law : IsLawful m) (s t : State P R) (still : StillStands x s t) (known : IsVersioned s) (placed : (p : P) → s.writable p → s.has p) where
+module _ {H P R : Type 0} (m : Meaning) (x : Runs P R (Activation H R P)) (law : IsLawful m) (s t : State P R) (still : SurvivesOthers x s t) (known : IsVersioned s) (placed : (p : P) → s.writable p → s.has p) where
   forks-opened : (h : History) (before : ℕ) (version : VersionNo) (row : VersionRow P) (place : P) → slice_get s.versions version.0 ≡ Some row → Forked s row.place place t → (HasVersion h (next_run h) → ⊥) → HoldsForks s h before → HoldsForks t (opened h version []) before
   forks-opened h before version row place found f none holds =
       let new = new_run h version [] in
@@ -195,10 +195,10 @@ module _ {H P R : Type 0} (m : Meaning) (x : Runs P R (Activation H R P)) (s : S
   pub names-free : (run : RunNo) → run.0 ≡ next → (n : Name) → n.run ≡ run → IsFresh s n
   names-free run number n same = record { fresh = λ p has. none-older (s.heap p) next n (get (s.heap p) n) (stand.older p has) (ap (λ (r : RunNo). r.0) same ∙ number) refl }
 
-  pub begins-at : IsSound s → (at : P) → s.has at → (run : RunNo) → run.0 ≡ next → MayBegin m s at run
+  pub begins-at : IsSound s → (at : P) → s.has at → (run : RunNo) → run.0 ≡ next → IsFreeFor m s at run
   begins-at sound at has run number = record { sound = sound; shape = stand.shape; has = has; fresh = names-free run number }
 
-  pub begins-forked : (t : State P R) (from place : P) → Forked s from place t → s.has from → IsSound t → (run : RunNo) → run.0 ≡ next → MayBegin m t place run
+  pub begins-forked : (t : State P R) (from place : P) → Forked s from place t → s.has from → IsSound t → (run : RunNo) → run.0 ≡ next → IsFreeFor m t place run
   begins-forked t from place f source sound run number = record {
     sound = sound;
     shape = f.grows.shape ∙ stand.shape;

@@ -23,7 +23,7 @@ use Rattle.pst_history.proofs.After.{same_calls, closing, closed-is, closed-publ
 use Rattle.pst_machine.specs.declared.activation.Activation.{Activation}
 use Rattle.pst_engine.specs.declared.entry.OpenEntry.{OpenEntry}
 use Rattle.pst_machine.specs.Ready.{KeepsOthers}
-use Rattle.pst_runs.specs.Runs.{Runs, IsWaiting, Advanced, StandingWaits, StillStands}
+use Rattle.pst_runs.specs.Runs.{Runs, IsWaiting, RanOn, StandingWaits, SurvivesOthers}
 use Rattle.pst_engine.specs.Stands.{IsEntry, StandsFor, MayPublish, Settled}
 use Rattle.pst_engine.proofs.Parts.{IsOpenAt, entry-run, entry-open, entry-writable}
 use Rattle.pst_engine.proofs.Moving.{move-keeps, restated-run}
@@ -48,8 +48,8 @@ if-some Q o y e q = let S : Option _ → Type 0 = λ z. IfSome z Q in subst S (s
 
 module _ {H P R : Type 0} (m : Meaning) (x : Runs P R (Activation H R P)) (law : IsLawful m) (s : State P R) (waits : StandingWaits x s) (known : IsVersioned s) (placed : (p : P) → s.writable p → s.has p)
     (active : List (OpenEntry H R P)) (budget next : ℕ) (h : History) (stand : StandsFor m x active budget next s h) (at : ℕ) (e : OpenEntry H R P) (found : slice_get active at ≡ Some e)
-    (t : State P R) (still : StillStands x s t) (b : Activation H R P) (end : Ended) (kept : KeepsOthers (x.place e.activation) s t) (writes : WritesStay s t)
-    (ok : (w : Work) (k : ℕ) (y : Heap) (c : Counts) → IsWaiting m x s e.activation w k y c → Advanced m x s e.activation w (min (k + 4294967295) w.budget) y c end t b) where
+    (t : State P R) (still : SurvivesOthers x s t) (b : Activation H R P) (end : Ended) (kept : KeepsOthers (x.place e.activation) s t) (writes : WritesStay s t)
+    (ok : (w : Work) (k : ℕ) (y : Heap) (c : Counts) → IsWaiting m x s e.activation w k y c → RanOn m x s e.activation w (min (k + 4294967295) w.budget) y c end t b) where
   abbrev mine : IsEntry m x s h stand.before e
   mine = stand.entries at e found
 
@@ -68,11 +68,11 @@ module _ {H P R : Type 0} (m : Meaning) (x : Runs P R (Activation H R P)) (law :
   run-found : run_at h n ≡ Some run
   run-found = entry-run m x s h stand.before e mine
 
-  pub advanced-whole : Advanced m x s e.activation (work_of n run) run.budget (heap_of m h run.parent.0) (run_counts m h n run) end t b
+  pub advanced-whole : RanOn m x s e.activation (work_of n run) run.budget (heap_of m h run.parent.0) (run_counts m h n run) end t b
   advanced-whole =
       let few = (run-sound m h stand.sound n run run-found).budget.1 in
       let all : min (run.granted + 4294967295) run.budget ≡ run.budget = omega arith in
-      let S : ℕ → Type 0 = λ k. Advanced m x s e.activation (work_of n run) k (heap_of m h run.parent.0) (run_counts m h n run) end t b in
+      let S : ℕ → Type 0 = λ k. RanOn m x s e.activation (work_of n run) k (heap_of m h run.parent.0) (run_counts m h n run) end t b in
       subst S all (ok (work_of n run) run.granted (heap_of m h run.parent.0) (run_counts m h n run) (entry-waits m x law s waits known placed active budget next h stand at e found))
 
   pub carried : StandsFor m x (slice_set active at (record e { activation = b })) budget next t (restated h n whole)
@@ -141,7 +141,7 @@ module _ {H P R : Type 0} (m : Meaning) (x : Runs P R (Activation H R P)) (law :
 
   -- ---- the answer
 
-  module _ (known_t : IsVersioned t) (placed_t : (p : P) → t.writable p → t.has p) (u : State P R) (still_u : StillStands x t u) (printed : List ℤ) (is_printed : printed ≡ x.printed b) (r : Reply) (same : Type 0) (stays : same → (Q : State P R → Type 0) → Q t → Q u) where
+  module _ (known_t : IsVersioned t) (placed_t : (p : P) → t.writable p → t.has p) (u : State P R) (still_u : SurvivesOthers x t u) (printed : List ℤ) (is_printed : printed ≡ x.printed b) (r : Reply) (same : Type 0) (stays : same → (Q : State P R → Type 0) → Q t → Q u) where
     abbrev Result : RunNo → Type 0
     Result number = StandsFor m x (remove (slice_set active at (record e { activation = b })) at) budget next u (closed m h number.0) × (r ≡ close_reply m h number (run_at h number.0))
 

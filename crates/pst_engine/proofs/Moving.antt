@@ -23,7 +23,7 @@ use Rattle.pst_history.proofs.After.{restated-counts}
 use Rattle.pst_machine.specs.declared.activation.Activation.{Activation}
 use Rattle.pst_engine.specs.declared.entry.OpenEntry.{OpenEntry}
 use Rattle.pst_machine.specs.Ready.{KeepsOthers}
-use Rattle.pst_runs.specs.Runs.{Runs, Advanced, StillStands}
+use Rattle.pst_runs.specs.Runs.{Runs, RanOn, SurvivesOthers}
 use Rattle.pst_engine.specs.Stands.{IsForkOf, HoldsForks, IsEntry, StandsFor}
 use Rattle.pst_engine.proofs.Parts.{counts_plus-cancel, slice-versions, versions-same, forks-kept, entry-writable, entries-apart, entry-kept, slice-alone}
 
@@ -61,7 +61,7 @@ restated-run m h n i old new step number =
 
 -- ---- a slice
 
-module _ {H P R : Type 0} (m : Meaning) (x : Runs P R (Activation H R P)) (law : IsLawful m) (s t : State P R) (still : StillStands x s t) (known : IsVersioned s) (placed : (p : P) → s.writable p → s.has p) where
+module _ {H P R : Type 0} (m : Meaning) (x : Runs P R (Activation H R P)) (law : IsLawful m) (s t : State P R) (still : SurvivesOthers x s t) (known : IsVersioned s) (placed : (p : P) → s.writable p → s.has p) where
   -- what a slice of an entry's run is: with these calls, it goes on under this grant
   pub record IsMove (h : History) (e : OpenEntry H R P) (old new : Run) (a b : Activation H R P) (end : Ended) : Type 0 where
     pub step : IsRestated m h e.run.0 old new
@@ -69,7 +69,7 @@ module _ {H P R : Type 0} (m : Meaning) (x : Runs P R (Activation H R P)) (law :
     pub place : x.place a ≡ x.place e.activation
     pub kept : KeepsOthers (x.place a) s t
     pub writes : WritesStay s t
-    pub advanced : Advanced m x s a (work_of e.run.0 new) new.granted (heap_of m h old.parent.0) (run_counts m h e.run.0 old) end t b
+    pub advanced : RanOn m x s a (work_of e.run.0 new) new.granted (heap_of m h old.parent.0) (run_counts m h e.run.0 old) end t b
 
   -- an entry of the list after a slice, as it was before
   record OldEntry (active : List (OpenEntry H R P)) (j : ℕ) (f : OpenEntry H R P) : Type 0 where

@@ -23,7 +23,7 @@ use Rattle.pst_history.proofs.Sound.{present}
 use Rattle.pst_machine.specs.declared.activation.Activation.{Activation}
 use Rattle.pst_engine.specs.declared.entry.OpenEntry.{OpenEntry}
 use Rattle.pst_machine.specs.Ready.{KeepsOthers}
-use Rattle.pst_runs.specs.Runs.{Runs, LeavesAlone, Advanced, StillStands}
+use Rattle.pst_runs.specs.Runs.{Runs, SparesRun, RanOn, SurvivesOthers}
 use Rattle.pst_engine.specs.Stands.{HoldsVersions, HasVersion, IsForkOf, HoldsForks, IsEntry}
 
 -- ---- the heap
@@ -142,7 +142,7 @@ module _ {H P R : Type 0} (m : Meaning) (x : Runs P R (Activation H R P)) (s : S
 -- the entry of another run, where its run is as it was, and the heap leaves it alone
 pub entry-kept : {H P R : Type 0} (m : Meaning) (x : Runs P R (Activation H R P)) (s t : State P R) (h : History) (before : ℕ) (runs : List Run) (versions : List Descent) (f : OpenEntry H R P) (o : IsEntry m x s h before f)
     → slice_get runs o.index ≡ Some o.run → heap_of m (record h { runs = runs; versions = versions }) o.run.parent.0 ≡ heap_of m h o.run.parent.0
-    → StillStands x s t → LeavesAlone s t (x.place f.activation) f.run → slice_get t.forks (before + o.index) ≡ Some o.fork → IsEntry m x t (record h { runs = runs; versions = versions }) before f
+    → SurvivesOthers x s t → SparesRun s t (x.place f.activation) f.run → slice_get t.forks (before + o.index) ≡ Some o.fork → IsEntry m x t (record h { runs = runs; versions = versions }) before f
 entry-kept m x s t h before runs versions f o found heap still alone fork =
     let w = work_of f.run.0 o.run in
     let k = o.run.granted in
@@ -179,7 +179,7 @@ other_name a b ne q r same number e = ne (ap (λ (x : RunNo). x.0) (sym same) �
 
 module _ {H P R : Type 0} (m : Meaning) (x : Runs P R (Activation H R P)) (s t : State P R) where
   -- a slice of another run at another place
-  pub slice-alone : (a b : Activation H R P) (w : Work) (k : ℕ) (y : Heap) (c : Counts) (end : Ended) (p : P) (run : RunNo) → KeepsOthers (x.place a) s t → WritesStay s t → Advanced m x s a w k y c end t b → CountsBelow c (m.outcome w k y).counts → s.has p → (p ≡ x.place a → ⊥) → run.0 ≢ w.run.0 → LeavesAlone s t p run
+  pub slice-alone : (a b : Activation H R P) (w : Work) (k : ℕ) (y : Heap) (c : Counts) (end : Ended) (p : P) (run : RunNo) → KeepsOthers (x.place a) s t → WritesStay s t → RanOn m x s a w k y c end t b → CountsBelow c (m.outcome w k y).counts → s.has p → (p ≡ x.place a → ⊥) → run.0 ≢ w.run.0 → SparesRun s t p run
   slice-alone a b w k y c end p run kept writes adv more has elsewhere ne =
       let all = adv.counts in
       let one : t.counts.records + c.records ≡ s.counts.records + (m.outcome w k y).counts.records = ap (λ z. z.records) all in
@@ -194,7 +194,7 @@ module _ {H P R : Type 0} (m : Meaning) (x : Runs P R (Activation H R P)) (s t :
       }
 
 -- nothing changes
-pub unchanged-alone : {P R : Type 0} (s t : State P R) (p : P) (run : RunNo) → Unchanged s t → WritesStay s t → s.has p → LeavesAlone s t p run
+pub unchanged-alone : {P R : Type 0} (s t : State P R) (p : P) (run : RunNo) → Unchanged s t → WritesStay s t → s.has p → SparesRun s t p run
 unchanged-alone s t p run same writes has = record {
   grows = same.keeps.grows;
   heap = same.heaps p has;
@@ -204,7 +204,7 @@ unchanged-alone s t p run same writes has = record {
 }
 
 -- a fork
-pub forked-alone : {P R : Type 0} (s t : State P R) (from place p : P) (run : RunNo) → Forked s from place t → s.has from → s.has p → LeavesAlone s t p run
+pub forked-alone : {P R : Type 0} (s t : State P R) (from place p : P) (run : RunNo) → Forked s from place t → s.has from → s.has p → SparesRun s t p run
 forked-alone {P = P} s t from place p run f source has = record {
   grows = f.grows;
   heap = f.heaps p has;
@@ -219,7 +219,7 @@ forked-alone {P = P} s t from place p run f source has = record {
 }
 
 -- another place becomes a version
-pub published-alone : {P R : Type 0} (s t : State P R) (parent : VersionNo) (by : RunNo) (at : P) (version : VersionNo) (p : P) (run : RunNo) → Published s parent by at version t → s.has p → (p ≡ at → ⊥) → LeavesAlone s t p run
+pub published-alone : {P R : Type 0} (s t : State P R) (parent : VersionNo) (by : RunNo) (at : P) (version : VersionNo) (p : P) (run : RunNo) → Published s parent by at version t → s.has p → (p ≡ at → ⊥) → SparesRun s t p run
 published-alone s t parent by at version p run d has elsewhere = record {
   grows = d.grows;
   heap = d.heaps p has;

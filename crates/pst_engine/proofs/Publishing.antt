@@ -14,7 +14,7 @@ use Rattle.pst_history.proofs.Heaps.{heap_of-more, heap_of-new}
 use Rattle.pst_history.proofs.Steps.{IsPublishable, published, published-sound, counts_of-published, run-sound}
 use Rattle.pst_machine.specs.declared.activation.Activation.{Activation}
 use Rattle.pst_engine.specs.declared.entry.OpenEntry.{OpenEntry}
-use Rattle.pst_runs.specs.Runs.{Runs, StillStands}
+use Rattle.pst_runs.specs.Runs.{Runs, SurvivesOthers}
 use Rattle.pst_engine.specs.Stands.{IsVersion, SameRow, HasVersion, IsForkOf, IsEntry, StandsFor}
 use Rattle.pst_engine.proofs.Parts.{versions-kept, forks-kept, entry-run, entry-writable, entry-kept, published-alone, unchanged-alone}
 
@@ -56,7 +56,7 @@ pub record IsEnded {P R : Type 0} (m : Meaning) (s : State P R) (h : History) (b
   pub has : s.has at
   pub heap : s.heap at ≡ (m.outcome (work_of n r) r.budget (heap_of m h r.parent.0)).heap
 
-module _ {H P R : Type 0} (m : Meaning) (x : Runs P R (Activation H R P)) (s t : State P R) (still : StillStands x s t) (known : IsVersioned s) (placed : (p : P) → s.writable p → s.has p) where
+module _ {H P R : Type 0} (m : Meaning) (x : Runs P R (Activation H R P)) (s t : State P R) (still : SurvivesOthers x s t) (known : IsVersioned s) (placed : (p : P) → s.writable p → s.has p) where
   pub publish-keeps : (active : List (OpenEntry H R P)) (budget next : ℕ) (h : History) (stand : StandsFor m x active budget next s h) (n : ℕ) (r : Run) (at : P) (version : VersionNo) → IsEnded m s h stand.before n r at → Published s r.parent (record { 0 = n }) at version t
       → StandsFor m x active budget next t (published h n r.parent)
   publish-keeps active budget next h stand n r at version o d =

@@ -16,7 +16,7 @@ use Rattle.pst_history.specs.Accepted.{IsAccepted}
 use Rattle.pst_history.proofs.Sound.{next-before, older-more}
 use Rattle.pst_machine.specs.declared.activation.Activation.{Activation}
 use Rattle.pst_engine.specs.declared.entry.OpenEntry.{OpenEntry}
-use Rattle.pst_runs.specs.Runs.{Runs, MayBegin, MayAdd, IsWaiting, Advanced}
+use Rattle.pst_runs.specs.Runs.{Runs, IsFreeFor, MayAdd, IsWaiting, RanOn}
 use Rattle.pst_engine.specs.Stands.{StandsFor}
 use Rattle.pst_engine.proofs.Begin.{row-at, begins-at}
 
@@ -41,7 +41,7 @@ module _ {H P R : Type 0} (m : Meaning) (x : Runs P R (Activation H R P)) (law :
   pub query-heap : s.heap place ≡ heap_of m h call.version.0
   query-heap = ap s.heap (sym row.2) ∙ (stand.versions.versions call.version.0 row.0 row.1).heap
 
-  pub query-begins : MayBegin m s place run
+  pub query-begins : IsFreeFor m s place run
   query-begins = begins-at m x s active budget run.0 h stand sound place query-has run refl
 
   pub query-fits : AllFit m.query (call_of call ∷ [])
@@ -61,7 +61,7 @@ module _ {H P R : Type 0} (m : Meaning) (x : Runs P R (Activation H R P)) (law :
   query-waits a waits = record { ready = query-ready; granted_within = omega arith; waits = waits }
 
   -- the answer
-  pub query-answers : (t : State P R) (a b : Activation H R P) (end : Ended) → budget < 2 ^ 32 → Advanced m x s a work (min (0 + 4294967295) budget) (s.heap place) no_counts end t b → (printed : List ℤ) → printed ≡ x.printed b
+  pub query-answers : (t : State P R) (a b : Activation H R P) (end : Ended) → budget < 2 ^ 32 → RanOn m x s a work (min (0 + 4294967295) budget) (s.heap place) no_counts end t b → (printed : List ℤ) → printed ≡ x.printed b
       → queried printed end ≡ queried_as (outcome_of m h (next_run h) (new_run h call.version (call_of call ∷ [])) h.budget)
   query-answers t a b end less adv printed is =
       let all : min (0 + 4294967295) budget ≡ budget = omega arith in

@@ -19,7 +19,7 @@ use Rattle.pst_machine.specs.declared.activation.Activation.{Activation}
 use Rattle.pst_engine.specs.declared.entry.OpenEntry.{OpenEntry}
 use Rattle.pst_machine.specs.Ready.{KeepsOthers}
 use Rattle.pst_machine.specs.Advance.{HasFewCounts}
-use Rattle.pst_runs.specs.Runs.{Runs, IsWaiting, MayAdd, Advanced, StandingWaits, StillStands}
+use Rattle.pst_runs.specs.Runs.{Runs, IsWaiting, MayAdd, RanOn, StandingWaits, SurvivesOthers}
 use Rattle.pst_engine.specs.Stands.{HoldsVersions, IsEntry, StandsFor, VersionsStay, IsRunAt, MayCall}
 use Rattle.pst_engine.proofs.Parts.{other_heap, not_version, entry-run, entry-writable}
 use Rattle.pst_engine.proofs.Moving.{IsMove, move-keeps}
@@ -147,10 +147,10 @@ module _ {H P R : Type 0} (m : Meaning) (x : Runs P R (Activation H R P)) (law :
     pub few-calls : (c : NamedCall) → MayCall m h e.run.0 c → e.calls < 1024
     few-calls c may = let had = mine.calls in let less = may.room the_run the_run-found in omega arith
 
-    module _ (t : State P R) (still : StillStands x s t) where
+    module _ (t : State P R) (still : SurvivesOthers x s t) where
       -- a slice of the run with its calls
       pub granted-keeps : (run : RunNo) → e.run ≡ run → (charges : ℕ) (b : Activation H R P) (end : Ended) → KeepsOthers (x.place e.activation) s t → WritesStay s t
-          → ((w : Work) (k : ℕ) (y : Heap) (c : Counts) → IsWaiting m x s e.activation w k y c → Advanced m x s e.activation w (min (k + charges) w.budget) y c end t b)
+          → ((w : Work) (k : ℕ) (y : Heap) (c : Counts) → IsWaiting m x s e.activation w k y c → RanOn m x s e.activation w (min (k + charges) w.budget) y c end t b)
           → StandsFor m x (slice_set active at (record e { activation = b })) budget next t (with_run h run.0 (granted_more charges) (run_at h run.0)) × (stepped run end ≡ step_reply m h run (granted_more charges) (run_at h run.0))
       granted-keeps run number charges b end kept writes ok =
           let r = the_run in
@@ -173,7 +173,7 @@ module _ {H P R : Type 0} (m : Meaning) (x : Runs P R (Activation H R P)) (law :
       -- a slice of the run with one call more
       pub called-keeps : (run : RunNo) → e.run ≡ run → (c : NamedCall) (calls : ℕ) → calls ≡ e.calls + 1 → (a b : Activation H R P) (end : Ended) → MayCall m h e.run.0 c → x.place a ≡ x.place e.activation → KeepsOthers (x.place a) s t → WritesStay s t
           → IsWaiting m x s a (work_of e.run.0 (called_more c the_run)) the_run.granted (heap_of m h the_run.parent.0) (run_counts m h e.run.0 the_run)
-          → ((w : Work) (k : ℕ) (y : Heap) (counts : Counts) → IsWaiting m x s a w k y counts → Advanced m x s a w (min (k + 0) w.budget) y counts end t b)
+          → ((w : Work) (k : ℕ) (y : Heap) (counts : Counts) → IsWaiting m x s a w k y counts → RanOn m x s a w (min (k + 0) w.budget) y counts end t b)
           → StandsFor m x (slice_set active at (record e { calls = calls; activation = b })) budget next t (with_run h run.0 (called_more c) (run_at h run.0)) × (stepped run end ≡ step_reply m h run (called_more c) (run_at h run.0))
       called-keeps run number c calls count a b end may place kept writes waiting ok =
           let r = the_run in
@@ -181,8 +181,8 @@ module _ {H P R : Type 0} (m : Meaning) (x : Runs P R (Activation H R P)) (law :
           let y = heap_of m h r.parent.0 in
           let granted = (run-sound m h stand.sound e.run.0 r the_run-found).granted in
           let none : min (r.granted + 0) r.budget ≡ r.granted = omega arith in
-          let adv : Advanced m x s a (work_of e.run.0 new) r.granted y (run_counts m h e.run.0 r) end t b =
-          subst (λ k. Advanced m x s a (work_of e.run.0 new) k y (run_counts m h e.run.0 r) end t b) none (ok (work_of e.run.0 new) r.granted y (run_counts m h e.run.0 r) waiting) in
+          let adv : RanOn m x s a (work_of e.run.0 new) r.granted y (run_counts m h e.run.0 r) end t b =
+          subst (λ k. RanOn m x s a (work_of e.run.0 new) k y (run_counts m h e.run.0 r) end t b) none (ok (work_of e.run.0 new) r.granted y (run_counts m h e.run.0 r) waiting) in
           let move : IsMove m x law s t still known placed h e r new a b end = record {
             step = calling m h e.run.0 r c stand.sound the_run-found mine.is_so (may.room r the_run-found) may.fits;
             goes_on = mine.is_so;

@@ -27,13 +27,13 @@ use Rattle.pst_machine.specs.Advance as machine
 use Rattle.pst_machine.specs.Laws as machine_laws
 use Rattle.pst_machine.specs.Stands.{Stands, StandsWhere, begins_with}
 use Rattle.pst_machine.proofs.Stands.{all_from_none, bare_is_ready, bare_stands, added_is_ready, added_stands, next_stands, stays_ready, still_stands}
-use Rattle.pst_runs.specs.Runs.{Advanced, LeavesAlone, MayAdd, MayBegin, RestsWhere, StandsAs, ended_of, runs_of}
+use Rattle.pst_runs.specs.Runs.{RanOn, SparesRun, MayAdd, IsFreeFor, RestsWhere, StandsAs, ended_of, runs_of}
 use Rattle.pst_runs.proofs.Ends.{answer_ends, calls_counted, calls_one_end, outcome_counted}
 use Rattle.pst_runs.proofs.Fits.{call_may}
 
 -- ---- a run without a call
 
-pub bare_stands_as : {P R : Type 0} (parts : Parts) (m : Meaning) → IsMeaningOf parts m → (s : State P R) (at : P) (run : RunNo) (budget : ℕ) (stage : Stage P R) → budget < 2 ^ 32 → MayBegin m s at run → machine.IsBare at run budget stage
+pub bare_stands_as : {P R : Type 0} (parts : Parts) (m : Meaning) → IsMeaningOf parts m → (s : State P R) (at : P) (run : RunNo) (budget : ℕ) (stage : Stage P R) → budget < 2 ^ 32 → IsFreeFor m s at run → machine.IsBare at run budget stage
     → StandsAs parts stage s (record { run = run; calls = []; budget = budget }) 0 (s.heap at) no_counts × RestsWhere (machine.trap_of stage.ended) stage
 bare_stands_as parts m means s at run budget stage small b d = (
   record {
@@ -85,7 +85,7 @@ added_stands_as parts m means f s a b w k y c call d may same added_call =
 
 -- ---- other runs
 
-pub still_stands_as : {P R : Type 0} (parts : Parts) (s t : State P R) (a : Stage P R) (w : Work) (k : ℕ) (y : Heap) (c : Counts) → StandsAs parts a s w k y c → LeavesAlone s t a.standing.place w.run → StandsAs parts a t w k y c
+pub still_stands_as : {P R : Type 0} (parts : Parts) (s t : State P R) (a : Stage P R) (w : Work) (k : ℕ) (y : Heap) (c : Counts) → StandsAs parts a s w k y c → SparesRun s t a.standing.place w.run → StandsAs parts a t w k y c
 still_stands_as parts s t a w k y c d l =
     let more : Counts = record { records = t.counts.records - s.counts.records; pointer_writes = t.counts.pointer_writes - s.counts.pointer_writes; value_writes = t.counts.value_writes - s.counts.value_writes } in
     let counts : t.counts ≡ counts_plus s.counts more = same_counts t.counts (counts_plus s.counts more) (omega (arith, l.counts.records)) (omega (arith, l.counts.pointer_writes)) (omega (arith, l.counts.value_writes)) in
@@ -146,7 +146,7 @@ module _ {P R : Type 0} (parts : Parts) (m : Meaning) (means : IsMeaningOf parts
 
     -- a run that has not trapped
     free_advanced : (t : State P R) (b : A) (charges : ℕ) (p : Progress) → machine.trap_of (f a).ended ≡ None → machine.Advances parts s (f a) charges p t (f b) → machine.IsReady parts t (f b) → (f b).failed ≡ false
-        → Advanced m (runs_of f parts) s a w (min (k + charges) w.budget) y c (ended_of p) t b
+        → RanOn m (runs_of f parts) s a w (min (k + charges) w.budget) y c (ended_of p) t b
     free_advanced t b charges p free adv ready_b works_b =
         let g : ℕ = min (k + charges) w.budget in
         let was : (f a).granted ≡ k = d.granted_is free in
@@ -182,7 +182,7 @@ module _ {P R : Type 0} (parts : Parts) (m : Meaning) (means : IsMeaningOf parts
         }
 
     -- one that has trapped stays as it is
-    over_advanced : (b : A) (charges : ℕ) (trap : Trap) → machine.trap_of (f a).ended ≡ Some trap → f b ≡ f a → Advanced m (runs_of f parts) s a w (min (k + charges) w.budget) y c (ended_of (Trapped trap)) s b
+    over_advanced : (b : A) (charges : ℕ) (trap : Trap) → machine.trap_of (f a).ended ≡ Some trap → f b ≡ f a → RanOn m (runs_of f parts) s a w (min (k + charges) w.budget) y c (ended_of (Trapped trap)) s b
     over_advanced b charges trap trapped is =
         let g : ℕ = min (k + charges) w.budget in
         let less : (f a).granted ≤ k = d.granted_within in
@@ -215,9 +215,9 @@ module _ {P R : Type 0} (parts : Parts) (m : Meaning) (means : IsMeaningOf parts
         }
 
     pub any_advanced : (t : State P R) (b : A) (charges : ℕ) (p : Progress) (end : Ended) (o : Option Trap) → machine.trap_of (f a).ended ≡ o → machine.AdvancesWhere o parts s (f a) charges p t (f b) → machine.IsReady parts t (f b) × ((f b).failed ≡ false) → (IsSome o → t ≡ s) → end ≡ ended_of p
-        → Advanced m (runs_of f parts) s a w (min (k + charges) w.budget) y c end t b
-    any_advanced t b charges p end None e adv after still is = subst (λ (x : Ended). Advanced m (runs_of f parts) s a w (min (k + charges) w.budget) y c x t b) (sym is) (free_advanced t b charges p e adv after.0 after.1)
+        → RanOn m (runs_of f parts) s a w (min (k + charges) w.budget) y c end t b
+    any_advanced t b charges p end None e adv after still is = subst (λ (x : Ended). RanOn m (runs_of f parts) s a w (min (k + charges) w.budget) y c x t b) (sym is) (free_advanced t b charges p e adv after.0 after.1)
     any_advanced t b charges p end (Some trap) e adv after still is =
         let over = over_advanced b charges trap e adv.1 in
-        let there = subst (λ (u : State P R). Advanced m (runs_of f parts) s a w (min (k + charges) w.budget) y c (ended_of (Trapped trap)) u b) (sym (still (refl))) over in
-        subst (λ (x : Ended). Advanced m (runs_of f parts) s a w (min (k + charges) w.budget) y c x t b) (sym (is ∙ ap ended_of adv.0)) there
+        let there = subst (λ (u : State P R). RanOn m (runs_of f parts) s a w (min (k + charges) w.budget) y c (ended_of (Trapped trap)) u b) (sym (still (refl))) over in
+        subst (λ (x : Ended). RanOn m (runs_of f parts) s a w (min (k + charges) w.budget) y c x t b) (sym (is ∙ ap ended_of adv.0)) there

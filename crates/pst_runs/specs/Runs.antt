@@ -80,14 +80,14 @@ is_number (Pointer ty) = false
 -- ---- what a run needs
 
 -- a run can begin at a place, and no record at any place has its number
-pub record MayBegin {P R : Type 0} (m : Meaning) (s : State P R) (at : P) (run : RunNo) : Type 0 where
+pub record IsFreeFor {P R : Type 0} (m : Meaning) (s : State P R) (at : P) (run : RunNo) : Type 0 where
   pub sound : IsSound s
   pub shape : s.shape ≡ m.shape
   pub has : s.has at
   pub fresh : (n : Name) → n.run ≡ run → IsFresh s n
 
 -- what other runs may do meanwhile: the heap at the place of a run stays, they give no name of its number, and no count falls
-pub record LeavesAlone {P R : Type 0} (s t : State P R) (at : P) (run : RunNo) : Type 0 where
+pub record SparesRun {P R : Type 0} (s t : State P R) (at : P) (run : RunNo) : Type 0 where
   pub grows : Grows s t
   pub heap : t.heap at ≡ s.heap at
   pub writable : s.writable at → t.writable at
@@ -116,7 +116,7 @@ MayAddSome m x s a call = (w : Work) × (k : ℕ) × (y : Heap) × (c : Counts) 
 
 -- a run without a call stands where its work stands before the first charge
 abbrev pub StandsBare : {P R A : Type 0} → Meaning → Runs P R A → State P R → (at : P) → RunNo → (budget : ℕ) → A → Type 0
-StandsBare m x s at run budget a = MayBegin m s at run → x.stands a s (record { run = run; calls = []; budget = budget }) 0 (s.heap at) no_counts
+StandsBare m x s at run budget a = IsFreeFor m s at run → x.stands a s (record { run = run; calls = []; budget = budget }) 0 (s.heap at) no_counts
 
 -- with a call more it waits where the work with that call stands
 abbrev pub WaitsWithCall : {P R A : Type 0} → Meaning → Runs P R A → State P R → (old : A) → NamedCall → (new : A) → Type 0
@@ -124,7 +124,7 @@ WaitsWithCall m x s a call b = (w : Work) (k : ℕ) (y : Heap) (c : Counts) → 
 
 -- A slice of a run: it stands where its work stands with these charges, and has the heap, the printed numbers and the end of
 -- that outcome. What it counts is counted, and it gives only names of its own number.
-pub record Advanced {P R A : Type 0} (m : Meaning) (x : Runs P R A) (s : State P R) (a : A) (w : Work) (granted : ℕ) (h : Heap) (c : Counts) (end : Ended) (t : State P R) (b : A) : Type 0 where
+pub record RanOn {P R A : Type 0} (m : Meaning) (x : Runs P R A) (s : State P R) (a : A) (w : Work) (granted : ℕ) (h : Heap) (c : Counts) (end : Ended) (t : State P R) (b : A) : Type 0 where
   pub place : x.place b ≡ x.place a
   pub stands : x.stands b t w granted h (m.outcome w granted h).counts
   pub heap : t.heap (x.place a) ≡ (m.outcome w granted h).heap
@@ -135,7 +135,7 @@ pub record Advanced {P R A : Type 0} (m : Meaning) (x : Runs P R A) (s : State P
 
 -- so many charges more are granted, never more than the budget in all
 abbrev pub AdvancedBy : {P R A : Type 0} → Meaning → Runs P R A → State P R → (old : A) → (charges : ℕ) → State P R → (new : A) → Ended → Type 0
-AdvancedBy m x s a charges t b end = (w : Work) (k : ℕ) (y : Heap) (c : Counts) → IsWaiting m x s a w k y c → Advanced m x s a w (min (k + charges) w.budget) y c end t b
+AdvancedBy m x s a charges t b end = (w : Work) (k : ℕ) (y : Heap) (c : Counts) → IsWaiting m x s a w k y c → RanOn m x s a w (min (k + charges) w.budget) y c end t b
 
 -- ---- laws
 
@@ -144,5 +144,5 @@ abbrev pub StandingWaits : {P R A : Type 0} → Runs P R A → State P R → Typ
 StandingWaits {P} {R} {A} x s = (a : A) (w : Work) (granted : ℕ) (h : Heap) (c : Counts) → x.stands a s w granted h c → x.waits a s w granted h c
 
 -- a run stands where it stood, whatever other runs did meanwhile
-abbrev pub StillStands : {P R A : Type 0} → Runs P R A → (s t : State P R) → Type 0
-StillStands {P} {R} {A} x s t = (a : A) (w : Work) (granted : ℕ) (h : Heap) (c : Counts) → x.stands a s w granted h c → LeavesAlone s t (x.place a) w.run → x.stands a t w granted h c
+abbrev pub SurvivesOthers : {P R A : Type 0} → Runs P R A → (s t : State P R) → Type 0
+SurvivesOthers {P} {R} {A} x s t = (a : A) (w : Work) (granted : ℕ) (h : Heap) (c : Counts) → x.stands a s w granted h c → SparesRun s t (x.place a) w.run → x.stands a t w granted h c

@@ -6,7 +6,7 @@ ghost use Rattle.pst_history.specs.Meaning.{IsLawful, kinds_refusal};
 ghost use Rattle.pst_machine.specs.declared.activation.Activation.{Activation};
 ghost use Rattle.pst_machine.specs.Advance.{HasFewCounts};
 ghost use Rattle.pst_machine.specs.Ready.{KeepsOthers};
-ghost use Rattle.pst_runs.specs.Runs.{AdvancedBy, MayAddSome, StandingWaits, StandsBare, StillStands, WaitsForSome, WaitsWithCall, ended_of, runs_of};
+ghost use Rattle.pst_runs.specs.Runs.{AdvancedBy, MayAddSome, StandingWaits, StandsBare, SurvivesOthers, WaitsForSome, WaitsWithCall, ended_of, runs_of};
 
 use crate::calls::{call_of, kinds_refused};
 use pst_base::{NoMemory, Numbers, RunNo, Text};
@@ -22,7 +22,7 @@ use std::alloc::Global;
 pub fn known<H: VersionedHeap, C: Meant>(code: &C)
     ensures lawful { IsLawful (C.meaning code.now) }
     ensures waits { (h : H) → StandingWaits (runs_of (λ (a : Activation H H.Ref H.Place). a.stage) (C.parts code.now)) (H.state h) }
-    ensures stays { (h k : H) → StillStands (runs_of (λ (a : Activation H H.Ref H.Place). a.stage) (C.parts code.now)) (H.state h) (H.state k) }
+    ensures stays { (h k : H) → SurvivesOthers (runs_of (λ (a : Activation H H.Ref H.Place). a.stage) (C.parts code.now)) (H.state h) (H.state k) }
 {
     let _ = code.code();
 }
