@@ -32,6 +32,21 @@ module _ (list : List ℕ) (nodes : List Node) (held : List ℕ) (at k : ℕ) (a
     late = λ i a b. subst (λ (p : ℕ). rank list at < rank list p) (begin_is i b) (found.late i (omega (arith, some_before)) b);
   }
 
+-- a held node does not begin after the place, and the next one does
+pub last_beside : (list : List ℕ) (nodes : List Node) (held : List ℕ) (at k : ℕ) → AreRoots list nodes held at → suc k < length held → rank list (get_or (begins_of nodes held) k 0) ≤ rank list at → rank list at < rank list (get_or (begins_of nodes held) (suc k) 0) → IsLastIndex list nodes held at k
+last_beside list nodes held at k are l early next =
+    let begin_is : (i : ℕ) → i < length held → get_or (begins_of nodes held) i 0 ≡ lo_at nodes (get_or held i 0) = λ i l. get_or-map (lo_at nodes) held i 0 0 l in
+    record {
+      within = omega (arith, l);
+      early = subst (λ (p : ℕ). rank list p ≤ rank list at) (begin_is k (omega (arith, l))) early;
+      late = λ i a b. subst (λ (p : ℕ). rank list at < rank list p) (begin_is i b) (⊎_elim
+          (λ (m : suc k < i). omega (arith, next, are.rising.rising (suc k) i (omega arith) m b))
+          (λ (m : i ≤ suc k).
+          let same : suc k ≡ i = omega (arith, m, a) in
+          subst (λ (j : ℕ). rank list at < rank list (get_or (begins_of nodes held) j 0)) same next)
+          (cases_lt (suc k) i));
+    }
+
 -- the node at the index is the last one before the place
 abbrev pub last_before : (list : List ℕ) (nodes : List Node) (held : List ℕ) (at k : ℕ) → IsLastIndex list nodes held at k → IsLastBefore list nodes held at (get_or held k 0)
 last_before list nodes held at k last = record { index = k; within = last.within; held_there = refl; early = last.early; late = last.late }

@@ -1,6 +1,6 @@
 //! The nodes of the root record in pieces.
 
-ghost use Rattle.std.specs.Prelude.{◌≡◌, ℕ, ◌+◌, ◌<◌, ◌≤◌, ◌^◌, [], ◌∷◌, length, get_or, IfOk, OnOk, OnErr};
+ghost use Rattle.std.specs.Prelude.{◌≡◌, ℕ, ◌+◌, ◌<◌, ◌≤◌, ◌^◌, [], ◌∷◌, length, get_or, IfOk, OnOk, OnErr, IsTrue};
 ghost use Rattle.pst_order.specs.Places.{IsIn};
 ghost use Rattle.pst_order.specs.Search.{IsFewMore};
 ghost use Rattle.pst_nodes.specs.Arena.{lo_at};
@@ -16,6 +16,8 @@ use std::alloc::Global;
 #[derive(Drop)]
 pub struct RootIndex {
     pieces: Pieces,
+    // The index behind which `add` put a node last. The next one mostly comes near it.
+    recent: usize,
 }
 
 // Where the held nodes begin.
@@ -30,7 +32,7 @@ impl<'a> PlaceList for Begins<'a> {
 
     #[inline]
     fn place(&self, index: usize) -> Pos {
-        begin_of(self.nodes, self.roots.held_at(index))
+        self.roots.begin_at(self.nodes, index)
     }
 }
 
@@ -53,6 +55,7 @@ impl RootIndex {
     {
         Ok(RootIndex {
             pieces: Pieces::new(alloc, first)?,
+            recent: 0,
         })
     }
 
@@ -89,7 +92,7 @@ impl RootIndex {
     }
 
     /// Puts a node directly behind the last held one that does not begin after it, in the room that was made. The place is
-    /// found by bisection.
+    /// mostly found beside the node that came in before, else by bisection.
     pub fn add<O: Order>(&mut self, order: &O, nodes: &Nodes, right: NodeId)
         requires roots { AreRoots (O.places order.now) nodes.now.list.items (held_of self.old) (lo_at nodes.now.list.items right.0) }
         requires place { IsIn (O.places order.now) (lo_at nodes.now.list.items right.0) }
@@ -98,8 +101,47 @@ impl RootIndex {
         ensures room { spare_of self.old ≤ spare_of self.new + 1 }
     {
         let begin = begin_of(nodes, right);
-        let left = self.last_before(&mut Counting::new(order), nodes, begin);
+        let left = self.left_of(order, nodes, begin);
         self.pieces.insert_behind(left, right);
+        self.recent = left;
+    }
+
+    // The index of the last held node that does not begin after a place: looked for beside the node that came in last.
+    fn left_of<O: Order>(&self, order: &O, nodes: &Nodes, place: Pos) -> usize
+        requires roots { AreRoots (O.places order.now) nodes.now.list.items (held_of self.now) place.0 }
+        requires place { IsIn (O.places order.now) place.0 }
+        ensures { IsLastIndex (O.places order.now) nodes.now.list.items (held_of self.now) place.0 result }
+    {
+        let behind = self.recent.saturating_add(1);
+        if self.is_last(order, nodes, behind, place) {
+            behind
+        } else if self.is_last(order, nodes, self.recent, place) {
+            self.recent
+        } else {
+            self.last_before(&mut Counting::new(order), nodes, place)
+        }
+    }
+
+    // Whether the last held node that does not begin after a place is the one at an index.
+    fn is_last<O: Order>(&self, order: &O, nodes: &Nodes, index: usize, place: Pos) -> bool
+        requires roots { AreRoots (O.places order.now) nodes.now.list.items (held_of self.now) place.0 }
+        requires place { IsIn (O.places order.now) place.0 }
+        ensures { IsTrue result → IsLastIndex (O.places order.now) nodes.now.list.items (held_of self.now) place.0 index }
+    {
+        let count = self.count();
+        if index >= count || order.before(place, self.begin_at(nodes, index)) {
+            return false;
+        }
+        index + 1 == count || order.before(place, self.begin_at(nodes, index + 1))
+    }
+
+    // Where a held node begins.
+    #[inline]
+    fn begin_at(&self, nodes: &Nodes, index: usize) -> Pos
+        requires { index < length (held_of self.now) }
+        ensures { result.0 ≡ get_or (begins_of nodes.now.list.items (held_of self.now)) index 0 }
+    {
+        begin_of(nodes, self.held_at(index))
     }
 
     // The index of the last held node that does not begin after a place.
