@@ -7,3 +7,5 @@ pub mod WriteQueue
 pub mod KeptLemmas
 pub mod WriteDone
 pub mod WriteSound
+pub mod NearLemmas
+pub mod NextLemmas

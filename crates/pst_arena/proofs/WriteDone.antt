@@ -35,8 +35,8 @@ use Rattle.pst_joint.proofs.SameLemmas.{seen_same}
 use Rattle.pst_joint.proofs.PairedLemmas.{links_are_seen}
 use Rattle.pst_joint.proofs.WrittenLemmas.{numbers_are_set}
 use Rattle.pst_arena.specs.Calls.{IsNullWritten, IsPointerWritten}
-use Rattle.pst_arena.specs.Writes.{LeadsTo, IsNode, IsOneOf, IsFieldCleared}
-use Rattle.pst_arena.proofs.WriteLemmas.{number_grown, pair_grown, pair_others, added_few, stamped_other, grown_seen, few_room, one_there, cleared_none, field_slot, inverse_slot, inverse_holds}
+use Rattle.pst_arena.specs.Writes.{LeadsTo, IsNode, IsOneOf, HasRoomFor, HaveRoom, IsFieldCleared}
+use Rattle.pst_arena.proofs.WriteLemmas.{number_grown, pair_grown, pair_others, added_few, stamped_other, grown_seen, field_room, pair_room, one_there, cleared_none, field_slot, inverse_slot, inverse_holds}
 use Rattle.pst_arena.proofs.WriteSound.{cleared_sound, linked_sound, kind_kept}
 use Rattle.pst_arena.proofs.WriteQueue.{typed_rows, over_rows, queue_written}
 
@@ -123,12 +123,12 @@ module _ (types : List TypeShape) (qs : List ℕ) (r mid : List Node) (x f b : �
   pub null_queued : (new : List Node) (q0 q1 : Queue) → (xs : List ℕ) × IsQueued types r q0 xs → rows_of new ≡ rows_of mid → frames_of new ≡ frames_of mid → KeepsQueue (IsOneOf x led) types mid new q0 q1 → (xs : List ℕ) × IsQueued types new q1 xs
   null_queued new q0 q1 h rows frames keeps = queue_written (IsOneOf x led) cl.stamped types r mid new q0 q1 h cl.grown cl.links (λ i. one_or x led i (cl.others i)) rows frames keeps
 
-  -- the room that is left
-  pub room_left : (i : ℕ) (d : Row) → HasRoom (row_at r i d) 8 → HasRoom (row_at mid i d) 4
-  room_left i d h = cl.grown.room i d 4 (omega (arith, cl.few, h))
+  -- the room that is left for the new pointer
+  pub room_left : (y : NodeId) → HaveRoom r x led (Some y) → (d : Row) → HasRoom (row_at mid x d) 2
+  room_left y h d = cl.room x d 2 (omega (arith, h x (inl refl) d, field_room x y))
 
-  pub room_pair : (x y : ℕ) (d : Row) → HasRoom (row_at r y d) 8 → HasRoom (row_at mid y d) (cond (eqb y x) 4 2)
-  room_pair x y d h = omega (arith, room_left y d h, few_room (eqb y x))
+  pub room_pair : (y : NodeId) → HasRoomFor r x led (Some y) y.0 → (d : Row) → HasRoom (row_at mid y.0 d) (cond (eqb y.0 x) 4 2)
+  room_pair y h d = cl.room y.0 d (cond (eqb y.0 x) 4 2) (omega (arith, h d, pair_room x y))
 
   -- ---- a pointer
 

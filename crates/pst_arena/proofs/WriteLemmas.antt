@@ -26,7 +26,7 @@ use Rattle.pst_mirror.proofs.KindLemmas.{pointer_field}
 use Rattle.pst_mirror.proofs.MirrorLemmas.{target_node, there_at}
 use Rattle.pst_mirror.proofs.WriteLemmas.{put_cases, put_first}
 use Rattle.pst_nodes.specs.declared.node.Node.{Node}
-use Rattle.pst_nodes.specs.Arena.{row_at, chart, lives, type_no, type_of, IsSlot, AreRows}
+use Rattle.pst_nodes.specs.Arena.{HasRoom, row_at, chart, lives, type_no, type_of, IsSlot, AreRows}
 use Rattle.pst_nodes.specs.Changes.{IsTouched, AreTouched, IsFieldUnlinked, HasRoomForEntry, added}
 use Rattle.pst_nodes.proofs.NodeLemmas.{some_row, alive_of, typed_slot}
 use Rattle.pst_nodes.proofs.PairLemmas.{entry_at}
@@ -38,7 +38,7 @@ use Rattle.pst_meaning.specs.Store.{arena_of, load_of}
 use Rattle.pst_joint.specs.Seen.{seen, seen_node}
 use Rattle.pst_joint.proofs.SeenLemmas.{seen_chart}
 use Rattle.pst_joint.proofs.PairedLemmas.{pair_nodes}
-use Rattle.pst_arena.specs.Writes.{HoldsPointer, LeadsTo, IsNode, IsOneOf, HaveRoom, IsFieldCleared}
+use Rattle.pst_arena.specs.Writes.{HoldsPointer, LeadsTo, IsNode, IsOneOf, slot_stamps, pair_stamps, HaveRoom, IsFieldCleared}
 
 -- ---- what slots hold
 
@@ -106,15 +106,47 @@ module _ (qs : List ℕ) (ns : List Node) (x f b : ℕ) (all : AreRows qs ns) (m
   pub one_there : (led : Option NodeId) → LeadsTo (chart qs ns) x f b led → x < length ns → (i : ℕ) → IsOneOf x led i → i < length ns
   one_there led h l i o = ⊎_elim (λ (e : i ≡ x). omega (arith, e)) (λ (n : IsNode led i). led_there led h i n) o
 
-pub few_room : (b : Bool) → cond b 4 2 ≤ 4
-few_room true = omega arith
-few_room false = omega arith
+slot_own : (y : ℕ) → slot_stamps y y ≡ 2
+slot_own y = ap (λ (b : Bool). cond b 2 0) (eq-eqb y y refl)
 
-pub entry_room : (qs : List ℕ) (ns : List Node) (x f b : ℕ) (led : Option NodeId) → LeadsTo (chart qs ns) x f b led → HaveRoom ns x led 8 → HasRoomForEntry qs ns x f b
+two_slots : (b : Bool) → cond b 2 0 + 2 ≡ cond b 4 2
+two_slots true = refl
+two_slots false = refl
+
+-- the room that the row of a field and of an entry need
+pub field_room : (x : ℕ) (y : NodeId) → 2 ≤ pair_stamps x (Some y) x
+field_room x y = omega (arith, slot_own x)
+
+pub pair_room : (x : ℕ) (y : NodeId) → pair_stamps x (Some y) y.0 ≡ cond (eqb y.0 x) 4 2
+pair_room x y = ap (λ (n : ℕ). slot_stamps x y.0 + n) (slot_own y.0) ∙ two_slots (eqb y.0 x)
+
+pub room_x : (ns : List Node) (x : ℕ) (led : Option NodeId) → is_some led ≡ true → HaveRoom ns x led None → (d : Row) → HasRoom (row_at ns x d) 2
+room_x ns x None e room d = absurd (false≢true e)
+room_x ns x (Some y) e room d = omega (arith, room x (inl refl) d, field_room x y)
+
+pub entry_room : (qs : List ℕ) (ns : List Node) (x f b : ℕ) (led : Option NodeId) → LeadsTo (chart qs ns) x f b led → HaveRoom ns x led None → HasRoomForEntry qs ns x f b
 entry_room qs ns x f b None h room y d e = let q : Null ≡ Target y = sym h ∙ e in cc
 entry_room qs ns x f b (Some z) h room y d e =
     let q : y ≡ z.0 = target_node y z.0 (sym e ∙ h) in
-    omega (arith, room y d (inr q), few_room (eqb y x))
+    let r : HasRoom (row_at ns z.0 d) (cond (eqb z.0 x) 4 2) = omega (arith, room z.0 (inr refl) d, pair_room x z) in
+    subst (λ (k : ℕ). HasRoom (row_at ns k d) (cond (eqb k x) 4 2)) (sym q) r
+
+-- what is left of it where a slot was set
+touched_room : (old new : List Node) (x : ℕ) → IsTouched 2 old new x → (i : ℕ) (d : Row) (j : ℕ) → HasRoom (row_at old i d) (j + slot_stamps x i) → HasRoom (row_at new i d) j
+touched_room old new x t i d j = by (eqb i x) refl
+  where
+    by : (b : Bool) → eqb i x ≡ b → HasRoom (row_at old i d) (j + cond b 2 0) → HasRoom (row_at new i d) j
+    by true e h =
+        let q : i ≡ x = eqb-true i x e in
+        subst (λ (k : ℕ). HasRoom (row_at new k d) j) (sym q) (t.room d j (subst (λ (k : ℕ). HasRoom (row_at old k d) (j + 2)) q h))
+    by false e h =
+        let same : row_at new i d ≡ row_at old i d = t.others i d (λ q. false≢true (sym e ∙ eq-eqb i x q)) in
+        subst (λ (w : Row). HasRoom w j) (sym same) (omega (arith, h))
+
+-- where a pair was set
+pub pair_room_left : (w : Chart) (old new : List Node) (x f s b : ℕ) (y : NodeId) → AreTouched w old new x f y.0 s b → (i : ℕ) (d : Row) (j : ℕ) → HasRoom (row_at old i d) (j + pair_stamps x (Some y) i) → HasRoom (row_at new i d) j
+pair_room_left w old new x f s b y t i d j h =
+    touched_room t.mid new y.0 t.second i d j (touched_room old t.mid x t.first i d (j + slot_stamps y.0 i) (omega (arith, h)))
 
 -- ---- growth
 
@@ -235,6 +267,7 @@ module _ (types : List TypeShape) (qs : List ℕ) (x f b : ℕ) where
         o;
     cleared = inl (refl, ap (λ (w : Chart). w.holds x f b) (seen_chart qs ns) ∙ h);
     links = λ i. refl;
+    room = λ i d j h. omega (arith, h);
     stamped = 0;
     few = omega (arith, added_few (chart qs ns) x f b);
     grown = grown_same types ns ns refl refl refl;
@@ -262,6 +295,7 @@ module _ (types : List TypeShape) (qs : List ℕ) (x f b : ℕ) where
           },
         );
         links = λ i. t.2.second.links i ∙ t.2.first.links i;
+        room = pair_room_left (chart qs old) old new x f s b led t.2;
         stamped = added (chart qs old) x f b + added (chart qs old) y s b;
         few = omega (arith, none_added (chart qs old) (chart qs new) x f y s b u, added_few (chart qs old) x f b, added_few (chart qs old) y s b);
         grown = pair_grown types (chart qs old) old new x f y s b l m t.2;

@@ -10,6 +10,9 @@ use Rattle.pst_queue.specs.declared.links.Link.{Link}
 use Rattle.pst_queue.specs.declared.links.Link.TheVariants.{Out, Last, Before}
 use Rattle.pst_queue.specs.declared.queue.Queue.{Queue}
 use Rattle.pst_nodes.specs.declared.node.Node.{Node}
+use Rattle.pst_nodes.specs.Arena.{lives, frame_at}
+use Rattle.pst_mirror.specs.Lives.{IsIn as IsInLives}
+use Rattle.pst_base.specs.Name.{root_name}
 use Rattle.pst_split.specs.Steps.{Queues}
 use Rattle.pst_roots.specs.declared.roots.RootIndex.{RootIndex}
 use Rattle.pst_roots.specs.Roots.{held_of}
@@ -52,3 +55,8 @@ pub record IsRowAdded (shape : List TypeShape) (old new : List Node) (id : ℕ) 
   pub row : Row
   pub list : new ≡ old ++ record { name = q; ty = ty; row = row; later = None; link = Out } ∷ []
   pub made : IsNewRow (type_at shape ty) at.begin at.end row
+
+-- a node is one of the root record, and lives at a position
+pub record IsRootAt (qs : List ℕ) (ns : List Node) (i n : ℕ) : Type 0 where
+  pub inside : IsInLives (lives qs ns) i n
+  pub root : (frame_at ns i).name ≡ root_name

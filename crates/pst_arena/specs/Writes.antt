@@ -1,5 +1,5 @@
 -- What the steps of a pointer write leave.
-use Rattle.std.specs.Prelude.{◌≡◌, ◌≢◌, ℕ, ◌+◌, ◌≤◌, ◌⊎◌, List, Option, Some, None}
+use Rattle.std.specs.Prelude.{◌≡◌, ◌≢◌, ℕ, ◌+◌, ◌≤◌, ◌⊎◌, ◌==◌, if◌then◌else◌, List, Option, Some, None}
 use Rattle.pst_base.specs.declared.names.NodeId.{NodeId}
 use Rattle.pst_base.specs.declared.shape.TypeShape.{TypeShape}
 use Rattle.pst_rows.specs.declared.content.Content.TheVariants.{Null, Free}
@@ -34,9 +34,22 @@ IsNode (Some y) i = i ≡ y.0
 abbrev pub IsOneOf : ℕ → Option NodeId → ℕ → Type 0
 IsOneOf x led i = (i ≡ x) ⊎ IsNode led i
 
--- their rows have room for so many stamped values more
-abbrev pub HaveRoom : List Node → ℕ → Option NodeId → ℕ → Type 0
-HaveRoom ns x led k = (i : ℕ) (d : Row) → IsOneOf x led i → HasRoom (row_at ns i d) k
+-- how many values are stamped at most in the row of node i where a slot of node y is set over a position
+abbrev pub slot_stamps : ℕ → ℕ → ℕ
+slot_stamps y i = if i == y then 2 else 0
+
+-- the same, where a field of node x and its entry in another node are set; none are where there is no other
+abbrev pub pair_stamps : ℕ → Option NodeId → ℕ → ℕ
+pair_stamps x None i = 0
+pair_stamps x (Some y) i = slot_stamps x i + slot_stamps y.0 i
+
+-- the row of node i has room for a write of a field of node x, which is taken from one node and led to another
+abbrev pub HasRoomFor : List Node → ℕ → Option NodeId → Option NodeId → ℕ → Type 0
+HasRoomFor ns x led target i = (d : Row) → HasRoom (row_at ns i d) (pair_stamps x led i + pair_stamps x target i)
+
+-- so have the rows of node x and of the one that its field leads to
+abbrev pub HaveRoom : List Node → ℕ → Option NodeId → Option NodeId → Type 0
+HaveRoom ns x led target = (i : ℕ) → IsOneOf x led i → HasRoomFor ns x led target i
 
 -- The pointer that a field held over a position is taken away, if it held one. What is stamped for that and what a write of
 -- the field stamps afterwards are 4 values at most, since the field has its edges then.
@@ -47,6 +60,7 @@ pub record IsFieldCleared (types : List TypeShape) (qs : List ℕ) (old new : Li
   pub free : (y s : ℕ) → ((chart qs old).holds y s b ≡ Free) ⊎ ((chart qs old).holds y s b ≡ From x f) → (chart qs new).holds y s b ≡ Free
   pub cleared : IsCleared (arena_of (rank qs) (seen old)) (arena_of (rank qs) (seen new)) x f b
   pub links : (i : ℕ) → link_at new i ≡ link_at old i
+  pub room : (i : ℕ) (d : Row) (j : ℕ) → HasRoom (row_at old i d) (j + pair_stamps x led i) → HasRoom (row_at new i d) j
   pub stamped : ℕ
   pub few : stamped + added (chart qs new) x f b ≤ 4
   pub grown : AreGrown stamped types old new

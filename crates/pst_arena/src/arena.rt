@@ -2,6 +2,7 @@
 
 use crate::adding::new_node;
 use crate::fat_nodes::FatNodes;
+use crate::near::{cover, root_beside};
 use crate::potential::potential_of;
 use crate::repairing::repair_and_hold;
 use crate::writes;
@@ -10,6 +11,7 @@ use pst_meaning::place::Place;
 use pst_nodes::node::Nodes;
 use pst_order::{Order, Pos};
 use pst_queue::queue::Queue;
+use pst_repair::repair::split_next;
 use pst_roots::RootIndex;
 use pst_rows::Content;
 use std::alloc::Global;
@@ -35,6 +37,28 @@ impl Model for Arena {
     ghost view = { λ a. kept_of a.nodes.list.items a.roots a.looked_at };
 
     ghost invariant = { λ a. AreLinked a.nodes.list.items a.queue };
+}
+
+impl Arena {
+    ghost use Rattle.std.specs.Prelude.{◌≡◌, ◌+◌, [], length, false, IfOk};
+    ghost use Rattle.pst_meaning.specs.Store.{AreHeld};
+    ghost use Rattle.pst_repair.specs.Repair.{splits_in};
+    ghost use Rattle.pst_arena.specs.Calls.{AreNodes, AreWaiting, IsRepaired, arena_at};
+
+    /// Splits the node that waits first, and gives whether one waited: one of the splits of `repair`, which makes one node more.
+    /// After `NoMemory` none was made, and the call can be made again.
+    pub fn split_next<O: Order>(&mut self, shape: &Shape, order: &O) -> Result<bool, NoMemory>
+        requires nodes { AreNodes shape.now (O.places order.now) self.old.nodes }
+        requires waiting { AreWaiting shape.now self.old.nodes self.old.noted.queue }
+        requires held { AreHeld (arena_at (O.places order.now) self.old.nodes) self.old.noted }
+        ensures repaired { IsRepaired shape.now (O.places order.now) self.old.nodes self.new.nodes }
+        ensures waiting { AreWaiting shape.now self.new.nodes self.new.noted.queue }
+        ensures held { AreHeld (arena_at (O.places order.now) self.new.nodes) self.new.noted }
+        ensures rested { IfOk result (λ more. more ≡ false → self.new.noted.queue ≡ []) }
+        ensures count { IfOk result (λ more. length self.new.nodes ≡ length self.old.nodes + splits_in more) }
+    {
+        split_next(order, shape, &mut self.nodes, &mut self.queue)
+    }
 }
 
 impl FatNodes for Arena {
@@ -75,12 +99,19 @@ impl FatNodes for Arena {
     }
 
     fn cover<O: Order>(&self, _shape: &Shape, order: &O, id: NodeId, at: Pos) -> NodeId {
-        self.nodes.cover(order, id, at)
+        cover(order, &self.nodes, id, at)
     }
 
     fn root<O: Order>(&self, _shape: &Shape, order: &O, at: Pos) -> NodeId {
         let held = self.roots.at(order, &self.nodes, at);
         self.nodes.cover(order, held, at)
+    }
+
+    fn root_near<O: Order>(&self, shape: &Shape, order: &O, near: NodeId, at: Pos) -> NodeId {
+        match root_beside(order, &self.nodes, near, at) {
+            Some(node) => node,
+            None => self.root(shape, order, at),
+        }
     }
 
     fn read<O: Order>(

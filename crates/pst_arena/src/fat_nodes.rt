@@ -73,6 +73,14 @@ pub trait FatNodes: Drop {
         ensures inside { IsIn (arena_at (O.places order.now) (nodes self.now)) result.0 (rank (O.places order.now) at.0) }
         ensures name { (arena_at (O.places order.now) (nodes self.now)).name result.0 ≡ root_name };
 
+    /// The node of the root record that lives at a place, looked for at a node and behind it, and then by the root index.
+    fn root_near<O: Order>(&self, shape: &Shape, order: &O, near: NodeId, at: Pos) -> NodeId
+        requires nodes { AreNodes shape.now (O.places order.now) (nodes self.now) }
+        requires held { AreHeld (arena_at (O.places order.now) (nodes self.now)) (noted self.now) }
+        requires live { IsLive (arena_at (O.places order.now) (nodes self.now)) 0 (rank (O.places order.now) at.0) }
+        ensures inside { IsIn (arena_at (O.places order.now) (nodes self.now)) result.0 (rank (O.places order.now) at.0) }
+        ensures name { (arena_at (O.places order.now) (nodes self.now)).name result.0 ≡ root_name };
+
     /// What a slot holds at a place.
     fn read<O: Order>(&self, shape: &Shape, order: &O, id: NodeId, slot: SlotNo, at: Pos) -> Content
         requires nodes { AreNodes shape.now (O.places order.now) (nodes self.now) }

@@ -14,6 +14,7 @@
 mod adding;
 mod arena;
 mod fat_nodes;
+mod near;
 mod potential;
 mod repairing;
 mod writes;

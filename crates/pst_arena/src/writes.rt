@@ -1,6 +1,6 @@
 //! Writes of one field over one place: memory first, then the change, then the queue. What is so of nodes at all times stays so.
 
-ghost use Rattle.std.specs.Prelude.{◌≡◌, ℕ, suc, ◌<◌, ◌⊎◌, List, length, map, Some, OnOk, OnErr};
+ghost use Rattle.std.specs.Prelude.{◌≡◌, ℕ, suc, ◌<◌, ◌≤◌, ◌⊎◌, List, length, map, Some, None, OnOk, OnErr};
 ghost use Rattle.pst_base.specs.declared.names.Kind.TheVariants.{Pointer};
 ghost use Rattle.pst_base.specs.declared.shape.TypeShape.{TypeShape};
 ghost use Rattle.pst_base.specs.Heap.{IsPointer};
@@ -17,7 +17,7 @@ ghost use Rattle.pst_meaning.specs.Store.{AreWide};
 ghost use Rattle.pst_joint.specs.Seen.{seen};
 ghost use Rattle.pst_repair.specs.Repair.{IsQueued};
 ghost use Rattle.pst_arena.specs.Calls.{IsNumberWritten, IsNullWritten, IsPointerWritten};
-ghost use Rattle.pst_arena.specs.Writes.{HoldsPointer, LeadsTo, IsNode, IsOneOf, HaveRoom, IsFieldCleared};
+ghost use Rattle.pst_arena.specs.Writes.{HoldsPointer, LeadsTo, IsNode, IsOneOf, slot_stamps, pair_stamps, HasRoomFor, HaveRoom, IsFieldCleared};
 
 use pst_base::{NoMemory, NodeId, Shape, SlotNo};
 use pst_meaning::place::Place;
@@ -87,7 +87,7 @@ pub fn set_null<O: Order>(
     if led.is_none() {
         return Ok(());
     }
-    reserve_pair(nodes, id, led)?;
+    reserve_pair(nodes, id, led, None)?;
     clear(order, nodes, id, field, at, led);
     queue_pair(shape, nodes, queue, id, led);
     Ok(())
@@ -123,18 +123,14 @@ pub fn set_target<O: Order>(
     ensures err_queue { OnErr result (queue.new ≡ queue.old) }
 {
     let previous = led_to(order, nodes, id, field, at.begin);
-    nodes.reserve_row(target, ROOM)?;
-    reserve_pair(nodes, id, previous)?;
+    reserve_row(nodes, target, id, previous, Some(target))?;
+    reserve_pair(nodes, id, previous, Some(target))?;
     clear(order, nodes, id, field, at, previous);
     nodes.link(order, at.begin, at.end, id, field, target, slot);
     queue_if_over(shape, nodes, queue, target);
     queue_pair(shape, nodes, queue, id, previous);
     Ok(())
 }
-
-// How many values a pointer write can stamp in one row: 2 for each slot that it sets, and it sets 4 where the node leads to
-// itself before and after the write.
-const ROOM: usize = 8;
 
 // The node that a field leads to at a place, or None where the field is null there.
 fn led_to<O: Order>(order: &O, nodes: &Nodes, id: NodeId, field: SlotNo, at: Pos) -> Option<NodeId>
@@ -151,16 +147,58 @@ fn led_to<O: Order>(order: &O, nodes: &Nodes, id: NodeId, field: SlotNo, at: Pos
 
 // Makes room for a pointer write in the row of a node and of the one that its field leads to. A refusal changes nothing but
 // room.
-fn reserve_pair(nodes: &mut Nodes, id: NodeId, led: Option<NodeId>) -> Result<(), NoMemory>
+fn reserve_pair(
+    nodes: &mut Nodes,
+    id: NodeId,
+    led: Option<NodeId>,
+    target: Option<NodeId>,
+) -> Result<(), NoMemory>
     requires there { (i : ℕ) → IsOneOf id.0 led i → i < length nodes.old.list.items }
     ensures same { AreSameNodes nodes.old.list.items nodes.new.list.items }
-    ensures room { OnOk result (HaveRoom nodes.new.list.items id.0 led 8) }
+    ensures room { OnOk result (HaveRoom nodes.new.list.items id.0 led target) }
 {
-    nodes.reserve_row(id, ROOM)?;
+    reserve_row(nodes, id, id, led, target)?;
     match led {
-        Some(node) => nodes.reserve_row(node, ROOM),
+        Some(node) => reserve_row(nodes, node, id, led, target),
         None => Ok(()),
     }
+}
+
+// Makes room in the row of a node for what a pointer write stamps in it: a field of `id` is taken from one node, and led to
+// another. A refusal changes nothing but room.
+fn reserve_row(
+    nodes: &mut Nodes,
+    node: NodeId,
+    id: NodeId,
+    led: Option<NodeId>,
+    target: Option<NodeId>,
+) -> Result<(), NoMemory>
+    requires { node.0 < length nodes.old.list.items }
+    ensures same { AreSameNodes nodes.old.list.items nodes.new.list.items }
+    ensures room { OnOk result (HasRoomFor nodes.new.list.items id.0 led target node.0) }
+{
+    let taken = pair_stamps(node, id, led);
+    let put = pair_stamps(node, id, target);
+    nodes.reserve_row(node, taken + put)
+}
+
+// How many values are stamped at most in the row of a node where a pointer of `id` to another node and its entry are written:
+// two for each slot of it that is set.
+fn pair_stamps(node: NodeId, id: NodeId, other: Option<NodeId>) -> usize
+    ensures stamps { result ≡ pair_stamps id.0 other node.0 }
+    ensures few { result ≤ 4 }
+{
+    match other {
+        Some(entered) => slot_stamps(node, id) + slot_stamps(node, entered),
+        None => 0,
+    }
+}
+
+// How many values are stamped at most in the row of a node where a slot of another one is set, or of the same.
+fn slot_stamps(node: NodeId, set: NodeId) -> usize
+    ensures { result ≡ slot_stamps set.0 node.0 }
+{
+    if node == set { 2 } else { 0 }
 }
 
 // Takes away the pointer that a field holds over a place, if it holds one, and its entry.
@@ -177,7 +215,7 @@ fn clear<O: Order>(
     requires behind { rank (O.places order.now) at.end.0 ≡ suc (rank (O.places order.now) at.begin.0) }
     requires there { id.0 < length nodes.old.list.items }
     requires led { LeadsTo (chart (O.places order.now) nodes.old.list.items) id.0 field.0 (rank (O.places order.now) at.begin.0) led }
-    requires room { HaveRoom nodes.old.list.items id.0 led 8 }
+    requires room { HaveRoom nodes.old.list.items id.0 led None }
     ensures { (types : List TypeShape) → IsFieldCleared types (O.places order.now) nodes.old.list.items nodes.new.list.items id.0 field.0 (rank (O.places order.now) at.begin.0) led }
 {
     if led.is_some() {
