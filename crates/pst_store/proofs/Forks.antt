@@ -57,6 +57,10 @@ module _ (s g : Stored) (from : Place) (e : s ≡ g) (k : IsKept s) (p : IsPubli
     pub mid_in : IsIn mid from.begin.0
     mid_in = record { there = (ranks_law s.places mid from.begin.0 z fork_there.there c).stays from.begin.0 fork_there.there }
 
+    -- there is room in the order for a second one
+    pub mid_few : length mid < 1073741824
+    mid_few = omega (arith, k.store.few, below, (ranks_law s.places mid from.begin.0 z fork_there.there c).count)
+
     mid_held : AreHeld (arena_at mid s.nodes) s.noted
     mid_held = held_inserted s.places mid s.nodes from.begin.0 z s.noted k.store.rows a k.held
 

@@ -19,6 +19,8 @@ pub(crate) struct Core<O: Order + Drop, N: FatNodes> {
     start: Place,
     versions: Versions<Place>,
     forks: Vec<Fork>,
+    // For each fork the root record's node at the place that was forked, as it was then: a place to look from.
+    roots: Vec<NodeId>,
     calls: u32,
     counts: Counts,
 }
@@ -73,6 +75,7 @@ impl<O: Order + Drop, N: FatNodes> Core<O, N> {
             start,
             versions: Versions::new(alloc, start)?,
             forks: Vec::new(alloc),
+            roots: Vec::new(alloc),
             calls: 0,
             counts: Counts {
                 records: 1,
@@ -125,7 +128,12 @@ impl<O: Order + Drop, N: FatNodes> Core<O, N> {
         ensures name { (state_of self.now).name result ≡ root_name }
         ensures live { (state_of self.now).live at result }
     {
-        self.nodes.root(&self.shape, &self.order, at.begin)
+        let near = match self.roots.get(at.number as usize) {
+            Some(near) => *near,
+            None => NodeId(0),
+        };
+        self.nodes
+            .root_near(&self.shape, &self.order, near, at.begin)
     }
 
     /// The number in a field of a record, at a place.
@@ -297,8 +305,10 @@ impl<O: Order + Drop, N: FatNodes> Core<O, N> {
         ensures ok { IfOk result (λ place. Forked (state_of self.old) from place (state_of self.new)) }
         ensures err { OnErr result (ForkRefused (state_of self.old) (state_of self.new)) }
     {
+        let root = self.root(from);
         self.calls += 1;
         self.forks.reserve(1)?;
+        self.roots.reserve(1)?;
         let end = self.order.insert_after(from.begin)?;
         let begin = self.order.insert_after(from.begin)?;
         let place = Place {
@@ -306,6 +316,7 @@ impl<O: Order + Drop, N: FatNodes> Core<O, N> {
             begin,
             end,
         };
+        self.roots.push_reserved(root);
         self.forks.push(Fork {
             place,
             from,
