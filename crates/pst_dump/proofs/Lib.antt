@@ -1,0 +1,14 @@
+pub mod Entries
+pub mod Fields
+pub mod Order
+pub mod Lists
+pub mod Walked
+pub mod Numbered
+pub mod Lines
+pub mod Worked
+pub mod Reached
+pub mod Renamed
+pub mod Told
+pub mod Existing
+pub mod Legible
+pub mod Texts

@@ -1,0 +1,6 @@
+pub mod Paths
+pub mod Dump
+pub mod Walk
+pub mod Renaming
+pub mod Laws
+pub mod Worked

@@ -1,0 +1,83 @@
+//! Dumps as texts.
+
+use super::built::{Built, FIRST, KEY, LEFT, RIGHT, ROOT, SECOND, SIZE, Trouble, item};
+
+#[test]
+fn the_root_record_alone(rt: HostRuntime) -> Result<(), Trouble> {
+    let heap = Built::new(rt.alloc())?;
+    let wanted: &[u8] = b"0 root: null null\n";
+    assert!(rt; heap.dump()?.as_slice() == wanted);
+    Ok(())
+}
+
+#[test]
+fn a_list_whose_first_item_came_last(rt: HostRuntime) -> Result<(), Trouble> {
+    let mut heap = Built::new(rt.alloc())?;
+    heap.make(item(0))?;
+    heap.set(item(0), KEY, 5)?;
+    heap.point(ROOT, FIRST, Some(item(0)))?;
+    heap.make(item(1))?;
+    heap.set(item(1), KEY, 7)?;
+    heap.point(item(1), LEFT, Some(item(0)))?;
+    heap.point(ROOT, FIRST, Some(item(1)))?;
+    let wanted: &[u8] = b"0 root: @1 null
+1 N: 7 0 @2 null
+2 N: 5 0 null null
+";
+    assert!(rt; heap.dump()?.as_slice() == wanted);
+    Ok(())
+}
+
+#[test]
+fn a_shared_item_a_ring_and_one_that_nothing_reaches(rt: HostRuntime) -> Result<(), Trouble> {
+    let mut heap = Built::new(rt.alloc())?;
+    for ordinal in 0..5 {
+        heap.make(item(ordinal))?;
+    }
+    heap.set(item(0), SIZE, -9_223_372_036_854_775_808)?;
+    heap.set(item(1), KEY, 9_223_372_036_854_775_807)?;
+    heap.set(item(2), KEY, -1)?;
+    heap.set(item(2), SIZE, 10)?;
+    heap.point(ROOT, FIRST, Some(item(3)))?;
+    heap.point(ROOT, SECOND, Some(item(1)))?;
+    heap.point(item(3), RIGHT, Some(item(2)))?;
+    heap.point(item(2), LEFT, Some(item(3)))?;
+    heap.point(item(2), RIGHT, Some(item(0)))?;
+    heap.point(item(1), LEFT, Some(item(0)))?;
+    heap.point(item(1), RIGHT, Some(item(1)))?;
+    heap.point(item(4), LEFT, Some(item(0)))?;
+    let wanted: &[u8] = b"0 root: @1 @2
+1 N: 0 0 null @3
+2 N: 9223372036854775807 0 @4 @2
+3 N: -1 10 @1 @4
+4 N: 0 -9223372036854775808 null null
+";
+    assert!(rt; heap.dump()?.as_slice() == wanted);
+    Ok(())
+}
+
+/// The items of the long list. The forest counts in-degrees anew at each write of a pointer, so there are not more.
+const MANY: u32 = 1_000;
+
+/// A list of many items.
+fn long_list(heap: &mut Built) -> Result<(), Trouble> {
+    heap.make(item(0))?;
+    heap.point(ROOT, FIRST, Some(item(0)))?;
+    for ordinal in 1..MANY {
+        heap.make(item(ordinal))?;
+        heap.point(item(ordinal - 1), LEFT, Some(item(ordinal)))?;
+    }
+    heap.set(item(MANY - 1), KEY, 1)
+}
+
+#[test]
+fn a_list_of_a_thousand(rt: HostRuntime) -> Result<(), Trouble> {
+    let mut heap = Built::new(rt.alloc())?;
+    long_list(&mut heap)?;
+    let dump = heap.dump()?;
+    let start: &[u8] = b"0 root: @1 null\n1 N: 0 0 @2 null\n2 N: 0 0 @3 null\n";
+    let end: &[u8] = b"\n999 N: 0 0 @1000 null\n1000 N: 1 0 null null\n";
+    assert!(rt; dump.as_slice().starts_with(start));
+    assert!(rt; dump.as_slice().ends_with(end));
+    Ok(())
+}
