@@ -1,0 +1,5 @@
+pub mod PathLemmas
+pub mod ReadingLemmas
+pub mod ChangeLemmas
+pub mod LawLemmas
+pub mod WorkedLemmas

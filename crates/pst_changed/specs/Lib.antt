@@ -1,0 +1,5 @@
+pub mod Path
+pub mod Reading
+pub mod Change
+pub mod Laws
+pub mod Worked
