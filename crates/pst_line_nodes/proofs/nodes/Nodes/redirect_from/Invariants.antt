@@ -1,0 +1,15 @@
+use Rattle.std.proofs.Common.{ℕ, Bool, true, ◌-◌}
+use Rattle.pst_line_nodes.specs.Line.{IsLine, load}
+use Rattle.pst_line_nodes.specs.Nodes.{line_of, AreKept}
+use Rattle.pst_line_nodes.specs.Carried.{IsCarried, IsRedirecting}
+use Rattle.pst_line_nodes.proofs.nodes.Nodes.redirect_from.Given as goal
+
+abbrev pub invariant-loop-copy : goal.invariant-loop-copy
+invariant-loop-copy l = record {
+  kept : AreKept l.shape l.stamp l.self;
+  carried : (made : ℕ → Bool) → IsLine l.shape l.stamp (line_of made l.fn.self) → IsCarried l.shape l.stamp (line_of made l.fn.self) (line_of made l.self);
+  going : IsRedirecting (line_of (λ i. true) l.self) l.stamp l.copy 0;
+}
+
+abbrev pub decreases-loop-copy : goal.decreases-loop-copy
+decreases-loop-copy l = load l.shape (line_of (λ i. true) l.self) l.stamp - l.copy

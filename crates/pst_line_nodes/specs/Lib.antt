@@ -1,0 +1,10 @@
+pub mod Line
+pub mod Changes
+pub mod Full
+pub mod Runs
+pub mod Seen
+pub mod Rows
+pub mod Nodes
+pub mod Copying
+pub mod Making
+pub mod Carried

@@ -1,0 +1,109 @@
+//! The copy of a full node.
+
+ghost use Rattle.std.specs.Prelude.{OnOk, OnErr, IfOk, ◌≡◌, ◌≢◌, ◌<◌, ◌≤◌, ℕ, Bool, true, List, [], ◌∷◌, ◌++◌, length, get_or, slice_get, slice_set, Some, None};
+ghost use Rattle.pst_base.specs.declared.shape.TypeShape.{TypeShape};
+ghost use Rattle.pst_line_nodes.specs.declared.content.Content.TheVariants.{Null, Target};
+ghost use Rattle.pst_line_nodes.specs.Seen.{Seen};
+ghost use Rattle.pst_line_nodes.specs.Line.{IsNewest, IsLine, newest};
+ghost use Rattle.pst_line_nodes.specs.Changes.{IsCopied, redirected};
+ghost use Rattle.pst_line_nodes.specs.Rows.{base_of};
+ghost use Rattle.pst_line_nodes.specs.Nodes.{line_of, AreKept};
+ghost use Rattle.pst_line_nodes.specs.Copying.{AreContents, IsHandedOver, AreRenamed, IsTargetBelow, node_at};
+
+use crate::content::Content;
+use crate::node::Node;
+use crate::nodes::Nodes;
+use pst_base::NoMemory;
+
+impl Nodes {
+    /// Copies a newest node that began before a stamp, the newest one. The copy is the next node, begins at the stamp, has
+    /// the contents in force with each pointer redirected, and the entries. A refusal changes nothing.
+    pub fn copy(&mut self, x: u64, stamp: u32) -> Result<(), NoMemory>
+        requires line { (shape : List TypeShape) × (made : ℕ → Bool) × AreKept shape stamp self.old × IsLine shape stamp (line_of made self.old) }
+        requires newest { IsNewest (line_of (λ _. true) self.old) x }
+        requires before { (line_of (λ _. true) self.old).first x < stamp }
+        ensures copied { OnOk result ((made : ℕ → Bool) → IsCopied (line_of made self.old) (line_of made self.new) x stamp) }
+        ensures kept { (shape : List TypeShape) → AreKept shape stamp self.old → AreKept shape stamp self.new }
+        ensures err { OnErr result (self.new ≡ self.old) }
+    {
+        let z = self.count();
+        let contents = self.contents(x, z, stamp)?;
+        self.grow(x, z, stamp, contents)?;
+        self.rename_partners(x, z);
+        Ok(())
+    }
+
+    // What the fields of the copy z of a node are to hold at a stamp.
+    fn contents(&self, x: u64, z: u64, stamp: u32) -> Result<Vec<Content>, NoMemory>
+        requires there { x < length self.now }
+        requires targets { (g y : ℕ) → (line_of (λ _. true) self.now).holds x g stamp ≡ Target y → y < length self.now }
+        ensures { IfOk result (λ contents. AreContents self.now x z stamp contents.items) }
+    {
+        let mut contents = Vec::new(*self.list.allocator());
+        for slot in 0..self.node(x).width() {
+            let content = self.node(x).read(slot, stamp);
+            contents.push(self.redirected(content, x, z))?;
+        }
+        Ok(contents)
+    }
+
+    // A content of the node x as its copy z has it.
+    fn redirected(&self, content: Content, x: u64, z: u64) -> Content
+        requires { (y : ℕ) → content ≡ Target y → y < length self.now }
+        ensures { result ≡ redirected (line_of (λ _. true) self.now) x z content }
+    {
+        match content {
+            Content::Target(y) if y == x => Content::Target(z),
+            Content::Target(y) => Content::Target(self.newest(y)),
+            Content::Number(_) | Content::Null => content,
+        }
+    }
+
+    // The node that a newest pointer to a node is to hold: the node, or its copy.
+    pub(crate) fn newest(&self, y: u64) -> u64
+        requires { y < length self.now }
+        ensures { result ≡ newest (line_of (λ _. true) self.now) y }
+    {
+        match self.node(y).next() {
+            Some(z) => z,
+            None => y,
+        }
+    }
+
+    // Adds the copy z of the node x, which takes its inverse slots over. A refusal changes nothing.
+    fn grow(&mut self, x: u64, z: u64, stamp: u32, contents: Vec<Content>) -> Result<(), NoMemory>
+        requires there { x < length self.old }
+        ensures ok { OnOk result (IsHandedOver self.old self.new x z stamp contents.items) }
+        ensures err { OnErr result (self.new ≡ self.old) }
+    {
+        self.list.reserve(1)?;
+        let node = &mut self.list[x as usize];
+        let copy = node.hand_over(z, stamp, contents);
+        self.list.push_reserved(copy);
+        Ok(())
+    }
+
+    // Lets the entries of x in the nodes that its copy z holds be entries of z.
+    fn rename_partners(&mut self, x: u64, z: u64)
+        requires there { z < length self.old }
+        requires targets { (g y : ℕ) → base_of (node_at self.old z) g ≡ Target y → y < length self.old }
+        requires apart { z ≢ x }
+        ensures { AreRenamed self.old self.new x z (IsTargetBelow (node_at self.old z) (length (node_at self.old z).base)) }
+    {
+        for slot in 0..self.node(z).width() {
+            let content = self.node(z).base(slot);
+            self.rename_partner(content, x, z);
+        }
+    }
+
+    // Lets the entries of x in the node that a content holds be entries of its copy z.
+    fn rename_partner(&mut self, content: Content, x: u64, z: u64)
+        requires { (y : ℕ) → content ≡ Target y → y < length self.old }
+        ensures { AreRenamed self.old self.new x z (λ i. content ≡ Target i) }
+    {
+        if let Content::Target(y) = content {
+            let node = &mut self.list[y as usize];
+            node.rename(x, z);
+        }
+    }
+}

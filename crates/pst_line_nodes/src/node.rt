@@ -1,0 +1,346 @@
+//! Nodes.
+
+ghost use Rattle.std.specs.Prelude.{IfOk, OnOk, OnErr, IsOk, IfSome, IfNone, ◌≡◌, ◌≢◌, ℕ, ◌<◌, ◌≤◌, ◌↔◌, IsTrue, [], None, Some, List, true, false, not, length, get_or, slice_set, map};
+ghost use Rattle.std.specs.Option.{option_map};
+ghost use Rattle.pst_line_nodes.specs.Seen.{Seen};
+ghost use Rattle.pst_line_nodes.specs.Line.{if_newest};
+ghost use Rattle.pst_line_nodes.specs.Full.{is_other_entry};
+ghost use Rattle.pst_line_nodes.specs.Making.{IsNewNode, AreDefault};
+ghost use Rattle.pst_line_nodes.specs.Nodes.{pair_of, entry_of, entry_renamed, entry_without};
+ghost use Rattle.pst_line_nodes.specs.Rows.{held, since_in, IsStampAt, IsUnstamped, IsPut, AreRising};
+
+use crate::content::{Content, Entry, Stamp};
+use pst_base::{Name, NoMemory, TypeNo, TypeShape};
+use std::alloc::Global;
+use std::marker::Model;
+use std::mem;
+
+/// A node: its record, where it begins, the node after it, what its fields hold, and the pointers to it.
+#[derive(Drop)]
+pub struct Node {
+    name: Name,
+    ty: TypeNo,
+    home: u64,
+    first: u32,
+    later: Option<u64>,
+    base: Vec<Content>,
+    stamped: Vec<Stamp>,
+    inverse: Vec<Option<Entry>>,
+}
+
+impl Model for Node {
+    ghost use Rattle.pst_line_nodes.specs.Seen.{Seen};
+    ghost use Rattle.pst_line_nodes.specs.Full.{is_other_entry};
+    ghost use Rattle.pst_line_nodes.specs.Making.{IsNewNode, AreDefault};
+    ghost use Rattle.pst_line_nodes.specs.Nodes.{pair_of, entry_of, entry_renamed, entry_without};
+
+    ghost Value = { Seen };
+
+    ghost view = { λ n. record { name = n.name; ty = n.ty; home = n.home; first = n.first; later = n.later; base = n.base.items; stamped = n.stamped.items; inverse = n.inverse.items } };
+}
+
+impl Node {
+    ghost use Rattle.pst_line_nodes.specs.Rows.{holds, since, base_of, IsRow, IsRowSet};
+
+    /// The first node of a new record, with default fields.
+    pub fn new(
+        alloc: Global,
+        shape: &TypeShape,
+        name: Name,
+        ty: TypeNo,
+        id: u64,
+        stamp: u32,
+    ) -> Result<Node, NoMemory>
+        ensures { IfOk result (IsNewNode shape.now name ty id stamp) }
+    {
+        Ok(Node {
+            name,
+            ty,
+            home: id,
+            first: stamp,
+            later: None,
+            base: default_contents(alloc, shape)?,
+            stamped: Vec::new(alloc),
+            inverse: vec![in alloc; None; usize::from(shape.limit)]?,
+        })
+    }
+
+    /// The record.
+    pub fn name(&self) -> Name
+        ensures { result ≡ self.now.name }
+    {
+        self.name
+    }
+
+    /// Its type.
+    pub fn ty(&self) -> TypeNo
+        ensures { result ≡ self.now.ty }
+    {
+        self.ty
+    }
+
+    /// The first stamp.
+    pub fn begins(&self) -> u32
+        ensures { result ≡ self.now.first }
+    {
+        self.first
+    }
+
+    /// The node that comes after it.
+    pub fn next(&self) -> Option<u64>
+        ensures { result ≡ self.now.later }
+    {
+        self.later
+    }
+
+    /// How many fields there are.
+    pub fn width(&self) -> usize
+        ensures { result ≡ length self.now.base }
+    {
+        self.base.len()
+    }
+
+    /// How many inverse slots there are.
+    pub fn inverse_slots(&self) -> usize
+        ensures { result ≡ length self.now.inverse }
+    {
+        self.inverse.len()
+    }
+
+    /// How many values are stamped.
+    pub fn stamped(&self) -> usize
+        ensures { result ≡ length self.now.stamped }
+    {
+        self.stamped.len()
+    }
+
+    /// How many values are stamped, if it is the newest node of its record, and else 0.
+    pub fn newest_stamped(&self) -> u64
+        ensures { result ≡ if_newest self.now.later (length self.now.stamped) }
+    {
+        match self.later {
+            None => self.stamped.len() as u64,
+            Some(_) => 0,
+        }
+    }
+
+    /// What a field holds from the first stamp on.
+    pub fn base(&self, slot: usize) -> Content
+        requires slot { slot < length self.now.base }
+        ensures { result ≡ base_of self.now slot }
+    {
+        self.base[slot]
+    }
+
+    /// The pointer that an inverse slot stands for.
+    pub fn entry(&self, slot: usize) -> Option<Entry>
+        requires slot { slot < length self.now.inverse }
+        ensures { result ≡ get_or self.now.inverse slot None }
+    {
+        self.inverse[slot]
+    }
+
+    /// What a field holds at a stamp.
+    pub fn read(&self, slot: usize, at: u32) -> Content
+        requires slot { slot < length self.now.base }
+        ensures { result ≡ holds self.now slot at }
+    {
+        latest(self.stamped.as_slice(), self.base[slot], slot, at)
+    }
+
+    /// Writes a field at the newest stamp: replaces the content where the newest segment begins there, and else stamps
+    /// one. Where it replaces it takes no memory.
+    pub fn set(&mut self, slot: u16, stamp: u32, content: Content) -> Result<(), NoMemory>
+        requires row { IsRow stamp self.old }
+        requires slot { slot < length self.old.base }
+        ensures ok { OnOk result (IsRowSet self.old self.new slot stamp content) }
+        ensures row { OnOk result (IsRow stamp self.new) }
+        ensures err { OnErr result (self.new ≡ self.old) }
+        ensures replaces { since self.old slot ≡ stamp → IsOk result }
+    {
+        if self.first == stamp {
+            self.base[slot as usize] = content;
+            Ok(())
+        } else {
+            put(&mut self.stamped, slot, stamp, content)
+        }
+    }
+
+    /// An inverse slot that is free, or has the entry of this very field. None where each slot has another field's entry:
+    /// then the record has as many pointers as its limit.
+    pub fn open_slot(&self, x: u64, field: u16) -> Option<usize>
+        ensures some { IfSome result (λ i. (i < length self.now.inverse) × (is_other_entry x field (entry_of self.now i) ≡ false)) }
+        ensures none { IfNone result ((i : ℕ) → i < length self.now.inverse → is_other_entry x field (entry_of self.now i) ≡ true) }
+    {
+        for i in 0..self.inverse.len() {
+            if is_open(self.inverse[i], x, field) {
+                return Some(i);
+            }
+        }
+        None
+    }
+
+    /// Whether a write of a field at a stamp would stamp a value, and there are more than a limit already.
+    pub fn is_full(&self, limit: usize, slot: u16, stamp: u32) -> bool
+        requires row { IsRow stamp self.now }
+        ensures { IsTrue result ↔ (limit < length self.now.stamped) × (since self.now slot ≢ stamp) }
+    {
+        self.stamped.len() > limit && stamp_index(self.stamped.as_slice(), slot, stamp).is_none()
+    }
+
+    /// The copy of this node, with a number, contents and a first stamp. It comes after this node, and takes the inverse
+    /// slots over.
+    pub fn hand_over(&mut self, copy: u64, stamp: u32, base: Vec<Content>) -> Node
+        ensures old { self.new ≡ record self.old { later = Some copy; inverse = [] } }
+        ensures copy { result ≡ record self.old { first = stamp; later = None; base = base.items; stamped = [] } }
+    {
+        let alloc = *self.inverse.allocator();
+        let inverse = mem::replace(&mut self.inverse, Vec::new(alloc));
+        self.later = Some(copy);
+        Node {
+            name: self.name,
+            ty: self.ty,
+            home: self.home,
+            first: stamp,
+            later: None,
+            base,
+            stamped: Vec::new(alloc),
+            inverse,
+        }
+    }
+
+    /// Lets the entries of a node's fields be those of its copy.
+    pub fn rename(&mut self, x: u64, z: u64)
+        ensures { self.new ≡ record self.old { inverse = map (entry_renamed x z) self.old.inverse } }
+    {
+        rename_all(self.inverse.as_mut_slice(), x, z);
+    }
+
+    /// Sets an inverse slot.
+    pub fn enter(&mut self, slot: usize, entry: Entry)
+        requires { slot < length self.old.inverse }
+        ensures { self.new ≡ record self.old { inverse = slice_set self.old.inverse slot (Some entry) } }
+    {
+        self.inverse[slot] = Some(entry);
+    }
+
+    /// Frees each inverse slot that has the entry of a field.
+    pub fn free(&mut self, x: u64, field: u16)
+        ensures { self.new ≡ record self.old { inverse = map (entry_without x field) self.old.inverse } }
+    {
+        free_all(self.inverse.as_mut_slice(), x, field);
+    }
+}
+
+// What the fields of a new record hold.
+fn default_contents(alloc: Global, shape: &TypeShape) -> Result<Vec<Content>, NoMemory>
+    ensures { IfOk result (λ contents. AreDefault shape.now contents.items) }
+{
+    let values = usize::from(shape.values);
+    let width = values + shape.targets.as_slice().len();
+    let mut contents = Vec::new(alloc);
+    for slot in 0..width {
+        contents.push(if slot < values {
+            Content::Number(0)
+        } else {
+            Content::Null
+        })?;
+    }
+    Ok(contents)
+}
+
+// Whether an inverse slot is free, or has the entry of this field.
+fn is_open(entry: Option<Entry>, x: u64, field: u16) -> bool
+    ensures { result ≡ not (is_other_entry x field (pair_of entry)) }
+{
+    match entry {
+        None => true,
+        Some(other) => other.node == x && other.slot == field,
+    }
+}
+
+// Lets the entries of a node's fields be those of its copy.
+fn rename_all(entries: &mut [Option<Entry>], x: u64, z: u64)
+    ensures { entries.new ≡ map (entry_renamed x z) entries.old }
+{
+    for entry in entries.iter_mut() {
+        *entry = renamed(*entry, x, z);
+    }
+}
+
+// Frees each slot that has the entry of a field.
+fn free_all(entries: &mut [Option<Entry>], x: u64, field: u16)
+    ensures { entries.new ≡ map (entry_without x field) entries.old }
+{
+    for entry in entries.iter_mut() {
+        *entry = freed(*entry, x, field);
+    }
+}
+
+// An entry, which is that of the copy where it was that of the copied node.
+fn renamed(entry: Option<Entry>, x: u64, z: u64) -> Option<Entry>
+    ensures { result ≡ entry_renamed x z entry }
+{
+    match entry {
+        Some(Entry { node, slot }) if node == x => Some(Entry { node: z, slot }),
+        other => other,
+    }
+}
+
+// An entry, unless it is that of a field.
+fn freed(entry: Option<Entry>, x: u64, field: u16) -> Option<Entry>
+    ensures { result ≡ entry_without x field entry }
+{
+    match entry {
+        Some(Entry { node, slot }) if node == x && slot == field => None,
+        other => other,
+    }
+}
+
+// Stamps a content, in the place of one that is stamped there.
+fn put(stamped: &mut Vec<Stamp>, slot: u16, stamp: u32, content: Content) -> Result<(), NoMemory>
+    ensures ok { OnOk result (IsPut stamped.old.items stamped.new.items slot stamp content) }
+    ensures err { OnErr result (stamped.new.items ≡ stamped.old.items) }
+    ensures fails { OnErr result (IsUnstamped stamped.old.items slot stamp) }
+{
+    match stamp_index(stamped.as_slice(), slot, stamp) {
+        Some(i) => {
+            stamped[i].content = content;
+            Ok(())
+        }
+        None => {
+            stamped.push(Stamp {
+                slot,
+                from: stamp,
+                content,
+            })?;
+            Ok(())
+        }
+    }
+}
+
+// Where a stamp of this slot and number is.
+fn stamp_index(stamped: &[Stamp], slot: u16, from: u32) -> Option<usize>
+    ensures some { IfSome result (λ i. IsStampAt stamped.now i slot from) }
+    ensures none { IfNone result (IsUnstamped stamped.now slot from) }
+{
+    for (i, stamp) in stamped.iter().enumerate() {
+        if stamp.slot == slot && stamp.from == from {
+            return Some(i);
+        }
+    }
+    None
+}
+
+// What a slot holds at a stamp, from its base and these stamps.
+fn latest(stamped: &[Stamp], base: Content, slot: usize, at: u32) -> Content
+    ensures { result ≡ held stamped.now slot at base }
+{
+    let mut content = base;
+    for stamp in stamped {
+        if usize::from(stamp.slot) == slot && stamp.from <= at {
+            content = stamp.content;
+        }
+    }
+    content
+}

@@ -1,0 +1,155 @@
+//! The nodes of a history: reading and writing one field, and the walk to the node that covers a stamp.
+
+ghost use Rattle.std.specs.Prelude.{OnOk, OnErr, IsOk, IfSome, IfNone, Some, slice_get, ◌≡◌, ◌<◌, ◌≤◌, ◌^◌, ℕ, Bool, true, false, length, [], List};
+ghost use Rattle.pst_base.specs.Shape.{type_at};
+ghost use Rattle.pst_line_nodes.specs.Line.{Covers, is_over, potential};
+ghost use Rattle.pst_base.specs.declared.shape.TypeShape.{TypeShape};
+ghost use Rattle.pst_line_nodes.specs.Nodes.{line_of, AreKept, AreLinked, HasSlot, IsFieldSet, IsNext};
+
+use crate::content::Content;
+use crate::node::Node;
+use pst_base::{Name, NoMemory, Shape, TypeNo, TypeShape};
+use std::alloc::Global;
+use std::marker::Model;
+
+/// The nodes, numbered from 0.
+#[derive(Drop)]
+pub struct Nodes {
+    pub(crate) list: Vec<Node>,
+}
+
+impl Model for Nodes {
+    ghost use Rattle.std.specs.Prelude.{List};
+    ghost use Rattle.pst_line_nodes.specs.Seen.{Seen};
+
+    ghost Value = { List Seen };
+
+    ghost view = { λ s. s.list.items };
+}
+
+impl Nodes {
+    /// No nodes, and no memory taken.
+    pub fn new(alloc: Global) -> Nodes
+        ensures { result ≡ [] }
+    {
+        Nodes {
+            list: Vec::new(alloc),
+        }
+    }
+
+    /// How many nodes there are.
+    pub fn count(&self) -> u64
+        ensures { result ≡ length self.now }
+    {
+        self.list.len() as u64
+    }
+
+    // A node.
+    pub(crate) fn node(&self, id: u64) -> &Node
+        requires { id < length self.now }
+        ensures { slice_get self.now id ≡ Some result.now }
+    {
+        &self.list[id as usize]
+    }
+
+    /// The name of a node's record.
+    pub fn name(&self, x: u64) -> Name
+        requires { x < length self.now }
+        ensures { result ≡ (line_of (λ _. true) self.now).name x }
+    {
+        self.node(x).name()
+    }
+
+    /// The type of a node's record.
+    pub fn ty(&self, x: u64) -> TypeNo
+        requires { x < length self.now }
+        ensures { result ≡ (line_of (λ _. true) self.now).ty x }
+    {
+        self.node(x).ty()
+    }
+
+    /// How many values are stamped in newest nodes. It goes over all nodes.
+    pub fn potential(&self) -> u64
+        requires { potential (line_of (λ _. true) self.now) < 2 ^ 64 }
+        ensures { result ≡ potential (line_of (λ _. true) self.now) }
+    {
+        let mut stamped = 0;
+        for id in 0..self.count() {
+            stamped += self.node(id).newest_stamped();
+        }
+        stamped
+    }
+
+    /// What a field of a node holds at a stamp.
+    pub fn read(&self, x: u64, slot: u16, at: u32) -> Content
+        requires there { x < length self.now }
+        requires slot { HasSlot self.now x slot }
+        ensures { (made : ℕ → Bool) → result ≡ (line_of made self.now).holds x slot at }
+    {
+        self.node(x).read(usize::from(slot), at)
+    }
+
+    /// Writes a field of a node at the newest stamp: replaces the content where the newest segment begins there, and else
+    /// stamps one. Where it replaces it takes no memory. A refusal changes nothing.
+    pub fn set(&mut self, x: u64, slot: u16, stamp: u32, content: Content) -> Result<(), NoMemory>
+        requires kept { (shape : List TypeShape) × AreKept shape stamp self.old }
+        requires there { x < length self.old }
+        requires slot { HasSlot self.old x slot }
+        ensures ok { OnOk result ((made : ℕ → Bool) → IsFieldSet (line_of made self.old) (line_of made self.new) x slot stamp content) }
+        ensures kept { (shape : List TypeShape) → AreKept shape stamp self.old → AreKept shape stamp self.new }
+        ensures err { OnErr result (self.new ≡ self.old) }
+        ensures replaces { (made : ℕ → Bool) → (line_of made self.old).since x slot ≡ stamp → IsOk result }
+    {
+        let node = &mut self.list[x as usize];
+        node.set(slot, stamp, content)
+    }
+
+    /// The node that covers a stamp, of the record that a node number stands for: by the walk along `later`.
+    pub fn cover(&self, id: u64, at: u32) -> u64
+        requires linked { AreLinked (line_of (λ _. true) self.now) }
+        requires there { id < length self.now }
+        requires begun { (line_of (λ _. true) self.now).first id ≤ at }
+        ensures { (made : ℕ → Bool) → Covers (line_of made self.now) result at × ((line_of made self.now).home result ≡ (line_of made self.now).home id) }
+    {
+        let mut found = id;
+        while let Some(next) = self.step(found, at) {
+            found = next;
+        }
+        found
+    }
+
+    // The node after a node, where it begins by a stamp.
+    fn step(&self, id: u64, at: u32) -> Option<u64>
+        requires linked { AreLinked (line_of (λ _. true) self.now) }
+        requires there { id < length self.now }
+        ensures some { IfSome result (IsNext self.now id at) }
+        ensures none { IfNone result (is_over (line_of (λ _. true) self.now) id at ≡ false) }
+    {
+        match self.node(id).next() {
+            Some(next) => {
+                if self.begins(next) <= at {
+                    Some(next)
+                } else {
+                    None
+                }
+            }
+            None => None,
+        }
+    }
+
+    // The first stamp of a node.
+    fn begins(&self, id: u64) -> u32
+        requires there { id < length self.now }
+        ensures { result ≡ (line_of (λ _. true) self.now).first id }
+    {
+        self.node(id).begins()
+    }
+}
+
+/// The type with a number.
+pub(crate) fn type_at(shape: &Shape, ty: TypeNo) -> &TypeShape
+    requires { ty.0 < length shape.now }
+    ensures { result.now ≡ type_at shape.now ty }
+{
+    &shape.as_slice()[usize::from(ty.0)]
+}
