@@ -1,0 +1,114 @@
+-- A write makes room and is entered.
+use Rattle.std.proofs.Common.{◌≡◌, ◌≢◌, ℕ, ◌+◌, ◌<◌, ◌≤◌, ◌++◌, Bool, true, false, List, [], ◌∷◌, length, Option, Some, None, IsSome, refl, sym, ap, ◌∙◌, subst, ◌⊎◌, inl, inr, arith}
+use Rattle.std.proofs.lemmas.Bool.{false≢true}
+use Rattle.pst_base.specs.declared.names.NodeId.{NodeId}
+use Rattle.pst_base.specs.declared.names.TypeNo.{TypeNo}
+use Rattle.pst_base.specs.declared.names.Kind.{Kind}
+use Rattle.pst_base.specs.declared.shape.TypeShape.{TypeShape}
+use Rattle.pst_base.specs.Shape.{type_at, field_count}
+use Rattle.pst_base.specs.Heap.{kind_in}
+use Rattle.pst_places.specs.State.{Unchanged}
+use Rattle.pst_line_nodes.specs.declared.content.Content.{Content}
+use Rattle.pst_line_nodes.specs.Line.{Line, Covers, IsNewest, IsLine, IsQuiet, most}
+use Rattle.pst_line_nodes.specs.Seen.{Seen}
+use Rattle.pst_line_nodes.specs.Nodes.{line_of, AreKept, HasSlot}
+use Rattle.pst_line_nodes.specs.Carried.{IsCarried, HasRoomFor}
+use Rattle.pst_line_nodes.proofs.Copy.{covers_last, last_covers}
+use Rattle.pst_line.specs.declared.place.LinePlace.{LinePlace}
+use Rattle.pst_line.specs.declared.place.Undo.{Undo}
+use Rattle.pst_line.specs.Store.{Stored, state_of, is_made}
+use Rattle.pst_line.specs.Held.{Held, IsHeld, line_in, stored_of}
+use Rattle.pst_line.specs.Entered.{line_with, entry_at, HasMadeRoom, HasEntered}
+use Rattle.pst_line.proofs.Stores.{cover}
+use Rattle.pst_line.proofs.Reading.{field_there}
+use Rattle.pst_line.proofs.Answered.{covers_all, slot_there}
+use Rattle.pst_line.proofs.Writing.{failed_held, failed_unchanged}
+
+-- newest nodes and quiet lines are so whichever records are made
+pub newest_all : (m k : ℕ → Bool) (nodes : List Seen) (x : ℕ) → IsNewest (line_of m nodes) x → IsNewest (line_of k nodes) x
+newest_all m k nodes x n = record { there = n.there; last = n.last }
+
+pub quiet_all : (m k : ℕ → Bool) (nodes : List Seen) (t : ℕ) → IsQuiet (line_of m nodes) t → IsQuiet (line_of k nodes) t
+quiet_all m k nodes t q = record { none = λ i g y n e. q.none i g y (record { there = n.there; last = n.last }) e }
+
+module _ (s g : Held) (e : s ≡ g) (h : IsHeld s) (t : ℕ) (t_is : t ≡ length g.versions) where
+  pub stamp_is : t ≡ length s.versions
+  stamp_is = t_is ∙ ap (λ (g : Held). length g.versions) (sym e)
+
+  pub line_at : IsLine s.shape t (line_in s)
+  line_at = subst (λ (t : ℕ). IsLine s.shape t (line_in s)) (sym stamp_is) h.stored.line
+
+  pub some_line : (made : ℕ → Bool) × IsLine s.shape t (line_of made s.nodes)
+  some_line = (is_made s.versions s.opened, line_at)
+
+  pub some_kept : AreKept s.shape t s.nodes
+  some_kept = subst (λ (t : ℕ). AreKept s.shape t s.nodes) (sym stamp_is) h.kept
+
+  pub newest_there : (x : ℕ) → Covers (line_of (λ i. true) s.nodes) x t → IsNewest (line_of (λ i. true) s.nodes) x
+  newest_there x c = newest_all (is_made s.versions s.opened) (λ i. true) s.nodes x (covers_last s.shape t (line_in s) x line_at (covers_all (λ i. true) (is_made s.versions s.opened) s.nodes x t c))
+
+  pub quiet_there : g.failed ≡ false → IsQuiet (line_of (λ i. true) s.nodes) t
+  quiet_there w = quiet_all (is_made s.versions s.opened) (λ i. true) s.nodes t (subst (IsQuiet (line_in s)) (sym stamp_is) (h.rested (ap (λ (g : Held). g.failed) e ∙ w)).quiet)
+
+  module _ (some : IsSome g.opened) (ns : List Seen) (carried : (made : ℕ → Bool) → IsLine s.shape t (line_of made s.nodes) → IsCarried s.shape t (line_of made s.nodes) (line_of made ns)) (kept : AreKept s.shape t ns) where
+    carried_s : IsCarried s.shape (length s.versions) (line_in s) (line_with s ns)
+    carried_s = subst (λ (t : ℕ). IsCarried s.shape t (line_in s) (line_with s ns)) stamp_is (carried (is_made s.versions s.opened) line_at)
+
+    kept_s : AreKept s.shape (length s.versions) ns
+    kept_s = subst (λ (t : ℕ). AreKept s.shape t ns) stamp_is kept
+
+    some_s : IsSome s.opened
+    some_s = subst (λ (g : Held). IsSome g.opened) (sym e) some
+
+    pub enter_failed : (us : List Undo) → IsHeld (record s { nodes = ns; undo = us; failed = true })
+    enter_failed us = failed_held s h ns carried_s kept_s some_s us
+
+    pub enter_unchanged : (us : List Undo) → Unchanged (state_of (stored_of g)) (state_of (stored_of (record s { nodes = ns; undo = us; failed = true })))
+    enter_unchanged us = subst (λ (g : Held). Unchanged (state_of (stored_of g)) (state_of (stored_of (record s { nodes = ns; undo = us; failed = true })))) e (failed_unchanged s h ns carried_s us)
+
+    module _ (r f found x : ℕ) (live : (state_of (stored_of g)).live (record { stamp = length g.versions }) (record { 0 = r }))
+        (kind : (k : Kind) × (kind_in g.shape ((state_of (stored_of g)).heap (record { stamp = length g.versions })) ((line_in g).name r) f ≡ Some k))
+        (c : Covers (line_of (λ i. true) s.nodes) found t) (home : (line_of (λ i. true) s.nodes).home found ≡ (line_of (λ i. true) s.nodes).home r) (room : HasRoomFor s.shape (line_of (λ i. true) ns) found f t x) (quiet : IsQuiet (line_of (λ i. true) ns) t) where
+      live_s : (state_of (stored_of s)).live (record { stamp = length s.versions }) (record { 0 = r })
+      live_s = subst (λ (g : Held). (state_of (stored_of g)).live (record { stamp = length g.versions }) (record { 0 = r })) (sym e) live
+
+      -- x is of the record of r
+      home_x : (line_with s ns).home x ≡ (line_with s ns).home r
+      home_x = room.home ∙ carried_s.went.nodes.home found c.there ∙ home ∙ sym (carried_s.went.nodes.home r live_s.1.there)
+
+      there_r : r < length ns
+      there_r = omega (arith, live_s.1.there, carried_s.went.nodes.count)
+
+      made_x : (line_with s ns).made x ≡ true
+      made_x = ap (is_made s.versions s.opened) (home_x ∙ carried_s.went.nodes.home r live_s.1.there) ∙ live_s.1.made
+
+      x_newest : IsNewest (line_with s ns) x
+      x_newest = newest_all (λ i. true) (is_made s.versions s.opened) ns x room.newest
+
+      x_covers : Covers (line_with s ns) x (length s.versions)
+      x_covers = last_covers s.shape (length s.versions) (line_with s ns) x carried_s.line x_newest
+
+      made_room : HasMadeRoom s ns r f x
+      made_room = record {
+        newest = record { there = record { covers = x_covers; made = made_x }; last = x_newest; home = home_x };
+        room = subst (λ (t : ℕ). ((line_with s ns).since x f ≡ t) ⊎ ((line_with s ns).stamped x < most (type_at s.shape ((line_with s ns).ty x)))) stamp_is room.room;
+        carried = carried_s;
+        quiet = quiet_all (λ i. true) (is_made s.versions s.opened) ns (length s.versions) (subst (IsQuiet (line_of (λ i. true) ns)) stamp_is quiet);
+        kept = kept_s;
+      }
+
+      pub slot_entered : HasSlot ns x f
+      slot_entered =
+          let n = cover s.shape (length s.versions) (line_in s) (length s.versions) r h.stored.line live_s.1 in
+          let is = subst (λ (g : Held). kind_in g.shape ((state_of (stored_of g)).heap (record { stamp = length g.versions })) ((line_in g).name r) f ≡ Some kind.0) (sym e) kind.1 in
+          let below = field_there (stored_of s) h.stored (record { stamp = length s.versions }) r n.node live_s n.alive.covers n.home f kind.0 is in
+          let same : (line_with s ns).ty x ≡ (line_in s).ty n.node = (carried_s.line.chained.same x r x_covers.there there_r home_x).1 ∙ carried_s.went.nodes.ty r live_s.1.there ∙ sym n.ty in
+          slot_there s.shape (length s.versions) (is_made s.versions s.opened) ns x f kept_s (let q : field_count (type_at s.shape ((line_with s ns).ty x)) ≡ field_count (type_at s.shape ((line_in s).ty n.node)) = ap (λ (u : TypeNo). field_count (type_at s.shape u)) same in omega (arith, q, below))
+
+      pub entered : (us : List Undo) (content : Content) → content ≡ (line_of (λ i. true) ns).holds x f t → us ≡ s.undo ++ record { node = record { 0 = x }; slot = f; content = content } ∷ []
+          → HasEntered g (record s { nodes = ns; undo = us; failed = true }) r f x
+      entered us content is all = subst (λ (g : Held). HasEntered g (record s { nodes = ns; undo = us; failed = true }) r f x) e (record {
+        nodes = ns;
+        room = made_room;
+        is = ap (λ (us : List Undo). record s { nodes = ns; undo = us; failed = true }) (all ∙ ap (λ (c : Content). s.undo ++ record { node = record { 0 = x }; slot = f; content = c } ∷ []) (is ∙ ap ((line_with s ns).holds x f) stamp_is));
+      })

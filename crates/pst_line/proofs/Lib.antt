@@ -1,0 +1,16 @@
+pub mod Stores
+pub mod Undo
+pub mod Undoing
+pub mod Undos
+pub mod Entries
+pub mod PutBack
+pub mod Reading
+pub mod Starting
+pub mod Answered
+pub mod Running
+pub mod Writing
+pub mod Fields
+pub mod Entering
+pub mod Ends
+pub mod Adding
+pub mod Linking

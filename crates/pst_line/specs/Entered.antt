@@ -1,0 +1,58 @@
+-- What the steps of a store's calls do to what it holds.
+use Rattle.std.specs.Prelude.{◌≡◌, ℕ, ◌+◌, ◌<◌, ◌⊎◌, ◌++◌, true, List, [], ◌∷◌, length, Some}
+use Rattle.pst_base.specs.declared.names.NodeId.{NodeId}
+use Rattle.pst_base.specs.Shape.{type_at}
+use Rattle.pst_base.specs.Heap.{IsFull}
+use Rattle.pst_places.specs.State.{PointerStored, WritesStay}
+use Rattle.pst_line_nodes.specs.Line.{Line, IsQuiet, most}
+use Rattle.pst_line_nodes.specs.Changes.{VersionsStay}
+use Rattle.pst_line_nodes.specs.Seen.{Seen}
+use Rattle.pst_line_nodes.specs.Nodes.{line_of, AreKept}
+use Rattle.pst_line_nodes.specs.Carried.{IsCarried}
+use Rattle.pst_line.specs.declared.place.LinePlace.{LinePlace}
+use Rattle.pst_line.specs.declared.place.Undo.{Undo}
+use Rattle.pst_line.specs.Store.{is_made, state_of}
+use Rattle.pst_line.specs.Undoing.{IsNewestOf}
+use Rattle.pst_line.specs.Held.{Held, line_in, stored_of}
+
+-- other nodes, as a line of the same records
+abbrev pub line_with : Held → List Seen → Line
+line_with h nodes = line_of (is_made h.versions h.opened) nodes
+
+-- what a write of a field finds in a node
+abbrev pub entry_at : Held → List Seen → (x f : ℕ) → Undo
+entry_at h nodes x f = record { node = record { 0 = x }; slot = f; content = (line_with h nodes).holds x f (length h.versions) }
+
+-- Some nodes were copied so that x, the newest node of the record of node r, has room for a write of a field; all pointers to
+-- copied nodes are redirected.
+pub record HasMadeRoom (old : Held) (nodes : List Seen) (r f x : ℕ) : Type 0 where
+  pub newest : IsNewestOf (line_with old nodes) (length old.versions) r x
+  pub room : ((line_with old nodes).since x f ≡ length old.versions) ⊎ ((line_with old nodes).stamped x < most (type_at old.shape ((line_with old nodes).ty x)))
+  pub carried : IsCarried old.shape (length old.versions) (line_in old) (line_with old nodes)
+  pub quiet : IsQuiet (line_with old nodes) (length old.versions)
+  pub kept : AreKept old.shape (length old.versions) nodes
+
+-- and what the field holds is entered; the store has failed until it is written
+pub record HasEntered (old new : Held) (r f x : ℕ) : Type 0 where
+  pub nodes : List Seen
+  pub room : HasMadeRoom old nodes r f x
+  pub is : new ≡ record old { nodes = nodes; undo = old.undo ++ entry_at old nodes x f ∷ []; failed = true }
+
+-- A write is undone: it was that of the last entry. No version, and nothing that is live at one, changes.
+pub record IsStepBack (old new : Held) : Type 0 where
+  pub nodes : List Seen
+  pub undo : List Undo
+  pub is : new ≡ record old { nodes = nodes; undo = undo }
+  pub fewer : length old.undo ≡ length undo + 1
+  pub stay : VersionsStay old.shape (length old.versions) (line_in old) (line_with old nodes)
+  pub names : (i : ℕ) → (line_with old nodes).name i ≡ (line_in old).name i
+
+-- ---- pointers, by references
+
+-- a record has no room for a pointer from a field of another one
+abbrev pub HasNoRoom : Held → LinePlace → NodeId → ℕ → NodeId → Type 0
+HasNoRoom h at r f q = IsFull h.shape ((state_of (stored_of h)).heap at) ((state_of (stored_of h)).name r) f (Some ((state_of (stored_of h)).name q))
+
+-- a pointer to a record that has room for it is written
+abbrev pub IsLinked : Held → LinePlace → NodeId → ℕ → NodeId → Held → Type 0
+IsLinked old at r f q new = PointerStored (state_of (stored_of old)) at ((state_of (stored_of old)).name r) f (Some ((state_of (stored_of old)).name q)) (state_of (stored_of new)) × WritesStay (state_of (stored_of old)) (state_of (stored_of new)) × ¬ (HasNoRoom old at r f q)

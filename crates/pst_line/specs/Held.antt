@@ -1,0 +1,59 @@
+-- What a store that is started holds, and what it keeps.
+use Rattle.std.specs.Prelude.{◌≡◌, ℕ, ◌<◌, ◌≤◌, ◌^◌, Bool, true, false, List, [], reverse, length, Option, Some, None}
+use Rattle.pst_base.specs.declared.names.Counts.{Counts}
+use Rattle.pst_base.specs.declared.names.NodeId.{NodeId}
+use Rattle.pst_base.specs.declared.shape.TypeShape.{TypeShape}
+use Rattle.pst_line_nodes.specs.declared.content.Content.{Content}
+use Rattle.pst_line_nodes.specs.declared.content.Content.TheVariants.{Number, Null, Target}
+use Rattle.pst_line_nodes.specs.Line.{Line}
+use Rattle.pst_line_nodes.specs.Seen.{Seen}
+use Rattle.pst_line_nodes.specs.Nodes.{line_of, AreKept}
+use Rattle.pst_line.specs.declared.place.Stretch.{Stretch}
+use Rattle.pst_line.specs.declared.place.Undo.{Undo}
+use Rattle.pst_line.specs.Store.{Stored, is_made, in_stretch, stamp, IsStored, IsRested, IsClosed}
+use Rattle.pst_line.specs.Undoing.{CanUndo}
+
+-- the record types; the nodes; what the writes of the open run found, in their order; the stretches of the versions; how many
+-- nodes there were when the open run began; whether a store of it answered Memory; and what was made and written
+pub record Held : Type 0 where
+  pub shape : List TypeShape
+  pub nodes : List Seen
+  pub undo : List Undo
+  pub versions : List Stretch
+  pub opened : Option ℕ
+  pub failed : Bool
+  pub counts : Counts
+
+-- the nodes as laws see them
+abbrev pub line_in : Held → Line
+line_in h = line_of (is_made h.versions h.opened) h.nodes
+
+abbrev pub stored_of : Held → Stored
+stored_of h = record { shape = h.shape; line = line_in h; versions = h.versions; opened = h.opened; failed = h.failed; counts = h.counts }
+
+-- each count is at most 2^60, so that their sum fits 64 bits
+pub record AreCounted (counts : Counts) : Type 0 where
+  pub records : counts.records ≤ 2 ^ 60
+  pub pointer_writes : counts.pointer_writes ≤ 2 ^ 60
+  pub value_writes : counts.value_writes ≤ 2 ^ 60
+
+-- What is so of a store between two calls, also after want of memory. Unless that came, it is at rest, and the open run can be
+-- undone.
+pub record IsHeld (h : Held) : Type 0 where
+  pub stored : IsStored (stored_of h)
+  pub some : 0 < length h.versions
+  pub few : length h.versions ≤ 4294967295
+  pub rooted : in_stretch h.versions 0 ≡ true
+  pub kept : AreKept h.shape (length h.versions) h.nodes
+  pub rested : h.failed ≡ false → IsRested (stored_of h)
+  pub closed : h.opened ≡ None → IsClosed (stored_of h)
+  pub whole : h.opened ≡ None → h.failed ≡ false
+  pub empty : h.opened ≡ None → h.undo ≡ []
+  pub undone : (b : ℕ) → h.opened ≡ Some b → h.failed ≡ false → CanUndo (stored_of h) b (reverse h.undo)
+  pub counted : AreCounted h.counts
+
+-- the node that a content holds
+abbrev pub target : Content → Option NodeId
+target (Number n) = None
+target Null = None
+target (Target y) = Some (record { 0 = y })

@@ -1,0 +1,172 @@
+//! A store that is started.
+
+use crate::line_nodes::LineNodes;
+use crate::place::{LinePlace, Stretch, Undo};
+use pst_base::{Counts, Name, NoMemory, NodeId, RunNo, Shape, SlotNo, TypeNo, VersionNo};
+use pst_line_nodes::content::Content;
+use std::marker::Model;
+
+/// A store with version 0 at least.
+#[derive(Drop)]
+pub(crate) struct Core<N: LineNodes> {
+    pub(crate) shape: Shape,
+    pub(crate) nodes: N,
+    pub(crate) undo: Vec<Undo>,
+    pub(crate) versions: Vec<Stretch>,
+    pub(crate) opened: Option<u64>,
+    pub(crate) failed: bool,
+    pub(crate) counts: Counts,
+}
+
+impl<N: LineNodes> Model for Core<N> {
+    ghost use Rattle.pst_line.specs.Held.{Held, IsHeld};
+
+    ghost Value = { Held };
+
+    ghost view = { λ s. record { shape = s.shape; nodes = N.seen s.nodes; undo = s.undo.items; versions = s.versions.items; opened = s.opened; failed = s.failed; counts = s.counts } };
+
+    ghost invariant = { λ s. IsHeld (record { shape = s.shape; nodes = N.seen s.nodes; undo = s.undo.items; versions = s.versions.items; opened = s.opened; failed = s.failed; counts = s.counts }) };
+}
+
+impl<N: LineNodes> Core<N> {
+    ghost use Rattle.std.specs.Prelude.{◌≡◌, ◌<◌, Some, None, OnOk, OnErr, IfOk, IfSome, IsSome, false, length, if◌then◌else◌, nat_lt};
+    ghost use Rattle.std.specs.Option.{option_map};
+    ghost use Rattle.pst_base.specs.declared.names.Kind.TheVariants.{Int};
+    ghost use Rattle.pst_base.specs.Heap.{kind_in, type_in, value_in, pointer_in, IsPointer};
+    ghost use Rattle.pst_base.specs.Name.{root_name};
+    ghost use Rattle.pst_places.specs.State.{Unchanged, WritesStay};
+    ghost use Rattle.pst_line_nodes.specs.Line.{potential};
+    ghost use Rattle.pst_line.specs.Store.{state_of, stamp, IsNamed, Began, LinePublished};
+    ghost use Rattle.pst_line.specs.Held.{IsHeld, line_in, stored_of};
+
+    /// What is known of every store.
+    pub(crate) fn whole(&self)
+        ensures { IsHeld self.now }
+    {
+        let _ = &self.counts;
+    }
+
+    // The stamp of the open run, or of the next one.
+    pub(crate) fn stamp(&self) -> u32
+        ensures { result ≡ length self.now.versions }
+    {
+        self.versions.len() as u32
+    }
+
+    /// The root record, at a place: its first node.
+    pub(crate) fn root(&self, at: LinePlace) -> NodeId
+        requires { (state_of (stored_of self.now)).has at }
+        ensures name { (state_of (stored_of self.now)).name result ≡ root_name }
+        ensures live { (state_of (stored_of self.now)).live at result }
+    {
+        let _ = &self.counts;
+        NodeId(0)
+    }
+
+    /// The number in a field of a record, at a place.
+    pub(crate) fn number(&self, at: LinePlace, r: NodeId, field: SlotNo) -> i64
+        requires live { (state_of (stored_of self.now)).live at r }
+        requires field { kind_in self.now.shape ((state_of (stored_of self.now)).heap at) ((state_of (stored_of self.now)).name r) field.0 ≡ Some Int }
+        ensures { result ≡ value_in ((state_of (stored_of self.now)).heap at) ((state_of (stored_of self.now)).name r) field.0 }
+    {
+        let x = self.nodes.cover(r.0, at.stamp);
+        number_of(self.nodes.read(x, field.0, at.stamp))
+    }
+
+    /// The record that a field holds, at a place, or None exactly where the field is null.
+    pub(crate) fn pointer(&self, at: LinePlace, r: NodeId, field: SlotNo) -> Option<NodeId>
+        requires live { (state_of (stored_of self.now)).live at r }
+        requires field { IsPointer (kind_in self.now.shape ((state_of (stored_of self.now)).heap at) ((state_of (stored_of self.now)).name r) field.0) }
+        ensures target { option_map (state_of (stored_of self.now)).name result ≡ pointer_in ((state_of (stored_of self.now)).heap at) ((state_of (stored_of self.now)).name r) field.0 }
+        ensures live { IfSome result ((state_of (stored_of self.now)).live at) }
+    {
+        let x = self.nodes.cover(r.0, at.stamp);
+        target_of(self.nodes.read(x, field.0, at.stamp))
+    }
+
+    /// Opens a run. Its place has the newest heap. It takes no memory.
+    pub(crate) fn begin(&mut self) -> LinePlace
+        requires { self.old.opened ≡ None }
+        ensures { Began (state_of (stored_of self.old)) (state_of (stored_of self.new)) result }
+    {
+        self.opened = Some(self.nodes.count());
+        LinePlace {
+            stamp: self.stamp(),
+        }
+    }
+
+    /// Makes the open run's heap the next version. A refusal changes nothing.
+    pub(crate) fn publish(&mut self, run: RunNo) -> Result<VersionNo, NoMemory>
+        requires open { IsSome self.old.opened }
+        requires whole { self.old.failed ≡ false }
+        requires few { length self.old.versions < 4294967295 }
+        ensures ok { IfOk result (λ version. LinePublished (state_of (stored_of self.old)) (state_of (stored_of self.new)) run version) }
+        ensures closed { OnOk result (self.new.opened ≡ None) }
+        ensures err { OnErr result (self.new ≡ self.old) }
+    {
+        let version = VersionNo(self.stamp());
+        let to = self.nodes.count();
+        let from = self.opened.unwrap_or(to);
+        self.versions.push(Stretch { run, from, to })?;
+        self.opened = None;
+        self.undo.clear();
+        Ok(version)
+    }
+
+    /// The place of a version, or None exactly where there is none.
+    pub(crate) fn place_of(&self, version: VersionNo) -> Option<LinePlace>
+        ensures { result ≡ (if nat_lt version.0 (length self.now.versions) then Some (record { stamp = version.0 }) else None) }
+    {
+        if version.0 < self.stamp() {
+            Some(LinePlace { stamp: version.0 })
+        } else {
+            None
+        }
+    }
+
+    /// How many versions there are.
+    pub(crate) fn count(&self) -> u32
+        ensures { result ≡ length self.now.versions }
+    {
+        self.stamp()
+    }
+
+    /// What was made and written.
+    pub(crate) fn counts(&self) -> Counts
+        ensures { result ≡ self.now.counts }
+    {
+        self.counts
+    }
+
+    /// How many nodes there are.
+    pub(crate) fn node_count(&self) -> u64
+        ensures { result ≡ length self.now.nodes }
+    {
+        self.nodes.count()
+    }
+}
+
+ghost use Rattle.std.specs.Prelude.{◌≡◌};
+ghost use Rattle.std.specs.Option.{option_map};
+ghost use Rattle.pst_line_nodes.specs.Line.{number};
+ghost use Rattle.pst_line.specs.Held.{target};
+
+// The number that a field holds, or 0.
+fn number_of(content: Content) -> i64
+    ensures { result ≡ number content }
+{
+    match content {
+        Content::Number(n) => n,
+        Content::Null | Content::Target(_) => 0,
+    }
+}
+
+// The node that a field holds.
+fn target_of(content: Content) -> Option<NodeId>
+    ensures { result ≡ target content }
+{
+    match content {
+        Content::Target(y) => Some(NodeId(y)),
+        Content::Null | Content::Number(_) => None,
+    }
+}

@@ -1,0 +1,26 @@
+//! Places, and the stretches of the versions.
+
+use pst_base::{NodeId, RunNo};
+use pst_line_nodes::content::Content;
+
+/// A place of a linear history: a version, or the open run.
+#[derive(Clone, Copy, Debug, PartialEq, Eq)]
+pub struct LinePlace {
+    pub(crate) stamp: u32,
+}
+
+/// A version: its run, and the numbers of the nodes that were made from `begin` of its run to its `publish`.
+#[derive(Clone, Copy, Debug, PartialEq, Eq)]
+pub struct Stretch {
+    pub run: RunNo,
+    pub from: u64,
+    pub to: u64,
+}
+
+/// What a write of the open run found.
+#[derive(Clone, Copy, Debug, PartialEq, Eq)]
+pub struct Undo {
+    pub node: NodeId,
+    pub slot: u16,
+    pub content: Content,
+}

@@ -1,0 +1,129 @@
+//! What a store's open run does: new records, writes, and that they are undone.
+
+use crate::inner::Core;
+use crate::line_nodes::LineNodes;
+use crate::place::{LinePlace, Undo};
+use pst_base::{Name, NoMemory, NodeId, SlotNo, TypeNo};
+use pst_line_nodes::content::Content;
+
+impl<N: LineNodes> Core<N> {
+    ghost use Rattle.std.specs.Prelude.{◌≡◌, ◌⊎◌, Some, None, OnOk, OnErr, IfOk, IsSome, true, false, length};
+    ghost use Rattle.pst_base.specs.declared.names.Kind.{Kind};
+    ghost use Rattle.pst_base.specs.declared.names.Kind.TheVariants.{Int};
+    ghost use Rattle.pst_base.specs.Heap.{kind_in, IsPointer};
+    ghost use Rattle.pst_places.specs.State.{HasRoom, Allocated, IsNewType, IsFresh, Unchanged, WritesStay, ValueStored, PointerStored};
+    ghost use Rattle.pst_places.specs.Store.{MayStorePointer};
+    ghost use Rattle.pst_line.specs.Store.{state_of, Undone};
+    ghost use Rattle.pst_line.specs.Held.{stored_of};
+    ghost use Rattle.pst_line.specs.Entered.{HasEntered, IsStepBack, HasNoRoom, IsLinked};
+
+    /// Makes a record with all fields 0 or null, in the open run. A refusal changes nothing.
+    pub(crate) fn make(&mut self, at: LinePlace, ty: TypeNo, name: Name) -> Result<NodeId, NoMemory>
+        requires writable { (state_of (stored_of self.old)).writable at }
+        requires known_type { IsNewType (state_of (stored_of self.old)) ty }
+        requires fresh { IsFresh (state_of (stored_of self.old)) name }
+        requires room { HasRoom (state_of (stored_of self.old)) }
+        ensures ok { IfOk result (λ r. Allocated (state_of (stored_of self.old)) at ty name r (state_of (stored_of self.new))) }
+        ensures err { OnErr result (self.new ≡ self.old) }
+    {
+        let stamp = self.stamp();
+        let id = self.nodes.make(&self.shape, name, ty, stamp)?;
+        self.counts.records += 1;
+        Ok(NodeId(id))
+    }
+
+    // Makes room for a write of a field of a record, and enters what the field holds: gives the record's newest node. The store
+    // has failed until the write is done.
+    fn enter(&mut self, r: NodeId, field: SlotNo) -> Result<u64, NoMemory>
+        requires open { IsSome self.old.opened }
+        requires whole { self.old.failed ≡ false }
+        requires live { (state_of (stored_of self.old)).live (record { stamp = length self.old.versions }) r }
+        requires field { (k : Kind) × (kind_in self.old.shape ((state_of (stored_of self.old)).heap (record { stamp = length self.old.versions })) ((state_of (stored_of self.old)).name r) field.0 ≡ Some k) }
+        ensures failed { self.new.failed ≡ true }
+        ensures ok { IfOk result (HasEntered self.old self.new r.0 field.0) }
+        ensures err { OnErr result (Unchanged (state_of (stored_of self.old)) (state_of (stored_of self.new))) }
+    {
+        let stamp = self.stamp();
+        let found = self.nodes.cover(r.0, stamp);
+        self.failed = true;
+        let x = self.nodes.make_room(&self.shape, found, field.0, stamp)?;
+        let content = self.nodes.read(x, field.0, stamp);
+        self.undo.push(Undo {
+            node: NodeId(x),
+            slot: field.0,
+            content,
+        })?;
+        Ok(x)
+    }
+
+    /// Writes a number, in the open run.
+    pub(crate) fn write_number(
+        &mut self,
+        at: LinePlace,
+        r: NodeId,
+        field: SlotNo,
+        n: i64,
+    ) -> Result<(), NoMemory>
+        requires writable { (state_of (stored_of self.old)).writable at }
+        requires live { (state_of (stored_of self.old)).live at r }
+        requires field { kind_in self.old.shape ((state_of (stored_of self.old)).heap at) ((state_of (stored_of self.old)).name r) field.0 ≡ Some Int }
+        requires room { HasRoom (state_of (stored_of self.old)) }
+        ensures ok { OnOk result (ValueStored (state_of (stored_of self.old)) at ((state_of (stored_of self.old)).name r) field.0 n (state_of (stored_of self.new)) × WritesStay (state_of (stored_of self.old)) (state_of (stored_of self.new))) }
+        ensures err { OnErr result (Unchanged (state_of (stored_of self.old)) (state_of (stored_of self.new))) }
+    {
+        self.whole();
+        let stamp = self.stamp();
+        let x = self.enter(r, field)?;
+        self.nodes.set(x, field.0, stamp, Content::Number(n))?;
+        self.counts.value_writes += 1;
+        self.failed = false;
+        Ok(())
+    }
+
+    /// Writes null, in the open run.
+    pub(crate) fn write_null(
+        &mut self,
+        at: LinePlace,
+        r: NodeId,
+        field: SlotNo,
+    ) -> Result<(), NoMemory>
+        requires writable { (state_of (stored_of self.old)).writable at }
+        requires live { (state_of (stored_of self.old)).live at r }
+        requires field { IsPointer (kind_in self.old.shape ((state_of (stored_of self.old)).heap at) ((state_of (stored_of self.old)).name r) field.0) }
+        requires room { HasRoom (state_of (stored_of self.old)) }
+        ensures ok { OnOk result (PointerStored (state_of (stored_of self.old)) at ((state_of (stored_of self.old)).name r) field.0 None (state_of (stored_of self.new)) × WritesStay (state_of (stored_of self.old)) (state_of (stored_of self.new))) }
+        ensures err { OnErr result (Unchanged (state_of (stored_of self.old)) (state_of (stored_of self.new))) }
+    {
+        self.whole();
+        let stamp = self.stamp();
+        let x = self.enter(r, field)?;
+        self.nodes.set_null(x, field.0, stamp)?;
+        self.counts.pointer_writes += 1;
+        self.failed = false;
+        Ok(())
+    }
+
+    // Writes a pointer to a record that has room for it.
+    fn connect(
+        &mut self,
+        at: LinePlace,
+        r: NodeId,
+        field: SlotNo,
+        q: NodeId,
+    ) -> Result<(), NoMemory>
+        requires may { MayStorePointer (state_of (stored_of self.old)) at r field.0 (Some q) }
+        requires roomy { ¬ (HasNoRoom self.old at r field.0 q) }
+        ensures ok { OnOk result (IsLinked self.old at r field.0 q self.new) }
+        ensures err { OnErr result (Unchanged (state_of (stored_of self.old)) (state_of (stored_of self.new))) }
+    {
+        self.whole();
+        let stamp = self.stamp();
+        let x = self.enter(r, field)?;
+        let z = self.nodes.cover(q.0, stamp);
+        let slot = self.nodes.open_slot(z, x, field.0).unwrap();
+        self.nodes.set_target(x, field.0, stamp, z, slot)?;
+        self.counts.pointer_writes += 1;
+        self.failed = false;
+        Ok(())
+    }
+}
