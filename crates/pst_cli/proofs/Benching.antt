@@ -18,11 +18,11 @@ use Rattle.pst_cli.specs.declared.status.Status.{Status}
 use Rattle.pst_cli.specs.declared.status.Status.TheVariants.{Done, ReadFault, WriteFault, Usage, Refused, TooLong, Memory}
 use Rattle.pst_cli.specs.Pieces.{AfterSome, IsPartOf}
 use Rattle.pst_cli.specs.Script.{script_of}
-use Rattle.pst_cli.specs.Kept.{first_history}
+use Rattle.pst_cli.specs.Kept.{first_history, history_after}
 use Rattle.pst_cli.specs.Verdict.{Accepted, Refused as IsRefusedBy, Judged, HasFault}
 use Rattle.pst_cli.specs.Serving.{Refuses, StopsAtReply, status_of}
 use Rattle.pst_cli.specs.Storing.{IsLeft, IsBroken}
-use Rattle.pst_cli.specs.Bench.{printed_from, summary, history_after, summary_of, BenchRow}
+use Rattle.pst_cli.specs.Bench.{printed_from, summary, summary_of, BenchRow}
 use Rattle.pst_cli.proofs.Summing.{after_all}
 
 -- `stats` is never refused

@@ -9,3 +9,6 @@ pub mod Verdicts
 pub mod Numerals
 pub mod Summing
 pub mod Benching
+pub mod Carrying
+pub mod AskRows
+pub mod Finding

@@ -95,16 +95,24 @@ whole_front c input rest lines g off =
     ∙ ap (λ l. lines ++ l) (ap whole_lines (append-nil c.held) ∙ off.0) ∙ append-nil lines
 
 -- a read that was due did not come
+pub stops_front : (P : Option CutInput → Type 0) (c : InputState) (input : List ℕ) (left : Option (List ℕ)) (lines : List (List ℕ)) → Gives fresh (Some input) c left lines → IsCutOff c → bytes_read c ≤ MOST_INPUT
+    → P (cut lines) → (n : ℕ) × HasRead n input left × P (cut (whole_lines (take n input)))
+stops_front P c input None lines g off most p = absurd g.hands.consumed
+stops_front P c input (Some rest) lines g off most p =
+    (bytes_read c, has_read c input rest lines g most, subst (λ l. P (cut l)) (sym (whole_front c input rest lines g off)) p)
+
 stops_reading : (k : Kept) (job : Job) (c : InputState) (input : List ℕ) (left : Option (List ℕ)) (lines : List (List ℕ)) (out : List ℕ) → Gives fresh (Some input) c left lines → IsCutOff c → bytes_read c ≤ MOST_INPUT
     → CutOff k (cut lines) job out → StopsReading k job input left out
-stops_reading k job c input None lines out g off most p = absurd g.hands.consumed
-stops_reading k job c input (Some rest) lines out g off most p =
-    (bytes_read c, has_read c input rest lines g most, subst (λ l. CutOff k (cut l) job out) (sym (whole_front c input rest lines g off)) p)
+stops_reading k job c input left lines out g off most p = stops_front (λ o. CutOff k o job out) c input left lines g off most p
 
-long_front : (k : Kept) (job : Job) (c : InputState) (input rest : List ℕ) (more : ℕ) (left : Option (List ℕ)) (lines : List (List ℕ)) (out : List ℕ) → Gives fresh (Some input) c (Some rest) lines → IsCutOff c
-    → Consumes (Some rest) left (more ∷ []) → bytes_read c ≡ MOST_INPUT → CutOff k (cut lines) job out → Row TooLong k job input left out
-long_front k job c input rest more None lines out g off past full p = absurd past
-long_front k job c input rest more (Some y) lines out g off past full p =
+-- one byte more came than may be read
+abbrev pub LongFront : (P : Option CutInput → Type 0) → List ℕ → Option (List ℕ) → Type 0
+LongFront P input left = (MOST_INPUT < length input) × (left ≡ Some (drop (MOST_INPUT + 1) input)) × P (cut (whole_lines (take MOST_INPUT input)))
+
+long_front : (P : Option CutInput → Type 0) (c : InputState) (input rest : List ℕ) (more : ℕ) (left : Option (List ℕ)) (lines : List (List ℕ)) → Gives fresh (Some input) c (Some rest) lines → IsCutOff c
+    → Consumes (Some rest) left (more ∷ []) → bytes_read c ≡ MOST_INPUT → P (cut lines) → LongFront P input left
+long_front P c input rest more None lines g off past full p = absurd past
+long_front P c input rest more (Some y) lines g off past full p =
     let f = front c input rest lines g in
     let bytes = g.hands.bytes in
     let one_more : Front input y (MOST_INPUT + 1) (bytes ++ more ∷ []) = record {
@@ -113,18 +121,18 @@ long_front k job c input rest more (Some y) lines out g off past full p =
     } in (
       omega (arith, one_more.size, ap length one_more.whole, length-append (bytes ++ more ∷ []) y),
       ap (λ l. Some l) (sym (dropped input y (bytes ++ more ∷ []) (MOST_INPUT + 1) one_more)),
-      subst (λ l. CutOff k (cut l) job out) (sym (ap (λ n. whole_lines (take n input)) (sym full) ∙ whole_front c input rest lines g off)) p,
+      subst (λ l. P (cut l)) (sym (ap (λ n. whole_lines (take n input)) (sym full) ∙ whole_front c input rest lines g off)) p,
     )
 
-long_by : (k : Kept) (job : Job) (c : InputState) (input : List ℕ) (before : Option (List ℕ)) (more : ℕ) (left : Option (List ℕ)) (lines : List (List ℕ)) (out : List ℕ) → Gives fresh (Some input) c before lines → IsCutOff c
-    → Consumes before left (more ∷ []) → bytes_read c ≡ MOST_INPUT → CutOff k (cut lines) job out → Row TooLong k job input left out
-long_by k job c input None more left lines out g off past full p = absurd g.hands.consumed
-long_by k job c input (Some rest) more left lines out g off past full p = long_front k job c input rest more left lines out g off past full p
+pub long_by : (P : Option CutInput → Type 0) (c : InputState) (input : List ℕ) (before : Option (List ℕ)) (more : ℕ) (left : Option (List ℕ)) (lines : List (List ℕ)) → Gives fresh (Some input) c before lines → IsCutOff c
+    → Consumes before left (more ∷ []) → bytes_read c ≡ MOST_INPUT → P (cut lines) → LongFront P input left
+long_by P c input None more left lines g off past full p = absurd g.hands.consumed
+long_by P c input (Some rest) more left lines g off past full p = long_front P c input rest more left lines g off past full p
 
 -- the input is too long
-long_row : (k : Kept) (job : Job) (c : InputState) (input : List ℕ) (left : Option (List ℕ)) (lines : List (List ℕ)) (out : List ℕ) → GivesPast fresh (Some input) c left lines → IsCutOff c
-    → CutOff k (cut lines) job out → Row TooLong k job input left out
-long_row k job c input left lines out g off p = long_by k job c input g.before g.more left lines out g.gives off g.past g.full p
+pub long_row : (P : Option CutInput → Type 0) (c : InputState) (input : List ℕ) (left : Option (List ℕ)) (lines : List (List ℕ)) → GivesPast fresh (Some input) c left lines → IsCutOff c
+    → P (cut lines) → LongFront P input left
+long_row P c input left lines g off p = long_by P c input g.before g.more left lines g.gives off g.past g.full p
 
 -- ---- reading the text of the program stopped
 
@@ -135,7 +143,7 @@ lacks_room k Check input left out p = p
 lacks_room k Code input left out p = p
 
 -- there was no room for a line that had been read
-lacks_text : (k : Kept) (c : InputState) (input : List ℕ) (left : Option (List ℕ)) (lines : List (List ℕ)) → k.untouched → Gives fresh (Some input) c left lines → IsNear c → cut lines ≡ None → bytes_read c ≤ MOST_INPUT
+pub lacks_text : (k : Kept) (c : InputState) (input : List ℕ) (left : Option (List ℕ)) (lines : List (List ℕ)) → k.untouched → Gives fresh (Some input) c left lines → IsNear c → cut lines ≡ None → bytes_read c ≤ MOST_INPUT
     → LacksProgram k input left []
 lacks_text k c input None lines same g near none most = absurd g.hands.consumed
 lacks_text k c input (Some rest) lines same g near none most =
@@ -146,7 +154,7 @@ lacks_text k c input (Some rest) lines same g near none most =
 stopped : (k : Kept) (job : Job) (s : Stop) (c : InputState) (input : List ℕ) (left : Option (List ℕ)) (lines : List (List ℕ)) → k.untouched → (s ≡ stop.Write → ⊥) → GivesUntil s fresh (Some input) c left lines
     → cut lines ≡ None → bytes_read c ≤ MOST_INPUT → Row (status_of s) k job input left []
 stopped k job stop.Read c input left lines same unwritten g none most = stops_reading k job c input left lines [] g.0 g.1 most (subst (λ o. CutOff k o job []) (sym none) (refl, same))
-stopped k job stop.TooLong c input left lines same unwritten g none most = long_row k job c input left lines [] g.0 g.1 (subst (λ o. CutOff k o job []) (sym none) (refl, same))
+stopped k job stop.TooLong c input left lines same unwritten g none most = long_row (λ o. CutOff k o job []) c input left lines g.0 g.1 (subst (λ o. CutOff k o job []) (sym none) (refl, same))
 stopped k job stop.Write c input left lines same unwritten g none most = absurd (unwritten refl)
 stopped k job stop.Memory c input left lines same unwritten (g, inl off) none most = inl (stops_reading k job c input left lines [] g off most (subst (λ o. CutOff k o job []) (sym none) (refl, same)))
 stopped k job stop.Memory c input left lines same unwritten (g, inr near) none most = inr (lacks_room k job input left [] (lacks_text k c input left lines same g near none most))
@@ -174,7 +182,7 @@ is_there : (o : Option CutInput) (c : CutInput) → o ≡ Some c → IsSome o
 is_there o c e = subst IsSome (sym e) refl
 
 -- the separator line was found, unless the end of the input was seen
-cuts : (t : InputState) (input rest text : List ℕ) (r : ReadsText fresh (Some input) t (Some rest) text) → t.ended ≡ false → (more : List (List ℕ))
+pub cuts : (t : InputState) (input rest text : List ℕ) (r : ReadsText fresh (Some input) t (Some rest) text) → t.ended ≡ false → (more : List (List ℕ))
     → cut (r.lines ++ more) ≡ Some (record { text = text; separator = r.separator; script = more })
 cuts t input rest text r going more = by_found r.found
   where
@@ -194,7 +202,7 @@ readable_by false t input rest text is r seen most =
     ap whole_lines (take_long MOST_INPUT input r.gives.hands.bytes rest f.whole (omega (arith, f.size, most))) ∙ r.gives.whole is more in
     inr (is_there (cut (whole_lines (take MOST_INPUT input))) _ (ap cut e ∙ cuts t input rest text r is (whole_lines (t.held ++ more))))
 
-readable : (t : InputState) (input : List ℕ) (left : Option (List ℕ)) (text : List ℕ) → ReadsText fresh (Some input) t left text → EndsWhereSeen t left → bytes_read t ≤ MOST_INPUT → IsReadable input
+pub readable : (t : InputState) (input : List ℕ) (left : Option (List ℕ)) (text : List ℕ) → ReadsText fresh (Some input) t left text → EndsWhereSeen t left → bytes_read t ≤ MOST_INPUT → IsReadable input
 readable t input None text r seen most = absurd r.told
 readable t input (Some rest) text r seen most = readable_by t.ended t input rest text refl r seen most
 
@@ -221,7 +229,7 @@ script_extent t u input rest more text given r seen g near = by_found r.found
         let bytes : bytes_of (r.lines ++ given) ≡ up_to (cut_of input) given = cut_bytes (r.lines ++ given) _ (found given) ∙ ap (λ c. up_to c given) (sym r.told) in
         subst (λ n. Extent (bytes_read u) n (length input)) bytes e
 
-reads_up_to : (t u : InputState) (input rest text : List ℕ) (left : Option (List ℕ)) (given : List (List ℕ)) → ReadsText fresh (Some input) t (Some rest) text → EndsWhereSeen t (Some rest) → Gives t (Some rest) u left given
+pub reads_up_to : (t u : InputState) (input rest text : List ℕ) (left : Option (List ℕ)) (given : List (List ℕ)) → ReadsText fresh (Some input) t (Some rest) text → EndsWhereSeen t (Some rest) → Gives t (Some rest) u left given
     → IsNear u → bytes_read u ≤ MOST_INPUT → ReadsUpTo given input left
 reads_up_to t u input rest text None given r seen g near most = absurd g.hands.consumed
 reads_up_to t u input rest text (Some more) given r seen g near most =
@@ -236,43 +244,54 @@ reads_up_to t u input rest text (Some more) given r seen g near most =
     }
 
 -- no more was read than the program needed
-reads_program : (t : InputState) (input : List ℕ) (left : Option (List ℕ)) (text : List ℕ) → ReadsText fresh (Some input) t left text → EndsWhereSeen t left → bytes_read t ≤ MOST_INPUT → ReadsUpTo [] input left
+pub reads_program : (t : InputState) (input : List ℕ) (left : Option (List ℕ)) (text : List ℕ) → ReadsText fresh (Some input) t left text → EndsWhereSeen t left → bytes_read t ≤ MOST_INPUT → ReadsUpTo [] input left
 reads_program t input None text r seen most = absurd r.told
 reads_program t input (Some rest) text r seen most = reads_up_to t t input rest text (Some rest) [] r seen (gives_none t (Some rest)) r.near most
 
-lacks_program : (k : Kept) (input : List ℕ) (left : Option (List ℕ)) (out : List ℕ) → ReadsUpTo [] input left → out ≡ [] → k.untouched → LacksProgram k input left out
+pub lacks_program : (k : Kept) (input : List ℕ) (left : Option (List ℕ)) (out : List ℕ) → ReadsUpTo [] input left → out ≡ [] → k.untouched → LacksProgram k input left out
 lacks_program k input left out r none same = (none, same, (r.count, r.read, r.near))
 
-told_text : (input text separator : List ℕ) (after : Option (List ℕ)) → IsTextOf (Some input) after text separator → (cut_of input).text ≡ text
+pub told_text : (input text separator : List ℕ) (after : Option (List ℕ)) → IsTextOf (Some input) after text separator → (cut_of input).text ≡ text
 told_text input text separator None told = absurd told
 told_text input text separator (Some rest) told = ap (λ c. c.text) told
 
 -- ---- the script was answered
 
 -- the output of the same verdict for another script
-refused_alike : (k : Kept) (input text out : List ℕ) (c : CutInput) → Outputs (Refusing k) IsAll text (replied []) out → c.text ≡ text → Writes (Refusing k) IsAll Run c out
+pub refused_alike : (k : Kept) (input text out : List ℕ) (c : CutInput) → Outputs (Refusing k) IsAll text (replied []) out → c.text ≡ text → Writes (Refusing k) IsAll Run c out
 refused_alike k input text out c (Accepted items program, judged, never, written) e = absurd never
 refused_alike k input text out c (IsRefusedBy fault, judged, same, written) e = (IsRefusedBy fault, subst (λ t. Judged t (IsRefusedBy fault)) (sym e) judged, same, written)
 
-of_text : (text text' : List ℕ) (P : Verdict → Type 0) → text' ≡ text → OfVerdict text P → OfVerdict text' P
+pub of_text : (text text' : List ℕ) (P : Verdict → Type 0) → text' ≡ text → OfVerdict text P → OfVerdict text' P
 of_text text text' P e w = subst (λ t. OfVerdict t P) (sym e) w
 
-done_row : (k : Kept) (t u : InputState) (input rest text out : List ℕ) (left : Option (List ℕ)) (given : List (List ℕ)) → ReadsText fresh (Some input) t (Some rest) text → Gives t (Some rest) u left given → IsOver u → IsAtEnd left
-    → bytes_read u ≤ MOST_INPUT → Outputs (Accepting k given) IsAll text (replied given) out → Row Done k Run input left out
-done_row k t u input rest text out None given r g over end most w = absurd g.hands.consumed
-done_row k t u input rest text out (Some more) given r g over end most w =
+-- all of the input was read, and so it is cut
+pub record IsWhole (input : List ℕ) (left : Option (List ℕ)) (c : CutInput) : Type 0 where
+  pub within : length input ≤ MOST_INPUT
+  pub read : HasRead (length input) input left
+  pub parts : cut_of input ≡ c
+
+pub whole_input : (t u : InputState) (input rest text : List ℕ) (left : Option (List ℕ)) (given : List (List ℕ)) (r : ReadsText fresh (Some input) t (Some rest) text) → Gives t (Some rest) u left given → IsOver u → IsAtEnd left
+    → bytes_read u ≤ MOST_INPUT → IsWhole input left (record { text = text; separator = r.separator; script = given })
+whole_input t u input rest text None given r g over end most = absurd g.hands.consumed
+whole_input t u input rest text (Some more) given r g over end most =
     let all = gives_then fresh (Some input) t (Some rest) u (Some more) r.lines given r.gives g in
     let f = front u input more (r.lines ++ given) all in
     let whole : bytes_read u ≡ length input = omega (arith, f.size, ap length f.whole, length-append all.hands.bytes more, ap length end) in
     let none : u.held ++ more ≡ [] = ap (λ l. l ++ more) over.0 ∙ end in
-    let parts : cut_of input ≡ record { text = text; separator = r.separator; script = given } =
-    r.told ∙ ap (λ l. record { text = text; separator = r.separator; script = l }) (g.told ∙ ap (λ l. given ++ lines_of l) none ∙ append-nil given) in (
-      omega (arith, whole, most),
-      subst (λ n. HasRead n input (Some more)) whole (has_read u input more (r.lines ++ given) all most),
-      subst (λ (c : CutInput). Writes (Accepting k c.script) IsAll Run c out) (sym parts) w,
-    )
+    record {
+      within = omega (arith, whole, most);
+      read = subst (λ n. HasRead n input (Some more)) whole (has_read u input more (r.lines ++ given) all most);
+      parts = r.told ∙ ap (λ l. record { text = text; separator = r.separator; script = l }) (g.told ∙ ap (λ l. given ++ lines_of l) none ∙ append-nil given);
+    }
 
-was_going : (a b : Bool) → (IsTrue a → IsTrue b) → b ≡ false → a ≡ false
+done_row : (k : Kept) (t u : InputState) (input rest text out : List ℕ) (left : Option (List ℕ)) (given : List (List ℕ)) → ReadsText fresh (Some input) t (Some rest) text → Gives t (Some rest) u left given → IsOver u → IsAtEnd left
+    → bytes_read u ≤ MOST_INPUT → Outputs (Accepting k given) IsAll text (replied given) out → Row Done k Run input left out
+done_row k t u input rest text out left given r g over end most w =
+    let whole = whole_input t u input rest text left given r g over end most in
+    (whole.within, whole.read, subst (λ (c : CutInput). Writes (Accepting k c.script) IsAll Run c out) (sym whole.parts) w)
+
+pub was_going : (a b : Bool) → (IsTrue a → IsTrue b) → b ≡ false → a ≡ false
 was_going true b still going = let ended = still refl in cc
 was_going false b still going = refl
 
@@ -287,11 +306,11 @@ script_long : (k : Kept) (t u : InputState) (input rest text out : List ℕ) (le
     → Outputs (Accepting k given) IsAll text (replied given) out → Row TooLong k Run input left out
 script_long k t u input rest text out left given r g off w =
     let all = gives_then fresh (Some input) t (Some rest) u g.before r.lines given r.gives g.gives in
-    long_by k Run u input g.before g.more left (r.lines ++ given) out all off g.past g.full
+    long_by (λ o. CutOff k o Run out) u input g.before g.more left (r.lines ++ given) all off g.past g.full
     (subst (λ o. CutOff k o Run out) (sym (cuts t input rest text r (was_going t.ended u.ended g.gives.still off.1) given)) w)
 
 -- the program was read, and nothing since
-after_program : (t u : InputState) (input rest text : List ℕ) (left : Option (List ℕ)) → ReadsText fresh (Some input) t (Some rest) text → EndsWhereSeen t (Some rest) → bytes_read t ≤ MOST_INPUT
+pub after_program : (t u : InputState) (input rest text : List ℕ) (left : Option (List ℕ)) → ReadsText fresh (Some input) t (Some rest) text → EndsWhereSeen t (Some rest) → bytes_read t ≤ MOST_INPUT
     → ReadsNothing t (Some rest) u left → ReadsUpTo [] input left
 after_program t u input rest text left r seen most same = subst (λ l. ReadsUpTo [] input l) (sym same.1) (reads_program t input (Some rest) text r seen most)
 

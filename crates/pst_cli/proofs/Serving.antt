@@ -27,7 +27,7 @@ use Rattle.pst_cli.specs.Output.{page_text, replied, Outputs, OfVerdict, Accepti
 use Rattle.pst_cli.specs.Reading.{IsNear}
 use Rattle.pst_cli.specs.Serving.{Refuses, StopsAtReply, StopsAnswering, Serves, Prints, status_of}
 
-one_whole : (piece out : List ℕ) → out ≡ piece → IsAll (piece ∷ []) out
+pub one_whole : (piece out : List ℕ) → out ≡ piece → IsAll (piece ∷ []) out
 one_whole piece out is = is ∙ sym (append-nil piece)
 
 -- ---- a fault

@@ -16,9 +16,9 @@ use Rattle.pst_meaning.specs.Store.{Stored}
 use Rattle.pst_store.specs.Whole.{nodes_in}
 use Rattle.pst_cli.specs.declared.status.Status.{Status}
 use Rattle.pst_cli.specs.declared.status.Status.TheVariants.{Done, ReadFault, WriteFault, Usage, Refused, TooLong, Memory}
-use Rattle.pst_cli.specs.Pieces.{state_after, AfterSome, IsPartOf}
+use Rattle.pst_cli.specs.Pieces.{AfterSome, IsPartOf}
 use Rattle.pst_cli.specs.Script.{answer_of, next_of, script_of}
-use Rattle.pst_cli.specs.Kept.{first_history}
+use Rattle.pst_cli.specs.Kept.{first_history, history_after}
 use Rattle.pst_cli.specs.Verdict.{Verdict, Accepted, Refused as IsRefusedBy, fault_text}
 use Rattle.pst_cli.specs.Output.{routines_in, OfVerdict}
 use Rattle.pst_cli.specs.Storing.{IsLeft, IsBroken}
@@ -58,10 +58,6 @@ summary versions stats nodes sum =
 -- the lines of the script with this number
 abbrev pub bench_lines : ℕ → List (List ℕ)
 bench_lines number = lines_of (script SIZE number)
-
--- the history that lines make of the opening in which version 0 is alone
-abbrev pub history_after : Meaning → List (List ℕ) → History
-history_after m lines = state_after (script_of m) (first_history m) lines
 
 -- the summary of the history after lines, of the replies to them, and of the store that is left
 abbrev pub summary_of : Meaning → List (List ℕ) → Option Stored → List ℕ

@@ -1,12 +1,15 @@
 -- What the words ask for.
-use Rattle.std.specs.Prelude.{ℕ, ◌^◌, Bool, List, [], ◌∷◌, Option, Some, None, if◌then◌else◌, codes, nat_lt}
+use Rattle.std.specs.Prelude.{ℕ, ◌^◌, Bool, List, [], ◌∷◌, Option, Some, None, if◌then◌else◌, codes, nat_lt, ◌&&◌, slice_index_or}
 use Rattle.std.specs.Option.{option_map}
 use Rattle.std.specs.Str.{bytes_eq}
-use Rattle.pst_script.specs.Numerals.{number_of as written_number, passing}
+use Rattle.pst_base.specs.declared.names.VersionNo.{VersionNo}
+use Rattle.pst_changed.specs.Path.{is_path}
+use Rattle.pst_script.specs.Numerals.{number_of as written_number, passing, fits_32_bits}
 use Rattle.pst_cli.specs.declared.job.Job.{Job}
 use Rattle.pst_cli.specs.declared.job.Job.TheVariants.{Run, Replay, Check, Code}
+use Rattle.pst_cli.specs.declared.job.Question.TheVariants.{Dump, Changed}
 use Rattle.pst_cli.specs.declared.job.Task.{Task}
-use Rattle.pst_cli.specs.declared.job.Task.TheVariants.{Input, Bench}
+use Rattle.pst_cli.specs.declared.job.Task.TheVariants.{Input, Bench, Ask}
 use Rattle.pst_cli.specs.declared.status.Status.{Status}
 use Rattle.pst_cli.specs.declared.status.Status.TheVariants as status
 
@@ -22,15 +25,28 @@ abbrev pub fits_64_bits : ℕ → Bool
 fits_64_bits n = nat_lt n (2 ^ 64)
 
 -- a numeral, as a script writes it, of at most 64 bits
-abbrev pub bench_number : List ℕ → Option ℕ
-bench_number word = passing fits_64_bits (written_number word)
+abbrev pub long_number : List ℕ → Option ℕ
+long_number word = passing fits_64_bits (written_number word)
 
--- one word, which names a job, or `bench` and its number
+-- the same of at most 32 bits, which is that of a version
+abbrev pub version_number : List ℕ → Option VersionNo
+version_number word = option_map (λ n. record { 0 = n }) (passing fits_32_bits (written_number word))
+
+-- one word, which names a job; or `bench` and its number; or `dump` and a version; or `changed`, a version and a path
 abbrev pub task_of : List (List ℕ) → Option Task
 task_of [] = None
 task_of (word ∷ []) = option_map Input (job_named word)
-task_of (word ∷ number ∷ []) = if bytes_eq word (codes "bench") then option_map Bench (bench_number number) else None
-task_of (word ∷ number ∷ more ∷ words) = None
+task_of (word ∷ number ∷ []) =
+    if bytes_eq word (codes "bench") then option_map Bench (long_number number)
+    else (if bytes_eq word (codes "dump") then option_map (λ v. Ask (Dump v)) (version_number number)
+    else None)
+task_of (word ∷ number ∷ path ∷ []) =
+    if bytes_eq word (codes "changed") && is_path path then option_map (λ v. Ask (Changed v)) (version_number number) else None
+task_of (word ∷ number ∷ path ∷ more ∷ words) = None
+
+-- the path among words: the third one
+abbrev pub path_in : List (List ℕ) → List ℕ
+path_in words = slice_index_or words 2 []
 
 -- the number of a status, with which the program ends
 abbrev pub number_of : Status → ℕ

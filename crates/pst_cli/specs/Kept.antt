@@ -26,11 +26,15 @@ nothing_held = still ⊤
 abbrev pub first_history : Meaning → History
 first_history m = begun (opening m.shape)
 
+-- the history that lines make of it
+abbrev pub history_after : Meaning → (lines : List (List ℕ)) → History
+history_after m lines = state_after (script_of m) (first_history m) lines
+
 -- What a session leaves, by what it leaves in a history and after want of memory in a history. Where none was begun, what is
 -- held is as it was handed in.
 abbrev pub kept_by : {T : Type 0} → (leaves breaks : Meaning → T → History → Type 0) → (old new : T) → Kept
 kept_by leaves breaks old new = record {
-  leaves = λ m lines. leaves m new (state_after (script_of m) (first_history m) lines);
+  leaves = λ m lines. leaves m new (history_after m lines);
   breaks = λ m lines. BreaksIn (script_of m) (first_history m) (breaks m new) lines;
   untouched = new ≡ old;
 }

@@ -11,4 +11,5 @@ pub mod Rows
 pub mod Serving
 pub mod Storing
 pub mod Bench
+pub mod Asking
 pub mod Laws

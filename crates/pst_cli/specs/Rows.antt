@@ -5,7 +5,7 @@ use Rattle.pst_io.specs.Text.{whole_lines}
 use Rattle.pst_cli.specs.declared.job.Job.{Job}
 use Rattle.pst_cli.specs.declared.job.Job.TheVariants.{Run, Replay, Check, Code}
 use Rattle.pst_cli.specs.declared.job.Task.{Task}
-use Rattle.pst_cli.specs.declared.job.Task.TheVariants.{Input, Bench}
+use Rattle.pst_cli.specs.declared.job.Task.TheVariants.{Input, Bench, Ask}
 use Rattle.pst_cli.specs.declared.page.Page.{Page}
 use Rattle.pst_cli.specs.declared.page.Page.TheVariants.{Canonical, Listing}
 use Rattle.pst_cli.specs.declared.status.Status.{Status}
@@ -120,8 +120,10 @@ IsComplete WriteFault = ⊥
 IsComplete Usage = ⊥
 IsComplete TooLong = ⊥
 
--- What the words ask for needs no more of the input than may be read: the bench needs nothing. They ask for something.
+-- What the words ask for needs no more of the input than may be read: the bench needs nothing, and a question needs what `run`
+-- does. They ask for something.
 abbrev pub IsServable : Option Task → List ℕ → Type 0
 IsServable None input = ⊥
 IsServable (Some (Input job)) input = IsWithin job input
 IsServable (Some (Bench number)) input = Unit {0}
+IsServable (Some (Ask question)) input = IsWithin Run input

@@ -40,6 +40,7 @@ pub(crate) fn reply_to<X: Session>(
     line: &[u8],
 ) -> Result<Option<Reply>, NoMemory>
     requires { StandForSome X.stands session.old held.old }
+    ensures about { X.about session.new ≡ X.about session.old }
     ensures reply { IfOk result (λ reply. (m : Meaning) (h : History) → X.stands session.old held.old m h → reply ≡ answer_of m h (reading line.now)) }
     ensures stands { OnOk result ((m : Meaning) (h : History) → X.stands session.old held.old m h → X.stands session.new held.new m (next_of m h (reading line.now))) }
     ensures breaks { OnErr result ((m : Meaning) (h : History) → X.stands session.old held.old m h → X.breaks m held.new h ⊎ X.breaks m held.new (next_of m h (reading line.now))) }

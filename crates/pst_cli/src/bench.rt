@@ -15,10 +15,10 @@ ghost use Rattle.pst_history.specs.Direct.{meaning_of};
 ghost use Rattle.pst_store.specs.Whole.{nodes_in, state_in};
 ghost use Rattle.pst_cli.specs.Pieces.{state_after, AfterSome};
 ghost use Rattle.pst_cli.specs.Script.{answer_of, next_of, script_of};
-ghost use Rattle.pst_cli.specs.Kept.{first_history};
+ghost use Rattle.pst_cli.specs.Kept.{first_history, history_after};
 ghost use Rattle.pst_cli.specs.Serving.{StandForSome};
 ghost use Rattle.pst_cli.specs.Storing.{IsLeft, IsBroken};
-ghost use Rattle.pst_cli.specs.Bench.{printed_in, printed_by, printed_from, summary, bench_lines, history_after, summary_of, BenchRow};
+ghost use Rattle.pst_cli.specs.Bench.{printed_in, printed_by, printed_from, summary, bench_lines, summary_of, BenchRow};
 
 use crate::Status;
 use crate::answer::{reply_to, say};

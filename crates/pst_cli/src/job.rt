@@ -4,7 +4,10 @@ ghost use Rattle.std.specs.Prelude.{◌≡◌, map, string_bytes, true};
 ghost use Rattle.std.specs.Char.{is_ascii_digit};
 ghost use Rattle.std.specs.List.{list_all};
 ghost use Rattle.pst_script.specs.Numerals.{is_numeral};
-ghost use Rattle.pst_cli.specs.Jobs.{bench_number, job_named, task_of};
+ghost use Rattle.pst_cli.specs.Jobs.{long_number, version_number, job_named, task_of, path_in};
+
+use pst_base::VersionNo;
+use pst_changed::path_form;
 
 /// What the program can do.
 #[derive(Clone, Copy, Debug, PartialEq, Eq)]
@@ -19,6 +22,15 @@ pub enum Job {
     Code,
 }
 
+/// A question about the versions that a script makes.
+#[derive(Clone, Copy, Debug, PartialEq, Eq)]
+pub enum Question {
+    /// What a version holds.
+    Dump(VersionNo),
+    /// Which version, on the way from this one to version 0, changed what a path reads. The path is the third word.
+    Changed(VersionNo),
+}
+
 /// What the words ask for.
 #[derive(Clone, Copy, Debug, PartialEq, Eq)]
 pub enum Task {
@@ -26,6 +38,8 @@ pub enum Task {
     Input(Job),
     /// To run the script of the bench with this number, and to print what came of it. No input is read.
     Bench(u64),
+    /// To carry the script out, and to answer a question about its versions in place of its lines.
+    Ask(Question),
 }
 
 /// The job that a word names.
@@ -63,8 +77,8 @@ fn is_numeral(word: &[u8]) -> bool
 }
 
 /// The number that a numeral writes. None where it has more than 64 bits, and where the word is no numeral.
-fn bench_number(word: &str) -> Option<u64>
-    ensures { result ≡ bench_number word.now }
+fn long_number(word: &str) -> Option<u64>
+    ensures { result ≡ long_number word.now }
 {
     if !is_numeral(word.as_bytes()) {
         return None;
@@ -72,15 +86,41 @@ fn bench_number(word: &str) -> Option<u64>
     word.parse().ok()
 }
 
-/// What the words ask for: one word that names a job, or `bench` and a number.
+/// The version that a numeral names. None where it has more than 32 bits, and where the word is no numeral.
+fn version_number(word: &str) -> Option<VersionNo>
+    ensures { result ≡ version_number word.now }
+{
+    let number = long_number(word)?;
+    Some(VersionNo(u32::try_from(number).ok()?))
+}
+
+/// What the words ask for: one word that names a job, `bench` and a number, `dump` and a version, or `changed`, a version and a
+/// path.
 pub(crate) fn task_of(words: &[String]) -> Option<Task>
     ensures { result ≡ task_of (map string_bytes words.now) }
 {
     match words {
         [word] => Some(Task::Input(job_named(word.as_bytes())?)),
         [word, number] if word.as_bytes() == b"bench".as_slice() => {
-            Some(Task::Bench(bench_number(number.as_str())?))
+            Some(Task::Bench(long_number(number.as_str())?))
+        }
+        [word, version] if word.as_bytes() == b"dump".as_slice() => {
+            Some(Task::Ask(Question::Dump(version_number(version.as_str())?)))
+        }
+        [word, version, path]
+            if word.as_bytes() == b"changed".as_slice() && path_form(path.as_bytes()) => {
+            Some(Task::Ask(Question::Changed(version_number(version.as_str())?)))
         }
         _ => None,
+    }
+}
+
+/// The path among the words: the third one.
+pub(crate) fn path_in(words: &[String]) -> &[u8]
+    ensures { result.now ≡ path_in (map string_bytes words.now) }
+{
+    match words.get(2) {
+        Some(path) => path.as_bytes(),
+        None => &[],
     }
 }

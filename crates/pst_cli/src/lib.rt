@@ -2,6 +2,7 @@
 #![tactic(auto)]
 
 mod answer;
+mod ask;
 mod bench;
 mod fault;
 mod job;
@@ -19,7 +20,7 @@ mod stop;
 mod top;
 
 pub use fault::{Fault, FaultKind};
-pub use job::{Job, Task};
+pub use job::{Job, Question, Task};
 pub use laws::{input_has_one_output, text_has_one_verdict};
 pub use status::{Status, number};
 pub use top::persist;

@@ -20,6 +20,8 @@ impl Session for Replaying {
 
     type Held = ();
 
+    ghost about = { λ s. s.program };
+
     ghost fresh = { λ _. ⊤ };
 
     ghost stands = { λ s _ m h. IsReplaying s.program s.replayer m h };
@@ -33,6 +35,10 @@ impl Session for Replaying {
             program,
             replayer: Replayer::new(alloc),
         })
+    }
+
+    fn program(&self) -> &Program {
+        &self.program
     }
 
     fn known(&self, _held: &()) {}

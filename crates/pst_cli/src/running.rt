@@ -25,6 +25,8 @@ impl<O: Order + Drop, N: FatNodes> Session for Running<O, N> {
 
     type Held = StoreOf<O, N>;
 
+    ghost about = { λ s. s.code };
+
     ghost fresh = { λ store. store ≡ None };
 
     ghost stands = { λ s store m h. IsRunning s.code s.engine store m h };
@@ -44,6 +46,10 @@ impl<O: Order + Drop, N: FatNodes> Session for Running<O, N> {
         let engine = Engine::new(alloc);
         a_new_engine_stands(&code, held, &engine);
         Ok(Running { code, engine })
+    }
+
+    fn program(&self) -> &Program {
+        self.code.program()
     }
 
     fn known(&self, held: &StoreOf<O, N>) {

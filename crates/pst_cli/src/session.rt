@@ -1,6 +1,7 @@
 //! What answers the commands of a script.
 
 ghost use Rattle.std.specs.Prelude.{◌≡◌, ◌⊎◌, true, IfOk, OnOk, OnErr};
+ghost use Rattle.pst_program.specs.declared.program.Program.{Program};
 ghost use Rattle.pst_program.specs.View.{routines_of};
 ghost use Rattle.pst_program.specs.Typed.{IsTyped};
 ghost use Rattle.pst_script.specs.Commands.{in_range};
@@ -20,6 +21,9 @@ pub(crate) trait Session: Drop {
     /// What is held beside it, and handed in at each call.
     type Held;
 
+    /// The program whose commands it answers.
+    ghost about: { Self → Program };
+
     /// What is held is as a session may begin with it.
     ghost fresh: { Self.Held → Type 0 };
 
@@ -38,12 +42,17 @@ pub(crate) trait Session: Drop {
         requires typed { IsTyped (routines_of program) }
         requires fresh { fresh held.old }
         ensures stands { IfOk result (λ session. stands session held.new (meaning_of program) (first_history (meaning_of program))) }
+        ensures about { IfOk result (λ session. about session ≡ program) }
         ensures err { OnErr result (held.new ≡ held.old) };
 
     /// What is held where they stand for a history.
     fn known(&self, held: &Self::Held)
         ensures leaves { (m : Meaning) (h : History) → stands self.now held.now m h → leaves m held.now h }
         ensures breaks { (m : Meaning) (h : History) → stands self.now held.now m h → breaks m held.now h };
+
+    /// The program.
+    fn program(&self) -> &Program
+        ensures { result.now ≡ about self.now };
 
     /// Answers a command whose numbers a line can give. For each history that they stand for, the answer is its reply, and
     /// afterwards they stand for the history after the command. Want of memory is the one fault, and the last answer:
@@ -56,6 +65,7 @@ pub(crate) trait Session: Drop {
     ) -> Result<Reply, NoMemory>
         requires stands { StandForSome stands self.old held.old }
         requires range { in_range command.now ≡ true }
+        ensures about { about self.new ≡ about self.old }
         ensures answer { IfOk result (λ r. (m : Meaning) (h : History) → stands self.old held.old m h → r ≡ reply m h command.now) }
         ensures stands { OnOk result ((m : Meaning) (h : History) → stands self.old held.old m h → stands self.new held.new m (after m h command.now)) }
         ensures breaks { OnErr result ((m : Meaning) (h : History) → stands self.old held.old m h → breaks m held.new h ⊎ breaks m held.new (after m h command.now)) };

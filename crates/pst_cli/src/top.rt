@@ -5,15 +5,18 @@ ghost use Rattle.std.specs.Io.KnownBytes.{Appends};
 ghost use Rattle.pst_io.specs.Causes.{Rose};
 ghost use Rattle.pst_io.specs.Lines.{not_begun};
 ghost use Rattle.pst_cli.specs.declared.job.Job.{Job};
-ghost use Rattle.pst_cli.specs.Jobs.{task_of};
+ghost use Rattle.pst_cli.specs.declared.job.Question.{Question};
+ghost use Rattle.pst_cli.specs.Jobs.{task_of, path_in};
+ghost use Rattle.pst_cli.specs.Asking.{AskRow};
 ghost use Rattle.pst_cli.specs.Bench.{BenchRow, bench_lines};
 ghost use Rattle.pst_samples.specs.declared.TheConstants.{RING};
 ghost use Rattle.pst_cli.specs.Storing.{kept_in};
 ghost use Rattle.pst_cli.specs.Rows.{Row, IsServable, IsComplete};
 
 use crate::Status;
+use crate::ask::ask;
 use crate::bench::bench;
-use crate::job::{Job, Task, task_of};
+use crate::job::{Job, Question, Task, path_in, task_of};
 use crate::page::Page;
 use crate::program::read_text;
 use crate::replaying::Replaying;
@@ -29,7 +32,8 @@ use std::alloc::Global;
 
 /// Does everything that the program does.
 ///
-/// The words are `run`, `replay`, `check` or `code`, or `bench` and a number.
+/// The words are `run`, `replay`, `check` or `code`, or `bench` and a number, or `dump` and a version, or `changed`, a version and
+/// a path.
 ///
 /// For `bench` nothing is read: the script of the bench with that number is carried out for the program of a ring, and a summary of
 /// what came of it is written as one piece.
@@ -38,6 +42,11 @@ use std::alloc::Global;
 /// by the line of its fault alone. For `check` its canonical text is written then, and for `code` the listing of its code. For `run`
 /// and `replay` each line of the script is read, carried out and answered before the next one is read, and each reply is written as
 /// one piece.
+///
+/// For `dump` and `changed` the script is read and carried out as for `run`, and no reply is written. Then the dump of the version
+/// is written; or the line `changed W` with the first version `W`, on the way from the version to version 0, that changed what the
+/// path reads; or `never`. The line `refused path` is written exactly where the program has no such path, and else
+/// `refused version` exactly where no version has the number.
 pub fn persist<S: Source, K: Sink, O: Order + Drop, N: FatNodes>(
     alloc: Global,
     words: &[String],
@@ -56,6 +65,10 @@ pub fn persist<S: Source, K: Sink, O: Order + Drop, N: FatNodes>(
     ensures bench { (number : ℕ) → task_of (map string_bytes words.now) ≡ Some (Task.Bench number) → (source.new ≡ source.old) × ((out : List ℕ)
         × Appends (K.taken sink.old) (K.taken sink.new) out × BenchRow result RING.now (bench_lines number) store.old store.new out) }
 
+    // What a question has read and written, and what the store is left in: as after `run`, and the answer about it.
+    ensures asked { (question : Question) → task_of (map string_bytes words.now) ≡ Some (Task.Ask question) → IfSome (S.left source.old) (λ input. (out : List ℕ)
+        × Appends (K.taken sink.old) (K.taken sink.new) out × AskRow result (kept_in store.old store.new Job.Run) question (path_in (map string_bytes words.now)) input (S.left source.new) out) }
+
     // When each status comes.
     ensures read { result ≡ Status.ReadFault → Rose (S.faults source.old) (S.faults source.new) }
     ensures write { result ≡ Status.WriteFault → Rose (K.faults sink.old) (K.faults sink.new) }
@@ -73,6 +86,7 @@ pub fn persist<S: Source, K: Sink, O: Order + Drop, N: FatNodes>(
             let mut lines = Lines::new(alloc);
             carry_out(alloc, job, &mut lines, source, sink, store)
         }
+        Some(Task::Ask(question)) => ask(alloc, question, path_in(words), source, sink, store),
         Some(Task::Bench(number)) => { bench(alloc, ring().as_bytes(), number, sink, store) }
     }
 }
