@@ -1,6 +1,6 @@
 //! A case: what the program is given and what it has to write.
 
-use crate::text::{Text, number, put_line};
+use crate::text::{Text, number, put_line, split_word};
 use std::alloc::{AllocError, Global};
 
 /// To which part of a case the next line belongs.
@@ -9,6 +9,25 @@ enum Part {
     Head,
     Input,
     Output,
+    Script,
+    Cuts,
+}
+
+/// How many bytes of the input and of the output stand up to the end of a line of the script and of its reply, and what the store
+/// has then. The first step of a script is the one before its first line.
+#[derive(Drop)]
+pub(crate) struct Step {
+    pub(crate) read: usize,
+    pub(crate) written: usize,
+    pub(crate) store: Vec<usize>,
+}
+
+/// With which status the program ends, and what it writes, for the first bytes of the input alone, from so many of them on.
+#[derive(Drop)]
+pub(crate) struct Cut {
+    pub(crate) from: usize,
+    pub(crate) status: usize,
+    pub(crate) output: Text,
 }
 
 /// A case. It stands for a run of the program for each of its lists of words, each size of a read and each of a write.
@@ -31,10 +50,19 @@ pub(crate) struct Case {
     pub(crate) room: Option<usize>,
     /// How many versions, records, pointer writes and value writes the store has in the end. Empty: that is not looked at.
     pub(crate) store: Vec<usize>,
+    /// Whether it is run again with each read and each write failing in turn.
+    pub(crate) each_fails: bool,
     pub(crate) input: Text,
     pub(crate) output: Text,
+    /// The steps of a script that is told step by step.
+    pub(crate) steps: Vec<Step>,
+    /// What the program does for the first bytes of the input, in the order of how many these are.
+    pub(crate) cuts: Vec<Cut>,
     part: Part,
 }
+
+/// What a store has once the program is accepted: version 0, and the root record.
+pub(crate) const STARTED: [usize; 4] = [1, 1, 0, 0];
 
 /// The words of a list.
 fn words_of(alloc: Global, line: &[u8]) -> Result<Vec<String>, AllocError> {
@@ -82,8 +110,11 @@ impl Case {
             failing_writes: Vec::new(alloc),
             room: None,
             store: Vec::new(alloc),
+            each_fails: false,
             input: Text::new(alloc),
             output: Text::new(alloc),
+            steps: Vec::new(alloc),
+            cuts: Vec::new(alloc),
             part: Part::Head,
         }
     }
@@ -103,11 +134,69 @@ impl Case {
             self.part = Part::Output;
             return Ok(());
         }
+        if line == b"-- script".as_slice() {
+            self.part = Part::Script;
+            return self.put_step(Vec::from_slice(alloc, &STARTED)?);
+        }
+        if line == b"-- cuts".as_slice() {
+            self.part = Part::Cuts;
+            return Ok(());
+        }
         match self.part {
             Part::Head => self.take_head(alloc, line),
             Part::Input => self.input.take_line(alloc, programs, line),
             Part::Output => self.output.take_line(alloc, programs, line),
+            Part::Script => self.take_step(alloc, programs, line),
+            Part::Cuts => self.take_cut(alloc, programs, line),
         }
+    }
+
+    /// Puts a step that ends where input and output end so far.
+    fn put_step(&mut self, store: Vec<usize>) -> Result<(), AllocError> {
+        self.steps.push(Step {
+            read: self.input.bytes.len(),
+            written: self.output.bytes.len(),
+            store,
+        })?;
+        Ok(())
+    }
+
+    /// Takes a line of the script, a line of its reply, or what the store has then.
+    fn take_step(&mut self, alloc: Global, programs: &[u8], line: &[u8]) -> Result<(), AllocError> {
+        if let Some(reply) = line.strip_prefix(b"=> ") {
+            self.output.take_line(alloc, programs, reply)?;
+            if let Some(step) = self.steps.last_mut() {
+                step.written = self.output.bytes.len();
+            }
+        } else if let Some(store) = line.strip_prefix(b"-> ") {
+            if let Some(step) = self.steps.last_mut() {
+                step.store = numbers_of(alloc, store)?;
+            }
+        } else {
+            let store = match self.steps.last() {
+                None => Vec::new(alloc),
+                Some(step) => step.store.clone()?,
+            };
+            self.input.take_line(alloc, programs, line)?;
+            self.put_step(store)?;
+        }
+        Ok(())
+    }
+
+    /// Takes what the program does from so many bytes on: the number of bytes, the status, and what is written, if anything is.
+    fn take_cut(&mut self, alloc: Global, programs: &[u8], line: &[u8]) -> Result<(), AllocError> {
+        let (from, behind) = split_word(line);
+        let (status, written) = split_word(behind);
+        let mut output = Text::new(alloc);
+        if !written.is_empty() {
+            output.take_line(alloc, programs, written)?;
+        }
+        self.cuts.push(Cut {
+            from: number(from).unwrap_or(0),
+            status: number(status).unwrap_or(usize::MAX),
+            output,
+        })?;
+        Ok(())
     }
 
     /// Takes a line of the head.
@@ -130,6 +219,8 @@ impl Case {
             self.room = number(rest);
         } else if let Some(rest) = line.strip_prefix(b"store: ") {
             self.store = numbers_of(alloc, rest)?;
+        } else if line == b"each fails".as_slice() {
+            self.each_fails = true;
         }
         Ok(())
     }

@@ -9,6 +9,7 @@ mod case;
 mod limits;
 mod run;
 mod text;
+mod turns;
 
 use case::Case;
 use run::{Score, run_case};
@@ -20,15 +21,18 @@ use text::body_of;
 const PROGRAMS: &str = "programs";
 
 /// The files of the cases.
-const CASES: [&str; 8] = [
+const CASES: [&str; 11] = [
     "versions",
     "refusals",
     "open_runs",
     "calls",
     "streams",
+    "devices",
+    "prefixes",
     "faults",
     "typing",
     "pages",
+    "questions",
 ];
 
 /// Runs the cases of a file.

@@ -92,7 +92,7 @@ pub(crate) fn put_line(
 }
 
 /// The word before the first blank, and what stands behind that.
-fn split_word(line: &[u8]) -> (&[u8], &[u8]) {
+pub(crate) fn split_word(line: &[u8]) -> (&[u8], &[u8]) {
     match line.iter().position(|byte| *byte == b' ') {
         Some(place) => (&line[..place], &line[place + 1..]),
         None => (line, b""),
