@@ -10,7 +10,7 @@ use Rattle.pst_base.specs.declared.names.TrapKind.TheVariants.{Null, InDegree, O
 use Rattle.pst_script.specs.declared.reply.Refusal.{Refusal}
 use Rattle.pst_script.specs.declared.reply.Refusal.TheVariants as because
 use Rattle.pst_script.specs.declared.reply.Reply.{Reply}
-use Rattle.pst_script.specs.declared.reply.Reply.TheVariants.{Version, Answer, Trapped, Opened, Running, Finished, Dropped, BudgetSet, VersionList, StatsAre, Refused}
+use Rattle.pst_script.specs.declared.reply.Reply.TheVariants.{Version, Answer, Trapped, Opened, Running, Finished, Dropped, BudgetSet, VersionList, StatsAre, LineStatsAre, Refused}
 
 -- the end of a line
 abbrev pub line_end : List ℕ
@@ -48,8 +48,13 @@ version_lines version (parent ∷ parents) = version_line version parent ++ vers
 abbrev pub bound_of : Counts → ℕ
 bound_of counts = counts.records + 6 * counts.pointer_writes + 2 * counts.value_writes
 
-abbrev pub counts_line : Counts → List ℕ
-counts_line counts = codes "records " ++ decimal counts.records ++ codes " pointers " ++ decimal counts.pointer_writes ++ codes " values " ++ decimal counts.value_writes ++ codes " bound " ++ decimal (bound_of counts) ++ line_end
+-- the same in a linear history: a write makes one stamped value, and a copy of a node is paid by those that it leaves behind
+abbrev pub line_bound_of : Counts → ℕ
+line_bound_of counts = counts.records + counts.pointer_writes + counts.value_writes
+
+-- the counts, with a bound
+abbrev pub counts_line : Counts → (bound : ℕ) → List ℕ
+counts_line counts bound = codes "records " ++ decimal counts.records ++ codes " pointers " ++ decimal counts.pointer_writes ++ codes " values " ++ decimal counts.value_writes ++ codes " bound " ++ decimal bound ++ line_end
 
 abbrev pub refusal_name : Refusal → List ℕ
 refusal_name because.Line = codes "line"
@@ -61,6 +66,7 @@ refusal_name because.Run = codes "run"
 refusal_name because.Runs = codes "runs"
 refusal_name because.RunsOpen = codes "open"
 refusal_name because.Calls = codes "calls"
+refusal_name because.Old = codes "old"
 
 -- the text of a reply (this project's own rule); `reply_text` writes it
 -- (carried out by `pst_script::reply_text`)
@@ -74,5 +80,6 @@ text_of (Finished run) = codes "run " ++ decimal run.0 ++ codes " done" ++ line_
 text_of (Dropped run) = codes "dropped " ++ decimal run.0 ++ line_end
 text_of (BudgetSet charges) = codes "budget " ++ decimal charges ++ line_end
 text_of (VersionList parents) = codes "0" ++ line_end ++ version_lines 1 parents
-text_of (StatsAre counts) = counts_line counts
+text_of (StatsAre counts) = counts_line counts (bound_of counts)
+text_of (LineStatsAre counts) = counts_line counts (line_bound_of counts)
 text_of (Refused refusal) = codes "refused " ++ refusal_name refusal ++ line_end

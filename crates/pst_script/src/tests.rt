@@ -1,4 +1,4 @@
-use crate::{Call, Command, Parents, Reply, read_line, reply_text, written_one_way};
+use crate::{Call, Command, Parents, Refusal, Reply, read_line, reply_text, written_one_way};
 use pst_base::{Counts, Numbers, Trap, TrapKind, VersionNo};
 use std::alloc::{AllocError, Global};
 use std::test::Fail;
@@ -101,6 +101,27 @@ fn replies_have_a_line_for_each_item(rt: HostRuntime) -> Result<(), Fail> {
     assert_eq!(rt;
         replied(alloc, Reply::StatsAre(counts))?.as_str(),
         "records 18446744073709551615 pointers 18446744073709551615 values 0 bound 129127208515966861305\n"
+    );
+    Ok(())
+}
+
+#[test]
+fn replies_of_a_linear_history_have_their_own_bound_and_refusal(
+    rt: HostRuntime,
+) -> Result<(), Fail> {
+    let alloc = rt.alloc();
+    let counts = Counts {
+        records: 3,
+        pointer_writes: 4,
+        value_writes: 2,
+    };
+    assert_eq!(rt;
+        replied(alloc, Reply::LineStatsAre(counts))?.as_str(),
+        "records 3 pointers 4 values 2 bound 9\n"
+    );
+    assert_eq!(rt;
+        replied(alloc, Reply::Refused(Refusal::Old))?.as_str(),
+        "refused old\n"
     );
     Ok(())
 }

@@ -1,7 +1,7 @@
 //! The texts of replies.
 ghost use Rattle.std.specs.Prelude.{◌≡◌, ◌<◌, ◌++◌, length, IfOk, OnOk};
 ghost use Rattle.std.specs.Fmt.{decimal};
-ghost use Rattle.pst_script.specs.Texts.{printed_lines, trap_name, trap_line, version_line, version_lines, bound_of, counts_line, refusal_name, text_of};
+ghost use Rattle.pst_script.specs.Texts.{printed_lines, trap_name, trap_line, version_line, version_lines, bound_of, line_bound_of, counts_line, refusal_name, text_of};
 
 use crate::reply::{Refusal, Reply};
 use itoa::{Buffer, Integer};
@@ -43,6 +43,7 @@ fn refusal_name(refusal: Refusal) -> &'static [u8]
         Refusal::Runs => b"runs",
         Refusal::RunsOpen => b"open",
         Refusal::Calls => b"calls",
+        Refusal::Old => b"old",
     }
 }
 
@@ -107,14 +108,21 @@ fn bound(counts: &Counts) -> u128
     counts.records as u128 + 6 * counts.pointer_writes as u128 + 2 * counts.value_writes as u128
 }
 
-/// Puts the line of the counts.
-fn push_counts(text: &mut Vec<u8>, counts: &Counts) -> Result<(), NoMemory>
-    ensures { OnOk result (text.new.items ≡ text.old.items ++ counts_line counts.now) }
+/// How many nodes and stamped values there can be at most after these writes of a linear history.
+fn line_bound(counts: &Counts) -> u128
+    ensures { result ≡ line_bound_of counts.now }
+{
+    counts.records as u128 + counts.pointer_writes as u128 + counts.value_writes as u128
+}
+
+/// Puts the line of the counts, with a bound on nodes and stamped values.
+fn push_counts(text: &mut Vec<u8>, counts: &Counts, bound: u128) -> Result<(), NoMemory>
+    ensures { OnOk result (text.new.items ≡ text.old.items ++ counts_line counts.now bound) }
 {
     push_number(text, b"records ", counts.records, b"")?;
     push_number(text, b" pointers ", counts.pointer_writes, b"")?;
     push_number(text, b" values ", counts.value_writes, b"")?;
-    push_number(text, b" bound ", bound(counts), b"\n")
+    push_number(text, b" bound ", bound, b"\n")
 }
 
 /// Puts the text of a reply.
@@ -143,7 +151,8 @@ fn push_reply(text: &mut Vec<u8>, reply: &Reply) -> Result<(), NoMemory>
             text.extend_from_slice(b"0\n")?;
             push_versions(text, parents.as_slice())
         }
-        Reply::StatsAre(counts) => push_counts(text, counts),
+        Reply::StatsAre(counts) => push_counts(text, counts, bound(counts)),
+        Reply::LineStatsAre(counts) => push_counts(text, counts, line_bound(counts)),
         Reply::Refused(refusal) => {
             text.extend_from_slice(b"refused ")?;
             text.extend_from_slice(refusal_name(*refusal))?;
