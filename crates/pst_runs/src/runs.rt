@@ -12,14 +12,14 @@ use crate::calls::{call_of, kinds_refused};
 use pst_base::{NoMemory, Numbers, RunNo, Text};
 use pst_coded::Meant;
 use pst_machine::{Activation, Progress};
-use pst_places::VersionedHeap;
+use pst_places::HeapAt;
 use pst_program::Ended;
 use pst_script::Refusal;
 use std::alloc::Global;
 
 /// What is so of the runs of any code: its meaning is lawful, a run that stands waits for its next slice, and one that stands
 /// still does whatever other runs do meanwhile.
-pub fn known<H: VersionedHeap, C: Meant>(code: &C)
+pub fn known<H: HeapAt, C: Meant>(code: &C)
     ensures lawful { IsLawful (C.meaning code.now) }
     ensures waits { (h : H) → StandingWaits (runs_of (λ (a : Activation H H.Ref H.Place). a.stage) (C.parts code.now)) (H.state h) }
     ensures stays { (h k : H) → SurvivesOthers (runs_of (λ (a : Activation H H.Ref H.Place). a.stage) (C.parts code.now)) (H.state h) (H.state k) }
@@ -52,7 +52,7 @@ pub fn query_refused<C: Meant>(code: &C, procedure: &Text, arguments: &Numbers) 
 }
 
 /// A run at a place, without a call and before its first charge. It takes at most `budget` charges.
-pub fn bare<H: VersionedHeap, C: Meant>(
+pub fn bare<H: HeapAt, C: Meant>(
     code: &C,
     alloc: Global,
     at: H::Place,
@@ -67,7 +67,7 @@ pub fn bare<H: VersionedHeap, C: Meant>(
 }
 
 /// Adds a call to a run: of a query, or of any procedure at a place that can be written. A refusal changes nothing.
-pub fn add<H: VersionedHeap, C: Meant>(
+pub fn add<H: HeapAt, C: Meant>(
     code: &C,
     activation: &mut Activation<H>,
     procedure: &Text,
@@ -87,7 +87,7 @@ pub fn add<H: VersionedHeap, C: Meant>(
 
 /// Grants a run that many more charges, never more than its budget in all, and carries out its calls as far as they reach. Other
 /// places keep their heaps, and one that can't be written keeps its own, also after `NoMemory`; the run has failed then.
-pub fn advance<H: VersionedHeap, C: Meant>(
+pub fn advance<H: HeapAt, C: Meant>(
     code: &C,
     activation: &mut Activation<H>,
     heap: &mut H,
