@@ -14,7 +14,7 @@ use bed::Bed;
 use orders::{are_reversed, compare_many, insert_behind, insert_behind_first};
 use pst_labels::LabelOrder;
 use pst_order::Order;
-use pst_rows::{Row, Slot};
+use pst_rows::Row;
 use reads::{fill, find_splits, read_rows, scan_rows};
 use std::alloc::Global;
 use std::mem::size_of;
@@ -164,7 +164,7 @@ fn main(rt: HostRuntime) -> io::Result<()> {
     let scale = if is_timed(&rt)? { TIMED } else { CHECKED };
     println!(rt;
         "a row of 4 slots and 4 stamped values or fewer: {} bytes",
-        size_of::<Row>() + 4 * size_of::<Slot>()
+        size_of::<Row>()
     )?;
     time_first(&rt, rt.alloc(), scale)?;
     time_last(&rt, rt.alloc(), scale)?;

@@ -106,3 +106,12 @@ pub struct Slot {
     pub content: Held,
     pub start: usize,
 }
+
+impl Default for Slot {
+    fn default() -> Slot {
+        Slot {
+            content: Held::new(Content::Null),
+            start: 0,
+        }
+    }
+}

@@ -10,8 +10,8 @@ ghost use Rattle.pst_rows.specs.Steps.{AreBounds, HasParts, IsLocated, IsStampAt
 
 use crate::content::{Content, Held, Slot, Stamp};
 use crate::stamps::{
-    Bounds, Located, StampPlaces, Stamps, count_slots, insert_stamp, middle_from, raise_starts,
-    recount, stamps_after, stamps_before, write_base, write_content,
+    Bounds, Located, Slots, StampPlaces, Stamps, count_slots, insert_stamp, middle_from,
+    raise_starts, recount, stamps_after, stamps_before, write_base, write_content,
 };
 use pst_base::{NoMemory, SlotNo, TypeShape};
 use pst_order::{Compare, Counting, Order, Pos, partition};
@@ -28,7 +28,7 @@ use std::cmp::Ordering;
 pub struct Row {
     lo: Pos,
     hi: Pos,
-    slots: Vec<Slot>,
+    slots: Slots,
     stamps: Stamps,
 }
 
@@ -93,7 +93,7 @@ impl Row {
     }
 
     /// What a slot holds at a place of the life.
-    #[inline]
+    #[inline(always)]
     pub fn read<O: Order>(&self, order: &O, slot: SlotNo, at: Pos) -> Content
         requires row { IsRowIn (O.places order.now) self.now }
         requires slot { slot.0 < width_of self.now }
@@ -105,7 +105,7 @@ impl Row {
 
     /// What a slot holds at a place of the life, found by bisection in at most `s` comparisons, where `2 ^ s` is at most
     /// `2 * n + 1` for the `n` stamped values of the slot.
-    #[inline]
+    #[inline(always)]
     pub fn read_with<P: Compare>(&self, compare: &mut P, slot: SlotNo, at: Pos) -> Content
         requires row { IsRowIn (P.list compare.old) self.now }
         requires slot { slot.0 < width_of self.now }
@@ -123,7 +123,7 @@ impl Row {
                 return stamps[index - 1].content.content();
             }
         }
-        self.slots[usize::from(slot.0)].content.content()
+        self.slots.as_slice()[usize::from(slot.0)].content.content()
     }
 
     /// Where the segment of a slot that covers a place of the life begins, and before which place it ends.
@@ -282,20 +282,21 @@ impl Row {
     }
 
     // Where a slot's stamps are.
-    #[inline]
+    #[inline(always)]
     fn part(&self, slot: SlotNo) -> (usize, usize)
         requires parts { HasParts self.now }
         requires slot { slot.0 < width_of self.now }
         ensures start { result.0 ≡ before_slot self.now.stamps.items slot.0 }
         ensures stop { result.1 ≡ before_slot self.now.stamps.items (slot.0 + 1) }
     {
+        let slots = self.slots.as_slice();
         let slot = usize::from(slot.0);
-        let stop = if slot + 1 < self.slots.len() {
-            self.slots[slot + 1].start
+        let stop = if slot + 1 < slots.len() {
+            slots[slot + 1].start
         } else {
             self.stamps.len()
         };
-        (self.slots[slot].start, stop)
+        (slots[slot].start, stop)
     }
 
     // Where a slot's stamps are, and which of them are not after a place.
@@ -427,12 +428,12 @@ impl Row {
         order: &O,
         at: Pos,
         stamps: &[Stamp],
-    ) -> Result<Vec<Slot>, NoMemory>
+    ) -> Result<Slots, NoMemory>
         requires row { IsRowIn (O.places order.now) self.now }
         requires life { IsInLife (O.places order.now) self.now at.0 }
         ensures { IfOk result (λ slots. AreSlotsAt (rank (O.places order.now)) self.now (rank (O.places order.now) at.0) stamps.now slots.items) }
     {
-        let mut slots = Vec::with_capacity(alloc, self.slots.len())?;
+        let mut slots = SmallVec::with_capacity(alloc, self.slots.len())?;
         for slot in 0..self.slots.len() {
             slots.push(Slot {
                 content: Held::new(self.read(order, SlotNo(slot as u16), at)),
@@ -444,13 +445,13 @@ impl Row {
 }
 
 // What the slots of a new row hold.
-fn first_slots(alloc: Global, shape: &TypeShape) -> Result<Vec<Slot>, NoMemory>
+fn first_slots(alloc: Global, shape: &TypeShape) -> Result<Slots, NoMemory>
     requires { slot_count shape.now ≤ 65536 }
     ensures { IfOk result (λ slots. AreFirstSlots shape.now slots.items) }
 {
     let fields = usize::from(shape.values) + shape.targets.as_slice().len();
     let count = fields + usize::from(shape.limit);
-    let mut slots = Vec::with_capacity(alloc, count)?;
+    let mut slots = SmallVec::with_capacity(alloc, count)?;
     for slot in 0..count {
         let content = if slot < usize::from(shape.values) {
             Content::Number(0)

@@ -13,8 +13,11 @@ use smallvec::SmallVec;
 use std::alloc::Global;
 use std::cmp::Ordering;
 
+/// The slots of a row. Up to four stand in the row itself, so that a read of a small record finds them beside the life.
+pub type Slots = SmallVec<Slot, 4>;
+
 /// The stamped values of a row. Up to four stand in the row itself: with 24 bytes for each of them and for each slot, a row
-/// of four slots takes 240 bytes.
+/// of four slots takes 232 bytes.
 pub type Stamps = SmallVec<Stamp, 4>;
 
 /// The places of stamps.
@@ -152,28 +155,28 @@ pub fn write_content(stamps: &mut Stamps, index: usize, content: Content)
 }
 
 /// Gives a slot another content at the begin of the life.
-pub fn write_base(slots: &mut Vec<Slot>, slot: SlotNo, content: Content)
+pub fn write_base(slots: &mut Slots, slot: SlotNo, content: Content)
     requires { slot.0 < length slots.old.items }
     ensures { slots.new.items ≡ with_base slots.old.items slot.0 content }
 {
-    slots[usize::from(slot.0)].content = Held::new(content);
+    slots.as_mut_slice()[usize::from(slot.0)].content = Held::new(content);
 }
 
 /// Each slot behind one has one stamp more before it.
-pub fn raise_starts(slots: &mut Vec<Slot>, slot: SlotNo)
+pub fn raise_starts(slots: &mut Slots, slot: SlotNo)
     requires few { All (λ s. s.start < 2 ^ 64 - 1) slots.old.items }
     ensures { AreRaised slots.old.items slots.new.items slot.0 }
 {
     for later in usize::from(slot.0) + 1..slots.len() {
-        slots[later].start += 1;
+        slots.as_mut_slice()[later].start += 1;
     }
 }
 
 /// Counts anew where the stamps of each slot begin.
-pub fn recount(slots: &mut Vec<Slot>, stamps: &[Stamp])
+pub fn recount(slots: &mut Slots, stamps: &[Stamp])
     ensures { AreRecounted slots.old.items slots.new.items stamps.now }
 {
     for slot in 0..slots.len() {
-        slots[slot].start = count_slots(stamps, slot);
+        slots.as_mut_slice()[slot].start = count_slots(stamps, slot);
     }
 }

@@ -41,12 +41,12 @@ returns-clause-content g c =
           let same : w.partition-index.result ≡ c.part-start.result.0 = omega (arith, w.if-start-index.false, found.low) in
           c.content-2.ensures ∙ read_base (rank list) (length list) c.args.self.now c.args.slot.0 (rank list c.args.at.0) c.part-start.result.0 w.partition-index.result c.part-start.result.1 c.requires.row
           (part_located list (rank list c.args.self.now.lo.0) (rank list c.args.self.now.hi.0) (length c.args.self.now.slots.items) c.args.self.now.stamps.items c.requires.row.stamps c.requires.row.there c.args.slot.0 c.part-start.result.0 c.part-start.result.1 c.part-start.ensures.start c.part-start.ensures.stop c.args.at.0 w.partition-index.result found)
-          c.index.result.now c.from.result c.index.ensures c.from.ensures c.requires.slot same
+          c.as_slice.result.now c.from.result _ c.as_slice.ensures c.from.ensures c.requires.slot same
       | else-start-stop w ↦
           let found : IsPartition list (places_of c.args.self.now.stamps.items) c.part-start.result.0 c.part-start.result.1 c.args.at.0 c.part-start.result.0 = empty_partition list (places_of c.args.self.now.stamps.items) c.part-start.result.0 c.part-start.result.1 c.args.at.0 (part_ordered list (rank list c.args.self.now.lo.0) (rank list c.args.self.now.hi.0) (length c.args.self.now.slots.items) c.args.self.now.stamps.items c.requires.row.stamps c.requires.row.there c.args.slot.0 c.part-start.result.0 c.part-start.result.1 c.part-start.ensures.start c.part-start.ensures.stop) w.if-start-stop.false in
           c.content-2.ensures ∙ read_base (rank list) (length list) c.args.self.now c.args.slot.0 (rank list c.args.at.0) c.part-start.result.0 c.part-start.result.0 c.part-start.result.1 c.requires.row
           (part_located list (rank list c.args.self.now.lo.0) (rank list c.args.self.now.hi.0) (length c.args.self.now.slots.items) c.args.self.now.stamps.items c.requires.row.stamps c.requires.row.there c.args.slot.0 c.part-start.result.0 c.part-start.result.1 c.part-start.ensures.start c.part-start.ensures.stop c.args.at.0 c.part-start.result.0 found)
-          c.index.result.now c.from.result c.index.ensures c.from.ensures c.requires.slot refl
+          c.as_slice.result.now c.from.result _ c.as_slice.ensures c.from.ensures c.requires.slot refl
     ]
 
 pub returns-clause-calls : goal.returns-clause-calls
