@@ -90,6 +90,7 @@ impl Nodes {
     }
 
     /// A node's row.
+    #[inline(always)]
     pub fn row(&self, id: NodeId) -> &Row
         requires { id.0 < length self.now.list.items }
         ensures { (d : Row) → result.now ≡ row_at self.now.list.items id.0 d }
@@ -98,6 +99,7 @@ impl Nodes {
     }
 
     /// The record of a node.
+    #[inline(always)]
     pub fn name(&self, id: NodeId) -> Name
         requires { id.0 < length self.now.list.items }
         ensures { result ≡ (frame_at self.now.list.items id.0).name }
@@ -114,6 +116,7 @@ impl Nodes {
     }
 
     /// The next node of the record.
+    #[inline(always)]
     pub fn later(&self, id: NodeId) -> Option<NodeId>
         requires { id.0 < length self.now.list.items }
         ensures { option_map (λ i. i.0) result ≡ (frame_at self.now.list.items id.0).later }
@@ -122,6 +125,7 @@ impl Nodes {
     }
 
     /// What a slot of a node holds at a place.
+    #[inline(always)]
     pub fn read<O: Order>(&self, order: &O, id: NodeId, slot: SlotNo, at: Pos) -> Content
         requires rows { AreRows (O.places order.now) self.now.list.items }
         requires slot { IsSlot (O.places order.now) self.now.list.items id.0 slot.0 (rank (O.places order.now) at.0) }
@@ -241,6 +245,7 @@ impl Nodes {
     }
 
     /// The node of the record that covers a place.
+    #[inline(always)]
     pub fn cover<O: Order>(&self, order: &O, id: NodeId, at: Pos) -> NodeId
         requires rows { AreRows (O.places order.now) self.now.list.items }
         requires chained { AreChained (lives (O.places order.now) self.now.list.items) }

@@ -3,7 +3,7 @@
 use crate::node::{Node, Nodes};
 use pst_base::{Name, NoMemory, NodeId, RunNo, Targets, TypeNo, TypeShape};
 use pst_order::Pos;
-use pst_rows::{Row, Slot};
+use pst_rows::Row;
 use std::alloc::Global;
 use std::mem::size_of;
 
@@ -40,6 +40,6 @@ fn nodes_are_numbered_from_0(rt: HostRuntime) -> Result<(), NoMemory> {
 }
 
 #[test]
-fn an_item_with_four_stamped_values_takes_at_most_320_bytes(rt: HostRuntime) {
-    assert!(rt; size_of::<Node>() + ITEM_SLOTS * size_of::<Slot>() <= 320);
+fn an_item_with_four_stamped_values_takes_at_most_288_bytes(rt: HostRuntime) {
+    assert!(rt; size_of::<Node>() <= 288);
 }
