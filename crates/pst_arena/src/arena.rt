@@ -90,6 +90,7 @@ impl FatNodes for Arena {
         !self.queue.is_empty()
     }
 
+    #[inline(always)]
     fn name(&self, id: NodeId) -> Name {
         self.nodes.name(id)
     }
@@ -98,6 +99,7 @@ impl FatNodes for Arena {
         self.nodes.ty(id)
     }
 
+    #[inline(always)]
     fn cover<O: Order>(&self, _shape: &Shape, order: &O, id: NodeId, at: Pos) -> NodeId {
         cover(order, &self.nodes, id, at)
     }
@@ -114,6 +116,7 @@ impl FatNodes for Arena {
         }
     }
 
+    #[inline(always)]
     fn read<O: Order>(
         &self,
         _shape: &Shape,

@@ -12,6 +12,7 @@ use pst_order::{Order, Pos};
 
 /// The node of a record that lives at a place. The last node of a record lives up to the record's end, so it is not asked
 /// where it ends.
+#[inline(always)]
 pub fn cover<O: Order>(order: &O, nodes: &Nodes, id: NodeId, at: Pos) -> NodeId
     requires rows { AreRows (O.places order.now) nodes.now.list.items }
     requires chained { AreChained (lives (O.places order.now) nodes.now.list.items) }

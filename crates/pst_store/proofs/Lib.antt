@@ -7,3 +7,5 @@ pub mod Starts
 pub mod Wholes
 pub mod Trying
 pub mod Started
+pub mod Unrepaired
+pub mod Rings

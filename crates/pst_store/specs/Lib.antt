@@ -2,3 +2,4 @@ pub mod Codes
 pub mod Calls
 pub mod Whole
 pub mod Trials
+pub mod Rings

@@ -1,5 +1,8 @@
 //! A store that is started.
 
+#[cfg(test)]
+mod unrepaired;
+
 use pst_arena::FatNodes;
 use pst_base::{Counts, Name, NoMemory, NodeId, RunNo, Shape, SlotNo, TypeNo, VersionNo};
 use pst_meaning::place::{Fork, Place};
@@ -137,6 +140,7 @@ impl<O: Order + Drop, N: FatNodes> Core<O, N> {
     }
 
     /// The number in a field of a record, at a place.
+    #[inline(always)]
     pub(crate) fn number(&self, at: Place, r: NodeId, field: SlotNo) -> i64
         requires live { (state_of self.now).live at r }
         requires field { kind_at self.now at r field.0 ≡ Some Int }
@@ -150,6 +154,7 @@ impl<O: Order + Drop, N: FatNodes> Core<O, N> {
     }
 
     /// The record that a field holds, at a place, or None exactly where the field is null.
+    #[inline(always)]
     pub(crate) fn pointer(&self, at: Place, r: NodeId, field: SlotNo) -> Option<NodeId>
         requires live { (state_of self.now).live at r }
         requires field { IsPointer (kind_at self.now at r field.0) }
@@ -164,6 +169,7 @@ impl<O: Order + Drop, N: FatNodes> Core<O, N> {
     }
 
     /// The name of a record.
+    #[inline(always)]
     pub(crate) fn name(&self, r: NodeId) -> Name
         requires { (p : Place) × (state_of self.now).live p r }
         ensures { result ≡ (state_of self.now).name r }
@@ -377,6 +383,7 @@ ghost use Rattle.pst_meaning.specs.Arena.{number};
 ghost use Rattle.pst_store.specs.Calls.{target};
 
 // The number that a slot holds, or 0.
+#[inline(always)]
 fn number_of(content: Content) -> i64
     ensures { result ≡ number content }
 {
@@ -387,6 +394,7 @@ fn number_of(content: Content) -> i64
 }
 
 // The node that a slot points to.
+#[inline(always)]
 fn target_of(content: Content) -> Option<NodeId>
     ensures { result ≡ target content }
 {

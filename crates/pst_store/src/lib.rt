@@ -15,6 +15,8 @@
 #![tactic(auto)]
 
 mod inner;
+#[cfg(test)]
+mod one_split;
 mod store;
 mod store_heap;
 #[cfg(test)]

@@ -32,6 +32,7 @@ impl<O: Order + Drop, N: FatNodes> HeapAt for StoreOf<O, N> {
         }
     }
 
+    #[inline(always)]
     fn load_value(&self, at: Place, r: NodeId, field: SlotNo) -> i64 {
         match &self.core {
             None => 0,
@@ -39,6 +40,7 @@ impl<O: Order + Drop, N: FatNodes> HeapAt for StoreOf<O, N> {
         }
     }
 
+    #[inline(always)]
     fn load_pointer(&self, at: Place, r: NodeId, field: SlotNo) -> Option<NodeId> {
         match &self.core {
             None => None,
@@ -60,10 +62,11 @@ impl<O: Order + Drop, N: FatNodes> HeapAt for StoreOf<O, N> {
         }
     }
 
+    #[inline(always)]
     fn same(&self, r: NodeId, q: NodeId) -> bool {
         match &self.core {
             None => true,
-            Some(core) => core.name(r) == core.name(q),
+            Some(core) => r == q || core.name(r) == core.name(q),
         }
     }
 

@@ -19,7 +19,7 @@ use std::alloc::Global;
 /// The type of the root record, and that of all others.
 const ROOT: TypeNo = TypeNo(0);
 
-const ITEM: TypeNo = TypeNo(1);
+pub(crate) const ITEM: TypeNo = TypeNo(1);
 
 /// The field of the root record that holds a number, and the one of an item that holds an item.
 const NUMBER: SlotNo = SlotNo(0);
@@ -27,12 +27,12 @@ const NUMBER: SlotNo = SlotNo(0);
 const NEXT: SlotNo = SlotNo(0);
 
 /// Two items, made by run 1.
-const FIRST: Name = Name {
+pub(crate) const FIRST: Name = Name {
     run: RunNo(1),
     ordinal: 0,
 };
 
-const SECOND: Name = Name {
+pub(crate) const SECOND: Name = Name {
     run: RunNo(1),
     ordinal: 1,
 };
@@ -84,7 +84,7 @@ fn numbers<H: HeapAt>(
 }
 
 /// Whether a field of a type has a kind.
-fn has_kind(shape: &Shape, ty: TypeNo, field: SlotNo, kind: Kind) -> bool
+pub(crate) fn has_kind(shape: &Shape, ty: TypeNo, field: SlotNo, kind: Kind) -> bool
     ensures there { IsTrue result → ty.0 < length shape.now }
     ensures kind { IsTrue result → field_kind (type_at shape.now ty) field.0 ≡ Some kind }
 {
@@ -155,19 +155,19 @@ fn publish<O: Order + Drop, N: FatNodes>(
     }
 }
 
-/// A type with so many numbers, one pointer to an item, and the limit 1: its capacity is 4.
-fn type_of(alloc: Global, values: u16) -> Result<TypeShape, NoMemory> {
+/// A type with so many numbers, one pointer to an item, and this limit.
+pub(crate) fn type_of(alloc: Global, values: u16, limit: u8) -> Result<TypeShape, NoMemory> {
     Ok(TypeShape {
         values,
         targets: Targets::from_vec(vec![in alloc; ITEM]?),
-        limit: 1,
+        limit,
     })
 }
 
-/// The shape of a root record with a number and a pointer, and of items with a pointer.
+/// The shape of a root record with a number and a pointer, and of items with a pointer: the capacity of each is 4.
 fn shape(alloc: Global) -> Result<Shape, NoMemory> {
-    let root = type_of(alloc, 1)?;
-    let item = type_of(alloc, 0)?;
+    let root = type_of(alloc, 1, 1)?;
+    let item = type_of(alloc, 0, 1)?;
     Ok(Shape::from_vec(vec![in alloc; root, item]?))
 }
 
