@@ -1,30 +1,26 @@
 -- A record is made in the open run.
-use Rattle.std.proofs.Common.{◌≡◌, ◌≢◌, ℕ, zero, suc, ◌+◌, ◌<◌, ◌≤◌, ◌||◌, Bool, true, false, List, [], ◌∷◌, length, reverse, Option, Some, None, IsSome, refl, sym, ap, ◌∙◌, subst, ◌⊎◌, inl, inr, ⊎_elim, arith}
+use Rattle.std.proofs.Common.{◌≡◌, ◌≢◌, ℕ, ◌<◌, ◌≤◌, ◌||◌, Bool, true, List, length, reverse, Some, None, sym, ap, ◌∙◌, subst, ◌⊎◌, inl, inr, ⊎_elim, arith}
 use Rattle.std.proofs.lemmas.Bool.{cases_lt, le-leb}
 use Rattle.std.specs.FinMap.{get}
-use Rattle.pst_base.specs.declared.names.Counts.{Counts}
 use Rattle.pst_base.specs.declared.names.Name.{Name}
-use Rattle.pst_base.specs.declared.names.NodeId.{NodeId}
 use Rattle.pst_base.specs.declared.names.TypeNo.{TypeNo}
-use Rattle.pst_base.specs.declared.shape.TypeShape.{TypeShape}
 use Rattle.pst_base.specs.Shape.{type_at}
-use Rattle.pst_base.specs.Heap.{Rec, Heap, with_record, new_record}
+use Rattle.pst_base.specs.Heap.{with_record, new_record}
 use Rattle.pst_places.specs.State.{HasRoom, IsFresh, IsNewType, Allocated}
-use Rattle.pst_line_nodes.specs.declared.content.Content.TheVariants.{Target}
-use Rattle.pst_line_nodes.specs.Line.{Line, IsLine, heap_at, record_at, most}
+use Rattle.pst_line_nodes.specs.Line.{IsLine, heap_at, record_at, most}
 use Rattle.pst_line_nodes.specs.Changes.{IsMade, VersionsStay}
 use Rattle.pst_line_nodes.specs.Seen.{Seen}
 use Rattle.pst_line_nodes.specs.Nodes.{line_of, AreKept}
 use Rattle.pst_line_nodes.proofs.HeapLaws.{heap_has}
 use Rattle.pst_line_nodes.proofs.Made.{made_law, default_plain}
 use Rattle.pst_line.specs.declared.place.LinePlace.{LinePlace}
-use Rattle.pst_line.specs.Store.{Stored, state_of, is_made, in_stretch, in_run, IsWritable, IsStored, IsRested}
+use Rattle.pst_line.specs.Store.{state_of, is_made, in_stretch, IsWritable, IsStored, IsRested}
 use Rattle.pst_line.specs.StoreLaws.{after, one_record}
-use Rattle.pst_line.specs.Undoing.{CanUndo}
 use Rattle.pst_line.specs.Held.{Held, IsHeld, line_in, stored_of}
 use Rattle.pst_line.specs.Entered.{line_with}
 use Rattle.pst_line.proofs.Stores.{cover, allocate_law}
 use Rattle.pst_line.proofs.Entries.{can_undo_made, or_true}
+use Rattle.pst_line.proofs.Roots.{RootsStay, stay_made, have_roots}
 
 -- g as it is seen
 module _ (s : Held) (h : IsHeld s) (at : LinePlace) (wr : IsWritable (stored_of s) at) (ty : TypeNo) (q : Name) (new : IsNewType (state_of (stored_of s)) ty) (fresh : IsFresh (state_of (stored_of s)) q) (room : HasRoom (state_of (stored_of s)))
@@ -86,8 +82,13 @@ module _ (s : Held) (h : IsHeld s) (at : LinePlace) (wr : IsWritable (stored_of 
     empty = λ o. absurd (no o);
     undone = λ b o f. can_undo_made (stored_of s) (line_with s ms) b q ty (reverse s.undo) h.stored o new.above new.below free made nodes.1 lacks nodes.2 (h.undone b o f);
     counted = record { records = omega (arith, room.records); pointer_writes = h.counted.pointer_writes; value_writes = h.counted.value_writes };
+    roots = have_roots s.nodes ms stay 0 s.versions h.roots;
+    root = stay (length s.versions) s.root h.root;
   }
     where
+      stay : RootsStay s.nodes ms
+      stay = stay_made s.shape (is_made s.versions s.opened) s.nodes ms q ty (length s.versions) made
+
       no : s.opened ≡ None → ⊥
       no o = let q : None ≡ Some wr.run.begun = sym o ∙ wr.run.opened in cc
 

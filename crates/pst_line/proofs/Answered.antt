@@ -1,25 +1,22 @@
 -- What a store's reading calls need and answer, and how its runs begin and are published.
-use Rattle.std.proofs.Common.{◌≡◌, ◌≢◌, ℕ, suc, ◌+◌, ◌-◌, ◌<◌, ◌≤◌, ◌++◌, ◌||◌, Bool, true, false, List, [], ◌∷◌, length, reverse, slice_get, Option, Some, None, ℤ, refl, sym, ap, ◌∙◌, subst, ◌⊎◌, inl, inr, ⊎_elim, arith, IsSome, length-append}
+use Rattle.std.proofs.Common.{◌≡◌, ℕ, ◌<◌, Bool, true, List, length, Option, Some, refl, sym, ap, ◌∙◌, subst, arith}
 use Rattle.std.specs.Prelude.{IfSome}
 use Rattle.std.specs.Option.{option_map}
-use Rattle.pst_base.specs.declared.names.Name.{Name}
 use Rattle.pst_base.specs.declared.names.NodeId.{NodeId}
-use Rattle.pst_base.specs.declared.names.RunNo.{RunNo}
 use Rattle.pst_base.specs.declared.names.TypeNo.{TypeNo}
 use Rattle.pst_base.specs.declared.names.Kind.{Kind}
-use Rattle.pst_base.specs.declared.names.Kind.TheVariants.{Int, Pointer}
+use Rattle.pst_base.specs.declared.names.Kind.TheVariants.{Int}
 use Rattle.pst_base.specs.declared.shape.TypeShape.{TypeShape}
-use Rattle.pst_base.specs.Name.{root_name}
 use Rattle.pst_base.specs.Shape.{type_at, field_count}
 use Rattle.pst_base.specs.Heap.{IsPointer, type_in, kind_in, value_in, pointer_in}
 use Rattle.pst_line_nodes.specs.declared.content.Content.{Content}
 use Rattle.pst_line_nodes.specs.declared.content.Content.TheVariants.{Number, Null, Target}
-use Rattle.pst_line_nodes.specs.Line.{Line, Covers, IsLive, IsLine, number, denoted}
+use Rattle.pst_line_nodes.specs.Line.{Covers, IsLine, number, denoted}
 use Rattle.pst_line_nodes.specs.Seen.{Seen}
 use Rattle.pst_line_nodes.specs.Nodes.{line_of, AreKept, AreLinked, HasSlot}
 use Rattle.pst_line_nodes.proofs.NodeLemmas.{of_node-at}
 use Rattle.pst_line.specs.declared.place.LinePlace.{LinePlace}
-use Rattle.pst_line.specs.Store.{Stored, state_of, stamp, is_made, IsPlace, IsStored}
+use Rattle.pst_line.specs.Store.{state_of, is_made}
 use Rattle.pst_line.specs.Held.{Held, IsHeld, line_in, stored_of, target}
 use Rattle.pst_line.proofs.Stores.{cover}
 use Rattle.pst_line.proofs.Reading.{number_there, pointer_there, field_there, target_there, type_there, pointer_at_field}
@@ -41,12 +38,6 @@ slot_there shape t made nodes x f k l n e =
 module _ (s g : Held) (e : s ≡ g) (h : IsHeld s) where
   pub seen_held : IsHeld g
   seen_held = subst IsHeld e h
-
-  pub root_is : (state_of (stored_of g)).name (record { 0 = 0 }) ≡ root_name
-  root_is = (subst IsHeld e h).stored.line.root.3
-
-  pub root_lives : (at : LinePlace) → (state_of (stored_of g)).has at → (state_of (stored_of g)).live at (record { 0 = 0 })
-  root_lives at p = let r = (subst IsHeld e h).stored.line.root in (p, record { there = r.0; made = r.5; begun = omega (arith, r.2) })
 
   pub all_linked : AreLinked (line_of (λ i. true) s.nodes)
   all_linked = linked s.shape (length s.versions) (is_made s.versions s.opened) s.nodes h.stored.line

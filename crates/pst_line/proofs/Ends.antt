@@ -1,6 +1,5 @@
 -- How a write ends that was entered.
-use Rattle.std.proofs.Common.{◌≡◌, ◌≢◌, ℕ, ◌+◌, ◌<◌, ◌≤◌, ◌++◌, Bool, true, false, List, [], ◌∷◌, length, Option, Some, None, IsSome, ℤ, refl, sym, ap, ◌∙◌, subst, arith}
-use Rattle.pst_base.specs.declared.names.Counts.{Counts}
+use Rattle.std.proofs.Common.{◌≡◌, ℕ, ◌<◌, ◌++◌, Bool, true, false, List, [], ◌∷◌, length, Some, None, IsSome, ℤ, refl, sym, ap, ◌∙◌, subst, arith}
 use Rattle.pst_base.specs.declared.names.NodeId.{NodeId}
 use Rattle.pst_base.specs.declared.names.Kind.{Kind}
 use Rattle.pst_base.specs.declared.names.Kind.TheVariants.{Int, Pointer}
@@ -9,24 +8,25 @@ use Rattle.pst_base.specs.Shape.{type_at, field_kind, field_count}
 use Rattle.pst_base.specs.Heap.{IsPointer, kind_in}
 use Rattle.pst_places.specs.State.{HasRoom, Unchanged, WritesStay, ValueStored, PointerStored}
 use Rattle.pst_line_nodes.specs.declared.content.Content.TheVariants.{Number}
-use Rattle.pst_line_nodes.specs.Line.{Line, IsNewest, IsLine, heap_at}
+use Rattle.pst_line_nodes.specs.Line.{IsNewest, IsLine, heap_at}
 use Rattle.pst_line_nodes.specs.Seen.{Seen}
 use Rattle.pst_line_nodes.specs.Nodes.{line_of, AreKept, HasSlot, IsFieldSet}
-use Rattle.pst_line_nodes.specs.Carried.{IsFieldNulled, IsFieldPointed}
+use Rattle.pst_line_nodes.specs.Carried.{IsFieldNulled}
 use Rattle.pst_line_nodes.proofs.Same.{pointer_field}
 use Rattle.pst_line.specs.declared.place.LinePlace.{LinePlace}
-use Rattle.pst_line.specs.Store.{Stored, state_of, is_made, IsWritable}
+use Rattle.pst_line.specs.Store.{state_of, is_made, IsWritable}
 use Rattle.pst_line.specs.StoreLaws.{one_value, one_pointer}
 use Rattle.pst_line.specs.Held.{Held, IsHeld, line_in, stored_of}
-use Rattle.pst_line.specs.Entered.{line_with, entry_at, HasMadeRoom, HasEntered}
+use Rattle.pst_line.specs.Entered.{line_with, entry_at, HasEntered}
 use Rattle.pst_line.proofs.Entries.{value_below}
 use Rattle.pst_line.proofs.PutBack.{pointer_kind}
 use Rattle.pst_line.proofs.Answered.{slot_there}
 use Rattle.pst_line.proofs.Writing.{failed_unchanged}
 use Rattle.pst_line.proofs.Entering.{newest_all}
+use Rattle.pst_line.proofs.Roots.{stay_same, root_anew}
 use Rattle.pst_line.proofs.Fields.{field_of, number_held, number_done, null_held, null_done}
 
-kind_below : (t : TypeShape) (f : ℕ) (k : Kind) → field_kind t f ≡ Some k → f < field_count t
+pub kind_below : (t : TypeShape) (f : ℕ) (k : Kind) → field_kind t f ≡ Some k → f < field_count t
 kind_below t f Int e = let v = value_below t f e in omega (arith, v)
 kind_below t f (Pointer ty) e = (pointer_field t f ty e).1
 
@@ -42,9 +42,9 @@ at_stamp_pointer g at wr r f e = let p = pointer_kind (kind_in g.shape ((state_o
 -- g is the store before, and k that after the write was entered
 module _ (k n g : Held) (e : k ≡ n) (h : IsHeld g) (at : LinePlace) (wr : IsWritable (stored_of g) at) (r : NodeId) (f : ℕ) (live : (state_of (stored_of g)).live at r) (room : HasRoom (state_of (stored_of g))) (x : ℕ) (en : HasEntered g n r.0 f x) (t : ℕ) (t_is : t ≡ length g.versions) where
   abbrev entered_as : Held
-  entered_as = record g { nodes = en.nodes; undo = g.undo ++ entry_at g en.nodes x f ∷ []; failed = true }
+  entered_as = record g { nodes = en.nodes; undo = g.undo ++ entry_at g en.nodes x f ∷ []; failed = true; root = en.root }
 
-  path : k ≡ record g { nodes = en.nodes; undo = g.undo ++ entry_at g en.nodes x f ∷ []; failed = true }
+  path : k ≡ record g { nodes = en.nodes; undo = g.undo ++ entry_at g en.nodes x f ∷ []; failed = true; root = en.root }
   path = e ∙ en.is
 
   nodes_are : k.nodes ≡ en.nodes
@@ -91,7 +91,8 @@ module _ (k n g : Held) (e : k ≡ n) (h : IsHeld g) (at : LinePlace) (wr : IsWr
       set_end = subst (λ (t : ℕ). IsFieldSet (line_with g en.nodes) (line_with g ms) x f t (Number v)) t_is (subst (λ (ns : List Seen). IsFieldSet (line_with g ns) (line_with g ms) x f t (Number v)) nodes_are (d (is_made g.versions g.opened)))
 
       pub number_end : IsHeld (record k { nodes = ms; failed = false; counts = one_value k.counts })
-      number_end = subst (λ (k : Held). IsHeld (record k { nodes = ms; failed = false; counts = one_value k.counts })) (sym path) (number_held g h at wr r f live room en.nodes x en.room v ms kind set_end kept_end)
+      number_end = subst (λ (k : Held). IsHeld (record k { nodes = ms; failed = false; counts = one_value k.counts })) (sym path)
+          (root_anew _ (number_held g h at wr r f live room en.nodes x en.room v ms kind set_end kept_end) en.root (stay_same (is_made g.versions g.opened) en.nodes ms set_end.set.nodes (length g.versions) en.root en.rooted))
 
       pub number_ends : ValueStored (state_of (stored_of g)) at ((line_in g).name r.0) f v (state_of (stored_of (record k { nodes = ms; failed = false; counts = one_value k.counts })))
           × WritesStay (state_of (stored_of g)) (state_of (stored_of (record k { nodes = ms; failed = false; counts = one_value k.counts })))
@@ -105,7 +106,8 @@ module _ (k n g : Held) (e : k ≡ n) (h : IsHeld g) (at : LinePlace) (wr : IsWr
       nulled_end = subst (λ (t : ℕ). IsFieldNulled (line_with g en.nodes) (line_with g ms) x f t) t_is (subst (λ (ns : List Seen). IsFieldNulled (line_with g ns) (line_with g ms) x f t) nodes_are (d (is_made g.versions g.opened)))
 
       pub null_end : IsHeld (record k { nodes = ms; failed = false; counts = one_pointer k.counts })
-      null_end = subst (λ (k : Held). IsHeld (record k { nodes = ms; failed = false; counts = one_pointer k.counts })) (sym path) (null_held g h at wr r f live room en.nodes x en.room ms kind nulled_end kept_end)
+      null_end = subst (λ (k : Held). IsHeld (record k { nodes = ms; failed = false; counts = one_pointer k.counts })) (sym path)
+          (root_anew _ (null_held g h at wr r f live room en.nodes x en.room ms kind nulled_end kept_end) en.root (stay_same (is_made g.versions g.opened) en.nodes ms nulled_end.nulled.set.nodes (length g.versions) en.root en.rooted))
 
       pub null_ends : PointerStored (state_of (stored_of g)) at ((line_in g).name r.0) f None (state_of (stored_of (record k { nodes = ms; failed = false; counts = one_pointer k.counts })))
           × WritesStay (state_of (stored_of g)) (state_of (stored_of (record k { nodes = ms; failed = false; counts = one_pointer k.counts })))

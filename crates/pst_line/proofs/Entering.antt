@@ -1,28 +1,25 @@
 -- A write makes room and is entered.
-use Rattle.std.proofs.Common.{◌≡◌, ◌≢◌, ℕ, ◌+◌, ◌<◌, ◌≤◌, ◌++◌, Bool, true, false, List, [], ◌∷◌, length, Option, Some, None, IsSome, refl, sym, ap, ◌∙◌, subst, ◌⊎◌, inl, inr, arith}
-use Rattle.std.proofs.lemmas.Bool.{false≢true}
-use Rattle.pst_base.specs.declared.names.NodeId.{NodeId}
+use Rattle.std.proofs.Common.{◌≡◌, ℕ, ◌<◌, ◌++◌, Bool, true, false, List, [], ◌∷◌, length, Some, IsSome, sym, ap, ◌∙◌, subst, ◌⊎◌, arith}
 use Rattle.pst_base.specs.declared.names.TypeNo.{TypeNo}
 use Rattle.pst_base.specs.declared.names.Kind.{Kind}
-use Rattle.pst_base.specs.declared.shape.TypeShape.{TypeShape}
 use Rattle.pst_base.specs.Shape.{type_at, field_count}
 use Rattle.pst_base.specs.Heap.{kind_in}
 use Rattle.pst_places.specs.State.{Unchanged}
 use Rattle.pst_line_nodes.specs.declared.content.Content.{Content}
-use Rattle.pst_line_nodes.specs.Line.{Line, Covers, IsNewest, IsLine, IsQuiet, most}
+use Rattle.pst_line_nodes.specs.Line.{Covers, IsNewest, IsLine, IsQuiet, most}
 use Rattle.pst_line_nodes.specs.Seen.{Seen}
-use Rattle.pst_line_nodes.specs.Nodes.{line_of, AreKept, HasSlot}
+use Rattle.pst_line_nodes.specs.Nodes.{line_of, AreKept, AreLinked, HasSlot}
 use Rattle.pst_line_nodes.specs.Carried.{IsCarried, HasRoomFor}
 use Rattle.pst_line_nodes.proofs.Copy.{covers_last, last_covers}
-use Rattle.pst_line.specs.declared.place.LinePlace.{LinePlace}
 use Rattle.pst_line.specs.declared.place.Undo.{Undo}
-use Rattle.pst_line.specs.Store.{Stored, state_of, is_made}
-use Rattle.pst_line.specs.Held.{Held, IsHeld, line_in, stored_of}
-use Rattle.pst_line.specs.Entered.{line_with, entry_at, HasMadeRoom, HasEntered}
+use Rattle.pst_line.specs.Store.{state_of, is_made}
+use Rattle.pst_line.specs.Held.{Held, IsHeld, IsRootAt, line_in, stored_of}
+use Rattle.pst_line.specs.Entered.{line_with, HasMadeRoom, HasEntered}
 use Rattle.pst_line.proofs.Stores.{cover}
 use Rattle.pst_line.proofs.Reading.{field_there}
-use Rattle.pst_line.proofs.Answered.{covers_all, slot_there}
+use Rattle.pst_line.proofs.Answered.{covers_all, linked, slot_there}
 use Rattle.pst_line.proofs.Writing.{failed_held, failed_unchanged}
+use Rattle.pst_line.proofs.Roots.{stay_carried, root_covers, root_anew}
 
 -- newest nodes and quiet lines are so whichever records are made
 pub newest_all : (m k : ℕ → Bool) (nodes : List Seen) (x : ℕ) → IsNewest (line_of m nodes) x → IsNewest (line_of k nodes) x
@@ -62,6 +59,20 @@ module _ (s g : Held) (e : s ≡ g) (h : IsHeld s) (t : ℕ) (t_is : t ≡ lengt
 
     pub enter_failed : (us : List Undo) → IsHeld (record s { nodes = ns; undo = us; failed = true })
     enter_failed us = failed_held s h ns carried_s kept_s some_s us
+
+    -- the root's node is found anew
+    pub root_entered : IsRootAt ns t s.root
+    root_entered = subst (λ (t : ℕ). IsRootAt ns t s.root) (sym stamp_is) (stay_carried (is_made s.versions s.opened) s.nodes ns (length s.versions) carried_s.went.nodes (length s.versions) s.root h.root)
+
+    pub linked_entered : AreLinked (line_of (λ i. true) ns)
+    linked_entered = linked s.shape (length s.versions) (is_made s.versions s.opened) ns carried_s.line
+
+    module _ (y : ℕ) (cy : Covers (line_of (λ i. true) ns) y t) (hy : (line_of (λ i. true) ns).home y ≡ (line_of (λ i. true) ns).home s.root.0) where
+      pub root_found : IsRootAt ns (length s.versions) (record { 0 = y })
+      root_found = subst (λ (t : ℕ). IsRootAt ns t (record { 0 = y })) stamp_is (root_covers ns t s.root y root_entered cy hy)
+
+      pub found_failed : (us : List Undo) → IsHeld (record s { nodes = ns; undo = us; failed = true; root = record { 0 = y } })
+      found_failed us = root_anew (record s { nodes = ns; undo = us; failed = true }) (enter_failed us) (record { 0 = y }) root_found
 
     pub enter_unchanged : (us : List Undo) → Unchanged (state_of (stored_of g)) (state_of (stored_of (record s { nodes = ns; undo = us; failed = true })))
     enter_unchanged us = subst (λ (g : Held). Unchanged (state_of (stored_of g)) (state_of (stored_of (record s { nodes = ns; undo = us; failed = true })))) e (failed_unchanged s h ns carried_s us)
@@ -105,10 +116,12 @@ module _ (s g : Held) (e : s ≡ g) (h : IsHeld s) (t : ℕ) (t_is : t ≡ lengt
           let same : (line_with s ns).ty x ≡ (line_in s).ty n.node = (carried_s.line.chained.same x r x_covers.there there_r home_x).1 ∙ carried_s.went.nodes.ty r live_s.1.there ∙ sym n.ty in
           slot_there s.shape (length s.versions) (is_made s.versions s.opened) ns x f kept_s (let q : field_count (type_at s.shape ((line_with s ns).ty x)) ≡ field_count (type_at s.shape ((line_in s).ty n.node)) = ap (λ (u : TypeNo). field_count (type_at s.shape u)) same in omega (arith, q, below))
 
-      pub entered : (us : List Undo) (content : Content) → content ≡ (line_of (λ i. true) ns).holds x f t → us ≡ s.undo ++ record { node = record { 0 = x }; slot = f; content = content } ∷ []
-          → HasEntered g (record s { nodes = ns; undo = us; failed = true }) r f x
-      entered us content is all = subst (λ (g : Held). HasEntered g (record s { nodes = ns; undo = us; failed = true }) r f x) e (record {
+      pub entered : (y : ℕ) → Covers (line_of (λ i. true) ns) y t → (line_of (λ i. true) ns).home y ≡ (line_of (λ i. true) ns).home s.root.0 → (us : List Undo) (content : Content) → content ≡ (line_of (λ i. true) ns).holds x f t → us ≡ s.undo ++ record { node = record { 0 = x }; slot = f; content = content } ∷ []
+          → HasEntered g (record s { nodes = ns; undo = us; failed = true; root = record { 0 = y } }) r f x
+      entered y cy hy us content is all = subst (λ (g : Held). HasEntered g (record s { nodes = ns; undo = us; failed = true; root = record { 0 = y } }) r f x) e (record {
         nodes = ns;
         room = made_room;
-        is = ap (λ (us : List Undo). record s { nodes = ns; undo = us; failed = true }) (all ∙ ap (λ (c : Content). s.undo ++ record { node = record { 0 = x }; slot = f; content = c } ∷ []) (is ∙ ap ((line_with s ns).holds x f) stamp_is));
+        root = record { 0 = y };
+        rooted = root_found y cy hy;
+        is = ap (λ (us : List Undo). record s { nodes = ns; undo = us; failed = true; root = record { 0 = y } }) (all ∙ ap (λ (c : Content). s.undo ++ record { node = record { 0 = x }; slot = f; content = c } ∷ []) (is ∙ ap ((line_with s ns).holds x f) stamp_is));
       })

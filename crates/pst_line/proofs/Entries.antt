@@ -1,34 +1,33 @@
 -- What a write enters, and that a run that has begun or made a record can be undone.
-use Rattle.std.proofs.Common.{◌≡◌, ◌≢◌, ℕ, zero, suc, ◌+◌, ◌-◌, ◌<◌, ◌≤◌, ◌||◌, Bool, true, false, cond, List, [], ◌∷◌, length, map, get_or, Option, Some, None, ℤ, pos, refl, sym, ap, ◌∙◌, subst, ◌⊎◌, inl, inr, ⊎_elim, arith, ltb}
-use Rattle.std.proofs.lemmas.Bool.{cases_lt, cases_eq, cases_Bool, lt-ltb, ltb-true, le-leb}
-use Rattle.std.specs.Prelude.{All, nat_lt, slice_get, nat_eq}
+use Rattle.std.proofs.Common.{◌≡◌, ◌≢◌, ℕ, suc, ◌+◌, ◌-◌, ◌<◌, ◌≤◌, ◌||◌, Bool, true, false, cond, List, [], ◌∷◌, length, map, get_or, Option, Some, None, ℤ, pos, refl, sym, ap, ◌∙◌, subst, ◌⊎◌, inl, inr, ⊎_elim, arith}
+use Rattle.std.proofs.lemmas.Bool.{cases_lt, cases_Bool, lt-ltb, ltb-true, le-leb}
+use Rattle.std.specs.Prelude.{All, nat_lt, slice_get}
 use Rattle.std.specs.Option.{option_map}
 use Rattle.std.specs.FinMap.{get}
 use Rattle.pst_base.specs.declared.names.Name.{Name}
 use Rattle.pst_base.specs.declared.names.TypeNo.{TypeNo}
-use Rattle.pst_base.specs.declared.names.Counts.{Counts}
 use Rattle.pst_base.specs.declared.names.Kind.{Kind}
 use Rattle.pst_base.specs.declared.names.Kind.TheVariants.{Int, Pointer}
 use Rattle.pst_base.specs.declared.shape.TypeShape.{TypeShape}
 use Rattle.pst_base.specs.Name.{name_eq}
 use Rattle.pst_base.specs.Shape.{type_at, field_kind}
-use Rattle.pst_base.specs.Heap.{Rec, Heap, IsWellFormed, IsPointer, IsValueSlot, IsPointerSlot, with_value, with_pointer, with_record, new_record, value_at, pointer_at}
+use Rattle.pst_base.specs.Heap.{Rec, Heap, IsPointer, IsPointerSlot, with_value, with_pointer, with_record, new_record, value_at, pointer_at}
 use Rattle.pst_base.proofs.NameLemmas.{name_eq-true, name_eq-same}
 use Rattle.pst_base.proofs.Degrees.{get-with_record}
 use Rattle.pst_line_nodes.specs.declared.content.Content.{Content}
 use Rattle.pst_line_nodes.specs.declared.content.Content.TheVariants.{Number, Null, Target}
-use Rattle.pst_line_nodes.specs.Line.{Line, Covers, IsIn, IsNewest, IsLive, IsLine, HasKind, denoted, number, heap_at, record_at}
+use Rattle.pst_line_nodes.specs.Line.{Line, IsIn, denoted, number, heap_at, record_at}
 use Rattle.pst_line_nodes.specs.Changes.{IsMade, VersionsStay}
 use Rattle.pst_line_nodes.proofs.HeapLaws.{heap_has}
 use Rattle.pst_line_nodes.proofs.RecordLaws.{get_or-listed, length-listed}
 use Rattle.pst_line_nodes.proofs.Same.{pointer_field}
-use Rattle.pst_line_nodes.proofs.Copy.{covers_last, last_covers}
+use Rattle.pst_line_nodes.proofs.Copy.{covers_last}
 use Rattle.pst_line.specs.declared.place.Undo.{Undo}
 use Rattle.pst_line.specs.Store.{Stored, stamp, is_made, in_stretch, IsStored, IsClosed}
 use Rattle.pst_line.specs.StoreLaws.{after, one_record}
-use Rattle.pst_line.specs.Undo.{Mark, put_back, LeadsBack, AreOthers}
-use Rattle.pst_line_nodes.specs.Carried.{IsSince, NodesStay}
-use Rattle.pst_line.specs.Undoing.{mark_of, Fits, IsEntered, IsBase, CanUndo}
+use Rattle.pst_line.specs.Undo.{put_back, LeadsBack, AreOthers}
+use Rattle.pst_line_nodes.specs.Carried.{NodesStay}
+use Rattle.pst_line.specs.Undoing.{mark_of, Fits, IsEntered, CanUndo}
 use Rattle.pst_line.proofs.Undos.{leads-same, names_after, entered_after}
 use Rattle.pst_line.proofs.Undo.{value_back_law, pointer_back_law, record_back_law}
 

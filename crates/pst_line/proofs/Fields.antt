@@ -1,28 +1,24 @@
 -- What the writes of a number, of null and of a pointer do, once there is room.
-use Rattle.std.proofs.Common.{◌≡◌, ◌≢◌, ℕ, zero, suc, ◌+◌, ◌-◌, ◌<◌, ◌≤◌, ◌++◌, ◌^◌, Bool, true, false, List, [], ◌∷◌, length, reverse, Option, Some, None, IsSome, ℤ, refl, sym, ap, ◌∙◌, subst, ◌⊎◌, inl, inr, ⊎_elim, arith}
-use Rattle.std.specs.Option.{option_map}
-use Rattle.pst_base.specs.declared.names.Counts.{Counts}
+use Rattle.std.proofs.Common.{◌≡◌, ℕ, ◌<◌, ◌++◌, Bool, false, List, [], ◌∷◌, length, Some, None, ℤ, refl, sym, ap, ◌∙◌, subst, inr, arith}
 use Rattle.pst_base.specs.declared.names.Name.{Name}
 use Rattle.pst_base.specs.declared.names.NodeId.{NodeId}
 use Rattle.pst_base.specs.declared.names.TypeNo.{TypeNo}
-use Rattle.pst_base.specs.declared.names.Kind.{Kind}
 use Rattle.pst_base.specs.declared.names.Kind.TheVariants.{Int, Pointer}
-use Rattle.pst_base.specs.declared.shape.TypeShape.{TypeShape}
 use Rattle.pst_base.specs.Shape.{type_at, field_kind}
 use Rattle.pst_base.specs.Heap.{Heap, IsPointer, IsFull, kind_in, kind_from, with_value, with_pointer}
-use Rattle.pst_places.specs.State.{State, HasRoom, Unchanged, WritesStay, ValueStored, PointerStored}
+use Rattle.pst_places.specs.State.{HasRoom, WritesStay, ValueStored, PointerStored}
 use Rattle.pst_places.proofs.StateLemmas.{WritesStay_trans}
 use Rattle.pst_line_nodes.specs.declared.content.Content.{Content}
 use Rattle.pst_line_nodes.specs.declared.content.Content.TheVariants.{Number, Null, Target}
-use Rattle.pst_line_nodes.specs.Line.{Line, Covers, IsIn, IsNewest, IsLive, IsLine, heap_at, denoted}
+use Rattle.pst_line_nodes.specs.Line.{IsLive, IsLine, heap_at, denoted}
 use Rattle.pst_line_nodes.specs.Changes.{IsNumberSet, VersionsStay}
 use Rattle.pst_line_nodes.specs.Seen.{Seen}
-use Rattle.pst_line_nodes.specs.Nodes.{line_of, AreKept, IsFieldSet}
+use Rattle.pst_line_nodes.specs.Nodes.{AreKept, IsFieldSet}
 use Rattle.pst_line_nodes.specs.Carried.{IsFieldNulled, IsFieldPointed}
 use Rattle.pst_line_nodes.proofs.RecordLaws.{denoted-names}
 use Rattle.pst_line_nodes.proofs.Writes.{number_law, null_law, point_law}
 use Rattle.pst_line.specs.declared.place.LinePlace.{LinePlace}
-use Rattle.pst_line.specs.Store.{Stored, state_of, stamp, IsPlace, IsRun, IsWritable, IsStored}
+use Rattle.pst_line.specs.Store.{Stored, state_of, IsWritable, IsStored}
 use Rattle.pst_line.specs.StoreLaws.{after, one_value, one_pointer}
 use Rattle.pst_line.specs.Undo.{put_back}
 use Rattle.pst_line.specs.Undoing.{IsNewestOf}

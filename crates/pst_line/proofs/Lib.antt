@@ -7,6 +7,7 @@ pub mod PutBack
 pub mod Reading
 pub mod Starting
 pub mod Answered
+pub mod Roots
 pub mod Running
 pub mod Writing
 pub mod Fields
@@ -14,3 +15,7 @@ pub mod Entering
 pub mod Ends
 pub mod Adding
 pub mod Linking
+pub mod Back
+pub mod Starts
+pub mod Wholes
+pub mod Trying

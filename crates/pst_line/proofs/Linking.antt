@@ -1,33 +1,32 @@
 -- Room for a pointer, and that one is written.
-use Rattle.std.proofs.Common.{◌≡◌, ◌≢◌, ℕ, ◌+◌, ◌<◌, ◌≤◌, ◌++◌, Bool, true, false, List, [], ◌∷◌, length, Option, Some, None, IsSome, is_some, IsTrue, refl, sym, ap, ◌∙◌, subst, arith}
+use Rattle.std.proofs.Common.{◌≡◌, ℕ, ◌<◌, ◌++◌, Bool, true, false, List, [], ◌∷◌, length, Option, Some, None, IsSome, is_some, IsTrue, refl, sym, ap, ◌∙◌, subst}
 use Rattle.std.proofs.lemmas.Bool.{false≢true}
 use Rattle.std.specs.Prelude.{IfSome, IfNone, ◌↔◌}
 use Rattle.std.specs.Option.{option_map}
 use Rattle.pst_base.specs.declared.names.NodeId.{NodeId}
-use Rattle.pst_base.specs.declared.names.Name.{Name}
 use Rattle.pst_base.specs.declared.names.TypeNo.{TypeNo}
-use Rattle.pst_base.specs.declared.names.Kind.{Kind}
-use Rattle.pst_base.specs.declared.names.Kind.TheVariants.{Int, Pointer}
+use Rattle.pst_base.specs.declared.names.Kind.TheVariants.{Pointer}
 use Rattle.pst_base.specs.declared.shape.TypeShape.{TypeShape}
 use Rattle.pst_base.specs.Shape.{type_at, field_kind}
-use Rattle.pst_base.specs.Heap.{Heap, IsFull, IsPointer, kind_in}
-use Rattle.pst_places.specs.State.{HasRoom, Unchanged, WritesStay, PointerStored}
+use Rattle.pst_base.specs.Heap.{IsFull, kind_in}
+use Rattle.pst_places.specs.State.{WritesStay, PointerStored}
 use Rattle.pst_places.specs.Store.{MayStorePointer}
-use Rattle.pst_line_nodes.specs.Line.{Line, Covers, IsIn, IsNewest, IsLine, heap_at}
+use Rattle.pst_line_nodes.specs.Line.{Covers, IsIn, IsNewest, IsLine, heap_at}
 use Rattle.pst_line_nodes.specs.Full.{is_other_entry}
 use Rattle.pst_line_nodes.specs.Seen.{Seen}
-use Rattle.pst_line_nodes.specs.Nodes.{line_of, AreKept, HasSlot}
+use Rattle.pst_line_nodes.specs.Nodes.{line_of, AreKept}
 use Rattle.pst_line_nodes.specs.Carried.{IsOpenSlot, AreAllOthers, IsFieldPointed}
 use Rattle.pst_line_nodes.proofs.Copy.{covers_last}
 use Rattle.pst_line_nodes.proofs.Degree.{full_law}
 use Rattle.pst_line.specs.declared.place.LinePlace.{LinePlace}
-use Rattle.pst_line.specs.Store.{Stored, state_of, is_made, IsWritable}
+use Rattle.pst_line.specs.Store.{state_of, is_made}
 use Rattle.pst_line.specs.StoreLaws.{one_pointer}
 use Rattle.pst_line.specs.Undoing.{IsNewestOf}
 use Rattle.pst_line.specs.Held.{Held, IsHeld, line_in, stored_of}
-use Rattle.pst_line.specs.Entered.{line_with, entry_at, HasMadeRoom, HasEntered, HasNoRoom, IsLinked}
-use Rattle.pst_line.proofs.Reading.{in_place, kind_there}
+use Rattle.pst_line.specs.Entered.{line_with, entry_at, HasEntered, HasNoRoom, IsLinked}
+use Rattle.pst_line.proofs.Reading.{kind_there}
 use Rattle.pst_line.proofs.Answered.{covers_all, type_of_ref}
+use Rattle.pst_line.proofs.Roots.{stay_same, root_anew}
 use Rattle.pst_line.proofs.Fields.{still_roomy, target_field, target_held, target_done}
 
 -- what a pointer write may be asked for: the field's kind is that of a pointer to the target's type
@@ -74,7 +73,7 @@ module _ (s : Held) (h : IsHeld s) (at : LinePlace) (r : NodeId) (f : ℕ) (q : 
 -- g is the store before, and k that after the write was entered
 module _ (k n g : Held) (e : k ≡ n) (h : IsHeld g) (at : LinePlace) (r : NodeId) (f : ℕ) (q : NodeId) (may : MayStorePointer (state_of (stored_of g)) at r f (Some q)) (roomy : ¬ (HasNoRoom g at r f q)) (x : ℕ) (en : HasEntered g n r.0 f x)
     (t : ℕ) (t_is : t ≡ length g.versions) (z : ℕ) (cz : Covers (line_of (λ i. true) k.nodes) z t) (hz : (line_of (λ i. true) k.nodes).home z ≡ (line_of (λ i. true) k.nodes).home q.0) where
-  path : k ≡ record g { nodes = en.nodes; undo = g.undo ++ entry_at g en.nodes x f ∷ []; failed = true }
+  path : k ≡ record g { nodes = en.nodes; undo = g.undo ++ entry_at g en.nodes x f ∷ []; failed = true; root = en.root }
   path = e ∙ en.is
 
   nodes_are : k.nodes ≡ en.nodes
@@ -131,7 +130,8 @@ module _ (k n g : Held) (e : k ≡ n) (h : IsHeld g) (at : LinePlace) (r : NodeI
 
     pub target_end : IsHeld (record k { nodes = ms; failed = false; counts = one_pointer k.counts })
     target_end = subst (λ (k : Held). IsHeld (record k { nodes = ms; failed = false; counts = one_pointer k.counts })) (sym path)
-        (target_held g h at may.writable r f may.live may.room en.nodes x en.room q may.target_live (kind_of g h at r f q may) roomy z u newest_z ms below_u d_m kept_m)
+        (root_anew _ (target_held g h at may.writable r f may.live may.room en.nodes x en.room q may.target_live (kind_of g h at r f q may) roomy z u newest_z ms below_u d_m kept_m) en.root
+        (stay_same (is_made g.versions g.opened) en.nodes ms d_m.pointed.set.nodes (length g.versions) en.root en.rooted))
 
     pub target_ends : IsLinked g at r f q (record k { nodes = ms; failed = false; counts = one_pointer k.counts })
     target_ends = let l = subst (λ (k : Held). PointerStored (state_of (stored_of g)) at ((line_in g).name r.0) f (Some ((line_in g).name q.0)) (state_of (stored_of (record k { nodes = ms; failed = false; counts = one_pointer k.counts }))) × WritesStay (state_of (stored_of g)) (state_of (stored_of (record k { nodes = ms; failed = false; counts = one_pointer k.counts })))) (sym path)

@@ -1,5 +1,5 @@
 -- A write that is undone.
-use Rattle.std.proofs.Common.{◌≡◌, ◌≢◌, ℕ, zero, suc, ◌+◌, ◌-◌, ◌<◌, ◌≤◌, List, ◌∷◌, length, Option, Some, None, ℤ, refl, sym, ap, ◌∙◌, subst, ◌⊎◌, inl, inr, ⊎_elim, arith}
+use Rattle.std.proofs.Common.{◌≡◌, ℕ, ◌+◌, ◌<◌, ◌≤◌, List, ◌∷◌, Option, Some, None, ℤ, refl, sym, ap, ◌∙◌, subst, inl, inr, ⊎_elim, arith}
 use Rattle.std.proofs.lemmas.Bool.{cases_eq}
 use Rattle.std.specs.FinMap.{get}
 use Rattle.std.specs.Option.{option_map}
@@ -9,19 +9,18 @@ use Rattle.pst_base.specs.declared.names.Kind.{Kind}
 use Rattle.pst_base.specs.declared.names.Kind.TheVariants.{Int, Pointer}
 use Rattle.pst_base.specs.declared.shape.TypeShape.{TypeShape}
 use Rattle.pst_base.specs.Shape.{type_at, field_kind}
-use Rattle.pst_base.specs.Heap.{Rec, Heap, IsWellFormed, IsPointer, IsPointerSlot, IsFull, with_value, with_pointer, type_in, limit_from, pointer_at, holding, in_degree}
+use Rattle.pst_base.specs.Heap.{Rec, Heap, IsWellFormed, IsPointer, IsPointerSlot, IsFull, with_value, with_pointer, type_in, limit_from}
 use Rattle.pst_base.proofs.Degrees.{holding-same, in_degree-with_pointer, in_degree_apart-is}
 use Rattle.pst_base.proofs.WellFormed.{type_in-with_pointer}
 use Rattle.pst_line_nodes.specs.declared.content.Content.{Content}
 use Rattle.pst_line_nodes.specs.declared.content.Content.TheVariants.{Number, Null, Target}
-use Rattle.pst_line_nodes.specs.Line.{Line, IsIn, IsNewest, IsLive, IsLine, IsQuiet, heap_at, record_at, most, load}
-use Rattle.pst_line_nodes.specs.Changes.{HasSameNodes, IsSet, IsNumberSet, IsNulled, IsPointed, VersionsStay}
+use Rattle.pst_line_nodes.specs.Line.{Line, IsLive, IsLine, IsQuiet, heap_at, record_at, most, load}
+use Rattle.pst_line_nodes.specs.Changes.{IsSet, IsNumberSet, IsNulled, VersionsStay}
 use Rattle.pst_line_nodes.proofs.HeapLaws.{heap_has}
 use Rattle.pst_line_nodes.proofs.Same.{same_field}
 use Rattle.pst_line_nodes.proofs.Writes.{number_law, null_law, point_law}
 use Rattle.pst_line.specs.declared.place.Undo.{Undo}
-use Rattle.pst_line.specs.Store.{Stored, stamp, IsStored, IsRested, bound}
-use Rattle.pst_line.specs.StoreLaws.{after}
+use Rattle.pst_line.specs.Store.{Stored, stamp, IsStored, IsRested}
 use Rattle.pst_line.specs.Undo.{put_back}
 use Rattle.pst_line.specs.Undoing.{CanUndo, Fits, IsNewestOf, IsPointedBack, IsPut, IsUndone, PutBackLaw, RoomLaw}
 use Rattle.pst_line.proofs.Stores.{same_after}

@@ -1,15 +1,14 @@
 -- What a reference and its fields are at a place.
-use Rattle.std.proofs.Common.{◌≡◌, ◌≢◌, ℕ, suc, ◌+◌, ◌-◌, ◌<◌, ◌≤◌, true, cond, List, length, get_or, Option, Some, None, pos, refl, sym, ap, ◌∙◌, subst, ◌⊎◌, inl, inr, ⊎_elim, arith}
+use Rattle.std.proofs.Common.{◌≡◌, ℕ, ◌+◌, ◌-◌, ◌<◌, ◌≤◌, length, get_or, Some, None, pos, sym, ap, ◌∙◌, subst, ⊎_elim, arith}
 use Rattle.std.proofs.lemmas.Bool.{cases_lt}
 use Rattle.std.specs.Option.{option_map}
 use Rattle.std.specs.FinMap.{get}
-use Rattle.pst_base.specs.declared.names.TypeNo.{TypeNo}
 use Rattle.pst_base.specs.declared.names.Kind.{Kind}
 use Rattle.pst_base.specs.declared.names.Kind.TheVariants.{Int, Pointer}
 use Rattle.pst_base.specs.Shape.{type_at, field_kind, field_count}
 use Rattle.pst_base.specs.Heap.{Rec, IsPointer, type_in, kind_in, kind_from, value_in, value_from, pointer_in, pointer_from}
 use Rattle.pst_line_nodes.specs.declared.content.Content.TheVariants.{Target}
-use Rattle.pst_line_nodes.specs.Line.{Line, Covers, IsIn, IsLive, heap_at, record_at, number, denoted}
+use Rattle.pst_line_nodes.specs.Line.{Covers, IsIn, IsLive, heap_at, record_at, number, denoted}
 use Rattle.pst_line_nodes.proofs.HeapLaws.{heap_has}
 use Rattle.pst_line_nodes.proofs.RecordLaws.{get_or-listed, length-listed}
 use Rattle.pst_line_nodes.proofs.Same.{pointer_field}

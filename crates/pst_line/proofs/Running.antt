@@ -1,20 +1,22 @@
 -- A run begins, and one is published.
-use Rattle.std.proofs.Common.{◌≡◌, ◌≢◌, ℕ, zero, suc, ◌+◌, ◌-◌, ◌<◌, ◌≤◌, ◌++◌, ◌||◌, Bool, true, false, List, [], ◌∷◌, length, reverse, slice_get, Option, Some, None, IsSome, refl, sym, ap, ◌∙◌, subst, ⊎_elim, arith, unwrap_or, length-append}
+use Rattle.std.proofs.Common.{◌≡◌, ℕ, zero, suc, ◌+◌, ◌<◌, ◌≤◌, ◌++◌, ◌||◌, Bool, false, List, [], ◌∷◌, length, reverse, Option, Some, None, IsSome, refl, sym, ap, ◌∙◌, subst, ⊎_elim, arith, unwrap_or, length-append}
 use Rattle.std.proofs.lemmas.Bool.{cases_lt, false≢true}
+use Rattle.pst_base.specs.declared.names.NodeId.{NodeId}
 use Rattle.pst_base.specs.declared.names.RunNo.{RunNo}
 use Rattle.pst_base.specs.declared.shape.TypeShape.{TypeShape}
 use Rattle.pst_line_nodes.specs.declared.content.Stamp.{Stamp}
 use Rattle.pst_line_nodes.specs.Line.{Line}
 use Rattle.pst_line_nodes.specs.Seen.{Seen}
-use Rattle.pst_line_nodes.specs.Rows.{IsRow, AreRising}
-use Rattle.pst_line_nodes.specs.Nodes.{line_of, of_node, IsKept, AreKept}
+use Rattle.pst_line_nodes.specs.Rows.{AreRising}
+use Rattle.pst_line_nodes.specs.Nodes.{line_of, of_node, AreKept}
 use Rattle.pst_line.specs.declared.place.Stretch.{Stretch}
 use Rattle.pst_line.specs.declared.place.Undo.{Undo}
-use Rattle.pst_line.specs.Store.{Stored, state_of, stamp, is_made, in_stretch, in_run, IsStored, IsRested, IsClosed, Began, LinePublished}
+use Rattle.pst_line.specs.Store.{Stored, state_of, is_made, in_stretch, in_run, IsStored, IsRested, IsClosed, Began, LinePublished}
 use Rattle.pst_line.specs.Undoing.{CanUndo}
-use Rattle.pst_line.specs.Held.{Held, IsHeld, line_in, stored_of}
+use Rattle.pst_line.specs.Held.{Held, IsHeld, IsRootAt, line_in, stored_of}
 use Rattle.pst_line.proofs.Stores.{begin_law, publish_law, run_none, or_false, stretch-one}
 use Rattle.pst_line.proofs.Entries.{can_undo_begun}
+use Rattle.pst_line.proofs.Roots.{roots_more, root_later}
 
 -- ---- which records are made
 
@@ -65,6 +67,8 @@ module _ (s g : Held) (e : s ≡ g) (h : IsHeld s) (none : g.opened ≡ None) wh
         (subst (λ (b : ℕ). CanUndo (record (stored_of s) { opened = Some (length s.nodes) }) b (reverse s.undo)) (let same : length s.nodes ≡ b = cc in same)
         (subst (λ (us : List Undo). CanUndo (record (stored_of s) { opened = Some (length s.nodes) }) (length s.nodes) (reverse us)) (sym (h.empty was_none)) (can_undo_begun (stored_of s) h.stored (h.closed was_none) h.some)));
     counted = h.counted;
+    roots = h.roots;
+    root = h.root;
   }
 
   pub begun_held : (k : ℕ) → k ≡ length s.nodes → IsHeld (record s { opened = Some k })
@@ -89,29 +93,30 @@ kept_at_next shape t nodes k = record {
 }
 
 module _ (s g : Held) (e : s ≡ g) (h : IsHeld s) (run : RunNo) (some : IsSome g.opened) (whole : g.failed ≡ false) (few : length g.versions < 4294967295)
-    (vs : List Stretch) (us : List Undo) (from to : ℕ) (to_is : to ≡ length s.nodes) (from_is : from ≡ unwrap_or s.opened to) (vs_is : vs ≡ s.versions ++ record { run = run; from = from; to = to } ∷ []) (us_is : us ≡ []) where
+    (vs : List Stretch) (us : List Undo) (from to : ℕ) (root : NodeId) (root_is : root ≡ s.root) (to_is : to ≡ length s.nodes) (from_is : from ≡ unwrap_or s.opened to) (vs_is : vs ≡ s.versions ++ record { run = run; from = from; to = to; root = root } ∷ []) (us_is : us ≡ []) where
   opened_s : (b : ℕ) × (s.opened ≡ Some b)
   opened_s = elim s.opened as (λ (o : Option ℕ). s.opened ≡ o → IsSome o → (b : ℕ) × (s.opened ≡ Some b)) [ None ↦ λ q k. absurd (false≢true k) | Some b ↦ λ q k. (b, q) ] refl (subst (λ (g : Held). IsSome g.opened) (sym e) some)
 
   abbrev row : Stretch
-  row = record { run = run; from = opened_s.0; to = length s.nodes }
+  row = record { run = run; from = opened_s.0; to = length s.nodes; root = s.root }
 
   rows_are : vs ≡ s.versions ++ row ∷ []
   rows_are =
-      vs_is ∙ ap (λ (n : ℕ). s.versions ++ record { run = run; from = n; to = to } ∷ []) (from_is ∙ ap (λ o. unwrap_or o to) opened_s.1)
-      ∙ ap (λ (n : ℕ). s.versions ++ record { run = run; from = opened_s.0; to = n } ∷ []) to_is
+      vs_is ∙ ap (λ (i : NodeId). s.versions ++ record { run = run; from = from; to = to; root = i } ∷ []) root_is
+      ∙ ap (λ (n : ℕ). s.versions ++ record { run = run; from = n; to = to; root = s.root } ∷ []) (from_is ∙ ap (λ o. unwrap_or o to) opened_s.1)
+      ∙ ap (λ (n : ℕ). s.versions ++ record { run = run; from = opened_s.0; to = n; root = s.root } ∷ []) to_is
 
   whole_s : s.failed ≡ false
   whole_s = ap (λ (g : Held). g.failed) e ∙ whole
 
   law_p : IsStored (record (stored_of s) { versions = s.versions ++ row ∷ []; opened = None }) × IsClosed (record (stored_of s) { versions = s.versions ++ row ∷ []; opened = None })
       × LinePublished (state_of (stored_of s)) (state_of (record (stored_of s) { versions = s.versions ++ row ∷ []; opened = None })) run (record { 0 = length s.versions })
-  law_p = publish_law (stored_of s) opened_s.0 run h.stored (h.rested whole_s) opened_s.1
+  law_p = publish_law (stored_of s) opened_s.0 run s.root h.stored (h.rested whole_s) opened_s.1
 
   line_p : line_of (is_made (s.versions ++ row ∷ []) None) s.nodes ≡ line_in s
   line_p = same_line (is_made (s.versions ++ row ∷ []) None) (is_made s.versions s.opened) s.nodes
       (λ i. or_false (in_stretch (s.versions ++ row ∷ []) ((line_in s).home i))
-      ∙ stretch-one s.versions run opened_s.0 (length s.nodes) ((line_in s).home i) (home_below s h i)
+      ∙ stretch-one s.versions run s.root opened_s.0 (length s.nodes) ((line_in s).home i) (home_below s h i)
       ∙ sym (ap (λ o. is_made s.versions o ((line_in s).home i)) opened_s.1))
 
   of_line : (P : Stored → Type 0) → P (record (stored_of s) { versions = s.versions ++ row ∷ []; opened = None }) → P (stored_of (record s { undo = []; versions = s.versions ++ row ∷ []; opened = None }))
@@ -125,7 +130,7 @@ module _ (s g : Held) (e : s ≡ g) (h : IsHeld s) (run : RunNo) (some : IsSome 
     stored = of_line IsStored law_p.0;
     some = omega (arith, longer);
     few = let n : length s.versions ≡ length g.versions = ap (λ (g : Held). length g.versions) e in omega (arith, longer, n, few);
-    rooted = stretch-one s.versions run opened_s.0 (length s.nodes) 0 (h.stored.line.root.0) ∙ ap (λ b. b || in_run (Some opened_s.0) 0) h.rooted;
+    rooted = stretch-one s.versions run s.root opened_s.0 (length s.nodes) 0 (h.stored.line.root.0) ∙ ap (λ b. b || in_run (Some opened_s.0) 0) h.rooted;
     kept = subst (λ (t : ℕ). AreKept s.shape t s.nodes) (sym longer) (kept_at_next s.shape (length s.versions) s.nodes h.kept);
     rested = λ f. of_line IsRested law_p.1.rested;
     closed = λ o. of_line IsClosed law_p.1;
@@ -133,6 +138,8 @@ module _ (s g : Held) (e : s ≡ g) (h : IsHeld s) (run : RunNo) (some : IsSome 
     empty = λ o. refl;
     undone = λ b o f. absurd (cc);
     counted = h.counted;
+    roots = roots_more s.nodes 0 s.versions row h.roots (subst (λ (n : ℕ). IsRootAt s.nodes n s.root) (let e : length s.versions ≡ 0 + length s.versions = omega arith in e) h.root);
+    root = subst (λ (t : ℕ). IsRootAt s.nodes t s.root) (sym longer) (root_later s.nodes (length s.versions) s.root h.root);
   }
 
   pub published_held : IsHeld (record s { undo = us; versions = vs; opened = None })

@@ -1,5 +1,5 @@
 -- A store with version 0 alone.
-use Rattle.std.proofs.Common.{◌≡◌, ◌≢◌, ℕ, zero, suc, ◌+◌, ◌<◌, ◌≤◌, ◌&&◌, ◌||◌, Bool, true, false, cond, leb, ltb, List, [], ◌∷◌, length, Option, Some, None, pos, refl, sym, ap, ◌∙◌, subst, ◌⊎◌, inl, inr, arith}
+use Rattle.std.proofs.Common.{◌≡◌, ℕ, zero, suc, ◌+◌, ◌<◌, ◌≤◌, ◌&&◌, ◌||◌, Bool, true, false, cond, leb, ltb, List, length, Option, Some, None, pos, refl, sym, ap, ◌∙◌, subst, inl, inr, arith}
 use Rattle.std.proofs.lemmas.Bool.{false_from_ne_true, ltb-true}
 use Rattle.std.specs.FinMap.{empty, insert}
 use Rattle.pst_base.specs.declared.names.Name.{Name}
@@ -9,15 +9,14 @@ use Rattle.pst_base.specs.Name.{root_name}
 use Rattle.pst_base.specs.Shape.{IsValid, type_at, root_type}
 use Rattle.pst_base.specs.Heap.{Rec, IsWellFormed, initial_heap, new_record}
 use Rattle.pst_base.proofs.WellFormed.{IsWellFormed-initial}
-use Rattle.pst_line_nodes.specs.declared.content.Content.TheVariants.{Number, Null, Target}
-use Rattle.pst_line_nodes.specs.Line.{Line, Covers, IsIn, IsNewest, IsLine, IsQuiet, HasKind, ends_by, if_newest, if_stale, stale_at, stale, potential, load, sum_below, is_in, number, denoted, heap_at, heap_below, record_at, record_of}
-use Rattle.pst_line_nodes.specs.Changes.{default_content, IsMade}
+use Rattle.pst_line_nodes.specs.declared.content.Content.TheVariants.{Target}
+use Rattle.pst_line_nodes.specs.Line.{Line, IsIn, IsLine, IsQuiet, HasKind, ends_by, if_newest, if_stale, stale_at, stale, potential, load, sum_below, number, denoted, heap_at, heap_below, record_at, record_of}
+use Rattle.pst_line_nodes.specs.Changes.{default_content}
 use Rattle.pst_line_nodes.proofs.HeapLaws.{true-is_in}
 use Rattle.pst_line_nodes.proofs.Made.{listed-replicate, default_value, default_pointer, default_kind, default_plain}
 use Rattle.pst_line_nodes.proofs.Runs.{next_law}
 use Rattle.pst_line.specs.declared.place.LinePlace.{LinePlace}
-use Rattle.pst_line.specs.declared.place.Stretch.{Stretch}
-use Rattle.pst_line.specs.Store.{Stored, stamp, IsPlace, is_made, IsStored, IsClosed, IsStarted}
+use Rattle.pst_line.specs.Store.{IsPlace, is_made, IsStored, IsClosed}
 use Rattle.pst_line.specs.Starting.{first_store, IsRoot, StartLaw}
 
 zeros : (n : ℕ) (f : ℕ → ℕ) → ((i : ℕ) → i < n → f i ≡ 0) → sum_below n f ≡ 0
@@ -127,4 +126,4 @@ module _ (shape : List TypeShape) (valid : IsValid shape) (w : Line) (d : IsRoot
   }
 
 pub start_law : StartLaw
-start_law shape w valid d = (first_stored shape valid w d, first_closed shape valid w d, record { shape_is = refl; one = refl; opened = refl; failed = refl; heap = heap_0 shape valid w d; counts = refl })
+start_law shape w valid d = (first_stored shape valid w d, first_closed shape valid w d, record { shape_is = refl; rows = refl; opened = refl; failed = refl; heap = heap_0 shape valid w d; counts = refl })

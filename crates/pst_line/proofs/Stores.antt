@@ -5,6 +5,7 @@ use Rattle.std.specs.Option.{option_map}
 use Rattle.std.specs.Prelude.{slice_get}
 use Rattle.pst_versions.specs.declared.rows.VersionRow.{VersionRow}
 use Rattle.std.specs.FinMap.{get}
+use Rattle.pst_base.specs.declared.names.NodeId.{NodeId}
 use Rattle.pst_base.specs.declared.names.RunNo.{RunNo}
 use Rattle.pst_base.specs.declared.names.TypeNo.{TypeNo}
 use Rattle.pst_base.specs.declared.names.Counts.{Counts}
@@ -338,6 +339,7 @@ begin_law s h c ok some =
         has = to;
         only = λ p k. elim k [ inl a ↦ inr (inl a) | inr r ↦ inl (λ i. record { stamp = r.newest i }) ];
         writable = record { run = record { begun = s.line.count; opened = refl; newest = refl }; whole = ok };
+        place = sym (rows_length s.versions 0);
         newest = λ v e. c.same v.stamp (e ∙ rows_length s.versions 0);
         heaps = λ p k. refl;
         live = λ p r l. (to p l.0, l.1);
@@ -362,38 +364,38 @@ rows-one (x ∷ xs) v k =
     ap (λ rs. record { parent = record { 0 = k - 1 }; run = x.run; place = record { stamp = k } } ∷ rs) (rows-one xs v (suc k)
     ∙ ap (λ n. rows_from (suc k) xs ++ record { parent = record { 0 = n - 1 }; run = v.run; place = record { stamp = n } } ∷ []) e)
 
-rows_count : (vs : List Stretch) (k : ℕ) → length (rows_from k vs) ≡ length vs
+pub rows_count : (vs : List Stretch) (k : ℕ) → length (rows_from k vs) ≡ length vs
 rows_count [] k = refl
 rows_count (v ∷ vs) k = ap suc (rows_count vs (suc k))
 
 -- the stretch of the run that is published has the records that the run had
-pub stretch-one : (vs : List Stretch) (run : RunNo) (b n i : ℕ) → i < n → in_stretch (vs ++ record { run = run; from = b; to = n } ∷ []) i ≡ is_made vs (Some b) i
-stretch-one [] run b n i l = ap (λ k. (leb b i && k) || false) (lt-ltb i n l) ∙ plain (leb b i)
+pub stretch-one : (vs : List Stretch) (run : RunNo) (root : NodeId) (b n i : ℕ) → i < n → in_stretch (vs ++ record { run = run; from = b; to = n; root = root } ∷ []) i ≡ is_made vs (Some b) i
+stretch-one [] run root b n i l = ap (λ k. (leb b i && k) || false) (lt-ltb i n l) ∙ plain (leb b i)
   where
     plain : (a : Bool) → ((a && true) || false) ≡ (false || a)
     plain true = refl
     plain false = refl
-stretch-one (x ∷ xs) run b n i l = ap (λ k. (leb x.from i && ltb i x.to) || k) (stretch-one xs run b n i l) ∙ shift (leb x.from i && ltb i x.to) (in_stretch xs i) (leb b i)
+stretch-one (x ∷ xs) run root b n i l = ap (λ k. (leb x.from i && ltb i x.to) || k) (stretch-one xs run root b n i l) ∙ shift (leb x.from i && ltb i x.to) (in_stretch xs i) (leb b i)
   where
     shift : (a c d : Bool) → (a || (c || d)) ≡ ((a || c) || d)
     shift true c d = refl
     shift false c d = refl
 
-stretch-none : (vs : List Stretch) (run : RunNo) (b n i : ℕ) → n ≤ i → in_stretch vs i ≡ false → in_stretch (vs ++ record { run = run; from = b; to = n } ∷ []) i ≡ false
-stretch-none [] run b n i l e = ap (λ k. (leb b i && k) || false) (false_from_ne_true (ltb i n) (λ t. let m = ltb-true i n t in absurd (omega arith))) ∙ plain (leb b i)
+stretch-none : (vs : List Stretch) (run : RunNo) (root : NodeId) (b n i : ℕ) → n ≤ i → in_stretch vs i ≡ false → in_stretch (vs ++ record { run = run; from = b; to = n; root = root } ∷ []) i ≡ false
+stretch-none [] run root b n i l e = ap (λ k. (leb b i && k) || false) (false_from_ne_true (ltb i n) (λ t. let m = ltb-true i n t in absurd (omega arith))) ∙ plain (leb b i)
   where
     plain : (a : Bool) → ((a && false) || false) ≡ false
     plain true = refl
     plain false = refl
-stretch-none (x ∷ xs) run b n i l e = elim (leb x.from i && ltb i x.to) as (λ k. (k || in_stretch xs i) ≡ false → (k || in_stretch (xs ++ record { run = run; from = b; to = n } ∷ []) i) ≡ false) [
+stretch-none (x ∷ xs) run root b n i l e = elim (leb x.from i && ltb i x.to) as (λ k. (k || in_stretch xs i) ≡ false → (k || in_stretch (xs ++ record { run = run; from = b; to = n; root = root } ∷ []) i) ≡ false) [
   | true ↦ λ h. h
-  | false ↦ λ h. stretch-none xs run b n i l h
+  | false ↦ λ h. stretch-none xs run root b n i l h
 ] e
 
 pub publish_law : PublishLaw
-publish_law s b run h r e =
-    let v : Stretch = record { run = run; from = b; to = s.line.count } in
-    let t : Stored = record s { versions = s.versions ++ record { run = run; from = b; to = s.line.count } ∷ []; opened = None } in
+publish_law s b run root h r e =
+    let v : Stretch = record { run = run; from = b; to = s.line.count; root = root } in
+    let t : Stored = record s { versions = s.versions ++ record { run = run; from = b; to = s.line.count; root = root } ∷ []; opened = None } in
     let n = next_law s.shape (stamp s) s.line h.line r.quiet in
     let len : stamp t ≡ suc (stamp s) = length-one s.versions v in
     let place : IsPlace s (record { stamp = stamp s }) = inr (record { begun = b; opened = e; newest = refl }) in
@@ -409,9 +411,9 @@ publish_law s b run h r e =
         valid = λ p k. h.valid p (of p k);
         line = subst (λ (m : ℕ). IsLine s.shape m s.line) (sym len) n.0;
         homes = h.homes;
-        made = λ i m. h.made i m ∙ ap (λ o. is_made s.versions o (s.line.home i)) e ∙ sym (stretch-one s.versions run b s.line.count (s.line.home i) (h.homes i m)) ∙ sym (or_false (in_stretch t.versions (s.line.home i)));
+        made = λ i m. h.made i m ∙ ap (λ o. is_made s.versions o (s.line.home i)) e ∙ sym (stretch-one s.versions run root b s.line.count (s.line.home i) (h.homes i m)) ∙ sym (or_false (in_stretch t.versions (s.line.home i)));
         begun = λ b e. absurd (cc);
-        ended = λ i m. stretch-none s.versions run b s.line.count i m (h.ended i (rw e (let k = h.begun b e in omega (arith, k, m))));
+        ended = λ i m. stretch-none s.versions run root b s.line.count i m (h.ended i (rw e (let k = h.begun b e in omega (arith, k, m))));
         well_formed = λ p k. h.well_formed p (of p k);
         bounded = let same : load s.shape s.line (stamp t) ≡ load s.shape s.line (stamp s) = ap (load s.shape s.line) len ∙ n.2 in omega (arith, same, h.bounded);
       },

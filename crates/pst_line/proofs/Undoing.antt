@@ -1,22 +1,20 @@
 -- The end of an undo.
-use Rattle.std.proofs.Common.{◌≡◌, ◌≢◌, ℕ, zero, suc, ◌+◌, ◌-◌, ◌<◌, ◌≤◌, Bool, true, false, ◌||◌, List, [], ◌∷◌, length, Option, Some, None, refl, sym, ap, ◌∙◌, subst, ◌⊎◌, inl, inr, ⊎_elim, arith, leb, get_or, replicate}
-use Rattle.std.proofs.lemmas.Bool.{cases_lt, cases_Bool, false≢true, leb-true, le-leb, false_from_ne_true}
-use Rattle.std.specs.Option.{option_map}
+use Rattle.std.proofs.Common.{◌≡◌, ◌≢◌, ℕ, zero, suc, ◌+◌, ◌-◌, ◌<◌, ◌≤◌, Bool, true, false, ◌||◌, [], length, Option, Some, None, refl, sym, ap, ◌∙◌, inl, ⊎_elim, arith, leb, get_or, replicate}
+use Rattle.std.proofs.lemmas.Bool.{cases_lt, false≢true, le-leb}
 use Rattle.std.specs.FinMap.{get}
 use Rattle.pst_base.specs.declared.names.Name.{Name}
-use Rattle.pst_base.specs.declared.shape.TypeShape.{TypeShape}
 use Rattle.pst_base.specs.Shape.{type_at}
-use Rattle.pst_base.specs.Heap.{Rec, Heap, type_in, new_record}
+use Rattle.pst_base.specs.Heap.{Rec, new_record}
 use Rattle.pst_base.proofs.Fields.{found}
 use Rattle.pst_line_nodes.specs.declared.content.Content.TheVariants.{Target}
-use Rattle.pst_line_nodes.specs.Line.{Line, AreChained, Covers, IsIn, IsLive, heap_at, record_at, denoted}
+use Rattle.pst_line_nodes.specs.Line.{AreChained, Covers, IsIn, heap_at, record_at, denoted}
 use Rattle.pst_line_nodes.specs.Runs.{IsDropped}
 use Rattle.pst_line_nodes.proofs.HeapLaws.{heap_has, heap_shows, same_heaps}
 use Rattle.pst_line_nodes.proofs.RecordLaws.{get_or-listed}
 use Rattle.pst_line_nodes.proofs.Same.{pointer_field}
 use Rattle.pst_line_nodes.proofs.Runs.{drop_law}
 use Rattle.pst_line_nodes.proofs.Copy.{held_there}
-use Rattle.pst_line.specs.Store.{Stored, stamp, is_made, in_stretch, in_run, IsStored, IsRested}
+use Rattle.pst_line.specs.Store.{Stored, stamp, is_made, in_stretch, IsStored}
 use Rattle.pst_line.specs.Undoing.{CanUndo, dropped, EndLaw}
 use Rattle.pst_line.proofs.Stores.{cover, undone_law, run_none, or_false}
 

@@ -1,25 +1,25 @@
 -- That a run can be undone, and what keeps it so.
-use Rattle.std.proofs.Common.{◌≡◌, ◌≢◌, ℕ, zero, suc, ◌+◌, ◌-◌, ◌<◌, ◌≤◌, List, [], ◌∷◌, length, map, Option, Some, None, refl, sym, ap, ◌∙◌, subst, ◌⊎◌, inl, inr, ⊎_elim, arith}
+use Rattle.std.proofs.Common.{◌≡◌, ℕ, zero, suc, ◌-◌, ◌<◌, ◌≤◌, List, [], ◌∷◌, map, Some, None, refl, sym, ap, ◌∙◌, subst, inl, inr, ⊎_elim, arith}
 use Rattle.std.proofs.lemmas.Bool.{cases_lt, cases_eq}
 use Rattle.std.specs.Prelude.{All}
 use Rattle.std.specs.FinMap.{get}
 use Rattle.pst_base.specs.declared.names.Name.{Name}
 use Rattle.pst_base.specs.declared.names.TypeNo.{TypeNo}
 use Rattle.pst_base.specs.declared.names.Counts.{Counts}
-use Rattle.pst_base.specs.declared.names.Kind.TheVariants.{Int, Pointer}
+use Rattle.pst_base.specs.declared.names.Kind.TheVariants.{Pointer}
 use Rattle.pst_base.specs.declared.shape.TypeShape.{TypeShape}
 use Rattle.pst_base.specs.Shape.{type_at, field_kind}
-use Rattle.pst_base.specs.Heap.{Rec, Heap, IsWellFormed, IsPointer, with_value, with_pointer, new_record}
+use Rattle.pst_base.specs.Heap.{Heap, IsWellFormed, IsPointer, with_value, with_pointer, new_record}
 use Rattle.pst_line_nodes.specs.declared.content.Content.{Content}
 use Rattle.pst_line_nodes.specs.declared.content.Content.TheVariants.{Number, Null, Target}
-use Rattle.pst_line_nodes.specs.Line.{Line, IsNewest, IsLive, IsLine, denoted, heap_at}
+use Rattle.pst_line_nodes.specs.Line.{Line, denoted, heap_at}
 use Rattle.pst_line_nodes.specs.Changes.{IsSet, IsCopied, VersionsStay}
 use Rattle.pst_line_nodes.proofs.Same.{same_field}
 use Rattle.pst_line.specs.declared.place.Undo.{Undo}
 use Rattle.pst_line.specs.Store.{Stored, stamp}
 use Rattle.pst_line.specs.StoreLaws.{after}
 use Rattle.pst_line.specs.Undo.{put_back, LeadsBack}
-use Rattle.pst_line_nodes.specs.Carried.{IsSince, IsOlder, NodesStay, Went}
+use Rattle.pst_line_nodes.specs.Carried.{IsSince, NodesStay, Went}
 use Rattle.pst_line.specs.Undoing.{mark_of, Fits, IsEntered, IsBase, CanUndo}
 
 -- ---- what the steps are

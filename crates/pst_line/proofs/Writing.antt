@@ -1,39 +1,36 @@
 -- A write of the open run.
-use Rattle.std.proofs.Common.{◌≡◌, ◌≢◌, ℕ, zero, suc, ◌+◌, ◌-◌, ◌<◌, ◌≤◌, ◌++◌, ◌^◌, Bool, true, false, List, [], ◌∷◌, length, reverse, Option, Some, None, IsSome, ℤ, refl, sym, ap, ◌∙◌, subst, ◌⊎◌, inl, inr, ⊎_elim, arith}
+use Rattle.std.proofs.Common.{◌≡◌, ℕ, ◌+◌, ◌<◌, ◌≤◌, ◌++◌, Bool, true, false, List, [], ◌∷◌, length, reverse, Option, Some, None, IsSome, ℤ, refl, sym, ap, ◌∙◌, subst, ⊎_elim, arith}
 use Rattle.std.proofs.lemmas.Bool.{cases_eq, cases_lt, false≢true}
 use Rattle.std.proofs.lemmas.List.{reverse-append}
 use Rattle.pst_base.specs.declared.names.Counts.{Counts}
 use Rattle.pst_base.specs.declared.names.Name.{Name}
-use Rattle.pst_base.specs.declared.names.NodeId.{NodeId}
 use Rattle.pst_base.specs.declared.names.TypeNo.{TypeNo}
 use Rattle.pst_base.specs.declared.names.Kind.{Kind}
-use Rattle.pst_base.specs.declared.names.Kind.TheVariants.{Int, Pointer}
-use Rattle.pst_base.specs.declared.shape.TypeShape.{TypeShape}
 use Rattle.pst_base.specs.Shape.{type_at, field_kind}
 use Rattle.pst_base.specs.Heap.{Heap, IsWellFormed, with_value, with_pointer}
-use Rattle.pst_places.specs.State.{State, Keeps, Unchanged, WritesStay, OthersStay, ValueStored, PointerStored}
-use Rattle.pst_places.proofs.StateLemmas.{Keeps_trans, OthersStay_trans, OthersStay_unchanged, WritesStay_trans}
+use Rattle.pst_places.specs.State.{State, Unchanged, WritesStay, ValueStored, PointerStored}
+use Rattle.pst_places.proofs.StateLemmas.{Keeps_trans, OthersStay_trans, OthersStay_unchanged}
 use Rattle.pst_line_nodes.specs.declared.content.Content.{Content}
-use Rattle.pst_line_nodes.specs.declared.content.Content.TheVariants.{Number, Null, Target}
-use Rattle.pst_line_nodes.specs.Line.{Line, Covers, IsIn, IsNewest, IsLive, IsLine, IsQuiet, heap_at, most, load}
+use Rattle.pst_line_nodes.specs.declared.content.Content.TheVariants.{Target}
+use Rattle.pst_line_nodes.specs.Line.{IsNewest, IsLive, IsLine, heap_at, most}
 use Rattle.pst_line_nodes.specs.Changes.{IsSet, VersionsStay}
 use Rattle.pst_line_nodes.specs.Seen.{Seen}
-use Rattle.pst_line_nodes.specs.Nodes.{line_of, AreKept}
-use Rattle.pst_line_nodes.specs.Carried.{IsSince, Went, AreSmall, IsCarried}
+use Rattle.pst_line_nodes.specs.Nodes.{AreKept}
+use Rattle.pst_line_nodes.specs.Carried.{IsSince, AreSmall, IsCarried}
 use Rattle.pst_line_nodes.proofs.HeapLaws.{unique}
 use Rattle.pst_line_nodes.proofs.Copy.{last_covers}
-use Rattle.pst_line.specs.declared.place.LinePlace.{LinePlace}
 use Rattle.pst_line.specs.declared.place.Undo.{Undo}
-use Rattle.pst_line.specs.Store.{Stored, state_of, stamp, is_made, bound, IsPlace, IsRun, IsWritable, IsStored, IsRested}
+use Rattle.pst_line.specs.Store.{Stored, state_of, is_made, IsRun, IsStored}
 use Rattle.pst_line.specs.StoreLaws.{after}
 use Rattle.pst_line.specs.Undo.{put_back}
-use Rattle.pst_line.specs.Undoing.{Fits, IsEntered, CanUndo, IsNewestOf}
+use Rattle.pst_line.specs.Undoing.{IsEntered, CanUndo}
 use Rattle.pst_line.specs.Held.{Held, IsHeld, AreCounted, line_in, stored_of}
 use Rattle.pst_line.specs.Entered.{line_with, entry_at, HasMadeRoom}
 use Rattle.pst_line.proofs.Stores.{stored_after, unchanged, writes, formed_at, fail_law}
 use Rattle.pst_line.proofs.Undos.{went_set, fits_after, can_undo_same, can_undo_more}
 use Rattle.pst_line.proofs.Entries.{fits_held}
 use Rattle.pst_line.proofs.PutBack.{quiet_set}
+use Rattle.pst_line.proofs.Roots.{RootsStay, stay_same, stay_carried, have_roots}
 
 -- ---- one change after another
 
@@ -77,6 +74,9 @@ module _ (g : Held) (h : IsHeld g) (ns : List Seen) (d : IsCarried g.shape (leng
   pub carried_writes : WritesStay (state_of (stored_of g)) (state_of (after (stored_of g) (line_with g ns) g.counts))
   carried_writes = writes (stored_of g) (line_with g ns) g.counts h.stored d.stay
 
+  carried_roots : RootsStay g.nodes ns
+  carried_roots = stay_carried (is_made g.versions g.opened) g.nodes ns (length g.versions) d.went.nodes
+
   -- the store has failed
   pub failed_held : AreKept g.shape (length g.versions) ns → IsSome g.opened → (us : List Undo) → IsHeld (record g { nodes = ns; undo = us; failed = true })
   failed_held kept some us = record {
@@ -91,6 +91,8 @@ module _ (g : Held) (h : IsHeld g) (ns : List Seen) (d : IsCarried g.shape (leng
     empty = λ o. absurd (none_some o);
     undone = λ b o f. absurd (false≢true (sym f));
     counted = h.counted;
+    roots = have_roots g.nodes ns carried_roots 0 g.versions h.roots;
+    root = carried_roots (length g.versions) g.root h.root;
   }
     where
       none_some : g.opened ≡ None → ⊥
@@ -179,4 +181,9 @@ module _ (g : Held) (h : IsHeld g) (b : ℕ) (opened : g.opened ≡ Some b) (who
         (subst (λ (q : ℕ). CanUndo (record (after mid (line_with g ms) counts) { failed = false }) q (entry_at g ns x f ∷ reverse g.undo)) (let same : b ≡ q = cc in same)
         (subst (λ (o : Bool). CanUndo (record (after mid (line_with g ms) counts) { failed = o }) b (entry_at g ns x f ∷ reverse g.undo)) whole can));
     counted = counted;
+    roots = have_roots g.nodes ms both 0 g.versions h.roots;
+    root = both (length g.versions) g.root h.root;
   }
+    where
+      both : RootsStay g.nodes ms
+      both n i r = stay_same (is_made g.versions g.opened) ns ms d.nodes n i (carried_roots g h ns m.carried n i r)

@@ -1,11 +1,10 @@
 -- What the steps of a store's calls do to what it holds.
-use Rattle.std.specs.Prelude.{◌≡◌, ℕ, ◌+◌, ◌<◌, ◌⊎◌, ◌++◌, true, List, [], ◌∷◌, length, Some}
+use Rattle.std.specs.Prelude.{◌≡◌, ℕ, ◌<◌, ◌⊎◌, ◌++◌, true, List, [], ◌∷◌, length, Some}
 use Rattle.pst_base.specs.declared.names.NodeId.{NodeId}
 use Rattle.pst_base.specs.Shape.{type_at}
 use Rattle.pst_base.specs.Heap.{IsFull}
 use Rattle.pst_places.specs.State.{PointerStored, WritesStay}
 use Rattle.pst_line_nodes.specs.Line.{Line, IsQuiet, most}
-use Rattle.pst_line_nodes.specs.Changes.{VersionsStay}
 use Rattle.pst_line_nodes.specs.Seen.{Seen}
 use Rattle.pst_line_nodes.specs.Nodes.{line_of, AreKept}
 use Rattle.pst_line_nodes.specs.Carried.{IsCarried}
@@ -13,7 +12,7 @@ use Rattle.pst_line.specs.declared.place.LinePlace.{LinePlace}
 use Rattle.pst_line.specs.declared.place.Undo.{Undo}
 use Rattle.pst_line.specs.Store.{is_made, state_of}
 use Rattle.pst_line.specs.Undoing.{IsNewestOf}
-use Rattle.pst_line.specs.Held.{Held, line_in, stored_of}
+use Rattle.pst_line.specs.Held.{Held, IsRootAt, line_in, stored_of}
 
 -- other nodes, as a line of the same records
 abbrev pub line_with : Held → List Seen → Line
@@ -32,20 +31,13 @@ pub record HasMadeRoom (old : Held) (nodes : List Seen) (r f x : ℕ) : Type 0 w
   pub quiet : IsQuiet (line_with old nodes) (length old.versions)
   pub kept : AreKept old.shape (length old.versions) nodes
 
--- and what the field holds is entered; the store has failed until it is written
+-- and what the field holds is entered, and the root's node is found anew; the store has failed until the field is written
 pub record HasEntered (old new : Held) (r f x : ℕ) : Type 0 where
   pub nodes : List Seen
   pub room : HasMadeRoom old nodes r f x
-  pub is : new ≡ record old { nodes = nodes; undo = old.undo ++ entry_at old nodes x f ∷ []; failed = true }
-
--- A write is undone: it was that of the last entry. No version, and nothing that is live at one, changes.
-pub record IsStepBack (old new : Held) : Type 0 where
-  pub nodes : List Seen
-  pub undo : List Undo
-  pub is : new ≡ record old { nodes = nodes; undo = undo }
-  pub fewer : length old.undo ≡ length undo + 1
-  pub stay : VersionsStay old.shape (length old.versions) (line_in old) (line_with old nodes)
-  pub names : (i : ℕ) → (line_with old nodes).name i ≡ (line_in old).name i
+  pub root : NodeId
+  pub rooted : IsRootAt nodes (length old.versions) root
+  pub is : new ≡ record old { nodes = nodes; undo = old.undo ++ entry_at old nodes x f ∷ []; failed = true; root = root }
 
 -- ---- pointers, by references
 

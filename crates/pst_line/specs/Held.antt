@@ -1,5 +1,5 @@
 -- What a store that is started holds, and what it keeps.
-use Rattle.std.specs.Prelude.{◌≡◌, ℕ, ◌<◌, ◌≤◌, ◌^◌, Bool, true, false, List, [], reverse, length, Option, Some, None}
+use Rattle.std.specs.Prelude.{◌≡◌, ⊤, ℕ, suc, ◌<◌, ◌≤◌, ◌^◌, Bool, true, false, List, [], ◌∷◌, reverse, length, Option, Some, None}
 use Rattle.pst_base.specs.declared.names.Counts.{Counts}
 use Rattle.pst_base.specs.declared.names.NodeId.{NodeId}
 use Rattle.pst_base.specs.declared.shape.TypeShape.{TypeShape}
@@ -10,11 +10,14 @@ use Rattle.pst_line_nodes.specs.Seen.{Seen}
 use Rattle.pst_line_nodes.specs.Nodes.{line_of, AreKept}
 use Rattle.pst_line.specs.declared.place.Stretch.{Stretch}
 use Rattle.pst_line.specs.declared.place.Undo.{Undo}
-use Rattle.pst_line.specs.Store.{Stored, is_made, in_stretch, stamp, IsStored, IsRested, IsClosed}
+use Rattle.pst_line.specs.declared.place.LinePlace.{LinePlace}
+use Rattle.pst_line.specs.Store.{Stored, is_made, in_stretch, state_of, IsStored, IsRested, IsClosed}
+use Rattle.pst_places.specs.State.{State}
 use Rattle.pst_line.specs.Undoing.{CanUndo}
 
 -- the record types; the nodes; what the writes of the open run found, in their order; the stretches of the versions; how many
--- nodes there were when the open run began; whether a store of it answered Memory; and what was made and written
+-- nodes there were when the open run began; whether a store of it answered Memory; what was made and written; and a node of the
+-- root record
 pub record Held : Type 0 where
   pub shape : List TypeShape
   pub nodes : List Seen
@@ -23,6 +26,7 @@ pub record Held : Type 0 where
   pub opened : Option ℕ
   pub failed : Bool
   pub counts : Counts
+  pub root : NodeId
 
 -- the nodes as laws see them
 abbrev pub line_in : Held → Line
@@ -36,6 +40,17 @@ pub record AreCounted (counts : Counts) : Type 0 where
   pub records : counts.records ≤ 2 ^ 60
   pub pointer_writes : counts.pointer_writes ≤ 2 ^ 60
   pub value_writes : counts.value_writes ≤ 2 ^ 60
+
+-- A node of the root record, whose first node has number 0, that is live at a stamp.
+pub record IsRootAt (nodes : List Seen) (n : ℕ) (i : NodeId) : Type 0 where
+  pub there : i.0 < length nodes
+  pub home : (line_of (λ x. true) nodes).home i.0 ≡ 0
+  pub begun : (line_of (λ x. true) nodes).first i.0 ≤ n
+
+-- each version, of which the first one here has number v, has such a node
+abbrev pub HaveRoots : List Seen → ℕ → List Stretch → Type 0
+HaveRoots nodes v [] = ⊤
+HaveRoots nodes v (r ∷ rs) = IsRootAt nodes v r.root × HaveRoots nodes (suc v) rs
 
 -- What is so of a store between two calls, also after want of memory. Unless that came, it is at rest, and the open run can be
 -- undone.
@@ -51,9 +66,34 @@ pub record IsHeld (h : Held) : Type 0 where
   pub empty : h.opened ≡ None → h.undo ≡ []
   pub undone : (b : ℕ) → h.opened ≡ Some b → h.failed ≡ false → CanUndo (stored_of h) b (reverse h.undo)
   pub counted : AreCounted h.counts
+  pub roots : HaveRoots h.nodes 0 h.versions
+  pub root : IsRootAt h.nodes (length h.versions) h.root
 
 -- the node that a content holds
 abbrev pub target : Content → Option NodeId
 target (Number n) = None
 target Null = None
 target (Target y) = Some (record { 0 = y })
+
+-- ---- a store that may not be started yet
+
+-- an empty store has no version and no node
+abbrev pub empty_held : Held
+empty_held = record {
+  shape = [];
+  nodes = [];
+  undo = [];
+  versions = [];
+  opened = None;
+  failed = false;
+  counts = record { records = 0; pointer_writes = 0; value_writes = 0 };
+  root = record { 0 = 0 };
+}
+
+abbrev pub stored_in : Option Held → Stored
+stored_in None = stored_of empty_held
+stored_in (Some h) = stored_of h
+
+abbrev pub state_in : Option Held → State LinePlace NodeId
+state_in None = state_of (stored_of empty_held)
+state_in (Some h) = state_of (stored_of h)

@@ -5,3 +5,5 @@ pub mod Undoing
 pub mod Held
 pub mod Starting
 pub mod Entered
+pub mod Back
+pub mod Trials

@@ -25,7 +25,7 @@ abbrev pub first_store : List TypeShape → Line → Stored
 first_store shape w = record {
   shape = shape;
   line = w;
-  versions = record { run = record { 0 = 0 }; from = 0; to = 1 } ∷ [];
+  versions = record { run = record { 0 = 0 }; from = 0; to = 1; root = record { 0 = 0 } } ∷ [];
   opened = None;
   failed = false;
   counts = record { records = 1; pointer_writes = 0; value_writes = 0 };

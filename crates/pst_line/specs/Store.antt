@@ -1,5 +1,5 @@
 -- What a line store means, and what it keeps.
-use Rattle.std.specs.Prelude.{◌≡◌, ◌≢◌, ℕ, suc, ◌+◌, ◌-◌, ◌<◌, ◌≤◌, ◌⊎◌, ◌++◌, Bool, false, ◌&&◌, ◌||◌, nat_le, nat_lt, List, [], ◌∷◌, length, Option, Some, None, unwrap_or, slice_get}
+use Rattle.std.specs.Prelude.{◌≡◌, ℕ, suc, ◌+◌, ◌-◌, ◌<◌, ◌≤◌, ◌⊎◌, ◌↔◌, ◌++◌, Bool, false, ◌&&◌, ◌||◌, nat_le, nat_lt, List, [], ◌∷◌, length, Option, Some, None, unwrap_or, slice_get}
 use Rattle.pst_base.specs.declared.names.NodeId.{NodeId}
 use Rattle.pst_base.specs.declared.names.RunNo.{RunNo}
 use Rattle.pst_base.specs.declared.names.VersionNo.{VersionNo}
@@ -109,9 +109,10 @@ pub record IsClosed (s : Stored) : Type 0 where
 
 -- ---- the store's own calls
 
--- a run is open at the place, with the newest heap, and nothing else changes
+-- a run is open at the place, which is that of the next version, with the newest heap, and nothing else changes
 pub record Began (old new : State LinePlace NodeId) (at : LinePlace) : Type 0 where
   pub shape : new.shape ≡ old.shape
+  pub place : at.stamp ≡ length old.versions
   pub fresh : old.has at → ⊥
   pub has : (p : LinePlace) → old.has p → new.has p
   pub only : (p : LinePlace) → new.has p → (p ≡ at) ⊎ old.has p
@@ -159,14 +160,29 @@ pub record IsEmpty (s : Stored) : Type 0 where
 
 pub record IsStarted (shape : List TypeShape) (s : Stored) : Type 0 where
   pub shape_is : s.shape ≡ shape
-  pub one : stamp s ≡ 1
+  pub rows : rows_from 0 s.versions ≡ record { parent = record { 0 = 0 }; run = record { 0 = 0 }; place = record { stamp = 0 } } ∷ []
   pub opened : s.opened ≡ None
   pub failed : s.failed ≡ false
   pub heap : heap_at shape s.line 0 ≡ initial_heap shape
   pub counts : s.counts ≡ record { records = 1; pointer_writes = 0; value_writes = 0 }
 
--- the records made since the run began have its number, and no version and no other record has it
-pub record IsNamed (s : Stored) (run : RunNo) : Type 0 where
-  pub mine : (b i : ℕ) → s.opened ≡ Some b → i < s.line.count → b ≤ s.line.home i → (s.line.name i).run ≡ run
-  pub others : (b i : ℕ) → s.opened ≡ Some b → i < s.line.count → s.line.home i < b → (s.line.name i).run ≢ run
-  pub versions : (v : ℕ) (row : Stretch) → slice_get s.versions v ≡ Some row → row.run ≢ run
+-- ---- a heap at many places that is a line store
+
+-- What the heap means is what the line store says.
+pub record Means (h : State LinePlace NodeId) (s : Stored) : Type 0 where
+  pub shape : h.shape ≡ s.shape
+  pub has : (p : LinePlace) → h.has p ↔ IsPlace s p
+  pub heap : (p : LinePlace) → h.heap p ≡ heap_at s.shape s.line p.stamp
+  pub name : (r : NodeId) → h.name r ≡ s.line.name r.0
+  pub live : (p : LinePlace) (r : NodeId) → h.live p r ↔ (IsPlace s p × IsLive s.line r.0 p.stamp)
+  pub writable : (p : LinePlace) → h.writable p ↔ IsWritable s p
+  pub counts : h.counts ≡ s.counts
+  pub versions : h.versions ≡ rows_from 0 s.versions
+  pub forks : h.forks ≡ []
+  pub fork_calls : h.fork_calls ≡ 0
+
+-- Each version's place is that of its number, and comes from the version before it.
+pub record IsChain (h : State LinePlace NodeId) : Type 0 where
+  pub place : (v : ℕ) (row : VersionRow LinePlace) → slice_get h.versions v ≡ Some row → row.place ≡ record { stamp = v }
+  pub parent : (v : ℕ) (row : VersionRow LinePlace) → slice_get h.versions v ≡ Some row → row.parent ≡ record { 0 = v - 1 }
+  pub has : (v : ℕ) (row : VersionRow LinePlace) → slice_get h.versions v ≡ Some row → h.has row.place

@@ -1,5 +1,6 @@
 -- What each change of a line store does to what it means, and that it keeps what it keeps.
 use Rattle.std.specs.Prelude.{◌≡◌, ℕ, suc, ◌+◌, ◌<◌, ◌≤◌, true, false, ◌++◌, [], ◌∷◌, Some, None, ℤ}
+use Rattle.pst_base.specs.declared.names.NodeId.{NodeId}
 use Rattle.pst_base.specs.declared.names.RunNo.{RunNo}
 use Rattle.pst_base.specs.declared.names.TypeNo.{TypeNo}
 use Rattle.pst_base.specs.declared.names.Counts.{Counts}
@@ -74,8 +75,8 @@ BeginLaw = (s : Stored) → IsStored s → IsClosed s → s.failed ≡ false →
     IsStored t × IsRested t × Began (state_of s) (state_of t) (record { stamp = stamp s })
 
 abbrev pub PublishLaw : Type 0
-PublishLaw = (s : Stored) (b : ℕ) (run : RunNo) → IsStored s → IsRested s → s.opened ≡ Some b
-    → let t : Stored = record s { versions = s.versions ++ record { run = run; from = b; to = s.line.count } ∷ []; opened = None } in
+PublishLaw = (s : Stored) (b : ℕ) (run : RunNo) (root : NodeId) → IsStored s → IsRested s → s.opened ≡ Some b
+    → let t : Stored = record s { versions = s.versions ++ record { run = run; from = b; to = s.line.count; root = root } ∷ []; opened = None } in
     IsStored t × IsClosed t × LinePublished (state_of s) (state_of t) run (record { 0 = stamp s })
 
 -- the run's end, once its writes are undone

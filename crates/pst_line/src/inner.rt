@@ -2,11 +2,13 @@
 
 use crate::line_nodes::LineNodes;
 use crate::place::{LinePlace, Stretch, Undo};
-use pst_base::{Counts, Name, NoMemory, NodeId, RunNo, Shape, SlotNo, TypeNo, VersionNo};
+use pst_base::{Counts, Name, NoMemory, NodeId, ROOT, RunNo, Shape, SlotNo, TypeNo, VersionNo};
 use pst_line_nodes::content::Content;
+use std::alloc::Global;
 use std::marker::Model;
 
-/// A store with version 0 at least.
+/// A store with version 0 at least. Its `root` is a node of the root record that is live at the newest stamp: the newest one, unless
+/// memory was wanting.
 #[derive(Drop)]
 pub(crate) struct Core<N: LineNodes> {
     pub(crate) shape: Shape,
@@ -16,6 +18,7 @@ pub(crate) struct Core<N: LineNodes> {
     pub(crate) opened: Option<u64>,
     pub(crate) failed: bool,
     pub(crate) counts: Counts,
+    pub(crate) root: NodeId,
 }
 
 impl<N: LineNodes> Model for Core<N> {
@@ -23,9 +26,9 @@ impl<N: LineNodes> Model for Core<N> {
 
     ghost Value = { Held };
 
-    ghost view = { λ s. record { shape = s.shape; nodes = N.seen s.nodes; undo = s.undo.items; versions = s.versions.items; opened = s.opened; failed = s.failed; counts = s.counts } };
+    ghost view = { λ s. record { shape = s.shape; nodes = N.seen s.nodes; undo = s.undo.items; versions = s.versions.items; opened = s.opened; failed = s.failed; counts = s.counts; root = s.root } };
 
-    ghost invariant = { λ s. IsHeld (record { shape = s.shape; nodes = N.seen s.nodes; undo = s.undo.items; versions = s.versions.items; opened = s.opened; failed = s.failed; counts = s.counts }) };
+    ghost invariant = { λ s. IsHeld (record { shape = s.shape; nodes = N.seen s.nodes; undo = s.undo.items; versions = s.versions.items; opened = s.opened; failed = s.failed; counts = s.counts; root = s.root }) };
 }
 
 impl<N: LineNodes> Core<N> {
@@ -34,10 +37,42 @@ impl<N: LineNodes> Core<N> {
     ghost use Rattle.pst_base.specs.declared.names.Kind.TheVariants.{Int};
     ghost use Rattle.pst_base.specs.Heap.{kind_in, type_in, value_in, pointer_in, IsPointer};
     ghost use Rattle.pst_base.specs.Name.{root_name};
+    ghost use Rattle.pst_line.specs.declared.place.LinePlace.{LinePlace};
     ghost use Rattle.pst_places.specs.State.{Unchanged, WritesStay};
     ghost use Rattle.pst_line_nodes.specs.Line.{potential};
-    ghost use Rattle.pst_line.specs.Store.{state_of, stamp, IsNamed, Began, LinePublished};
+    ghost use Rattle.pst_base.specs.Shape.{IsValid};
+    ghost use Rattle.pst_line.specs.Store.{state_of, Began, IsStarted, LinePublished};
     ghost use Rattle.pst_line.specs.Held.{IsHeld, line_in, stored_of};
+
+    /// A store with version 0, which has the root record alone.
+    pub(crate) fn start(alloc: Global, shape: &Shape) -> Result<Core<N>, NoMemory>
+        requires { IsValid shape.now }
+        ensures { IfOk result (λ core. IsStarted shape.now (stored_of core)) }
+    {
+        let mut nodes = N::none(alloc);
+        let root = nodes.make(shape, ROOT, TypeNo(0), 0)?;
+        let mut versions = Vec::new(alloc);
+        versions.push(Stretch {
+            run: RunNo(0),
+            from: root,
+            to: nodes.count(),
+            root: NodeId(root),
+        })?;
+        Ok(Core {
+            shape: shape.copy(alloc)?,
+            nodes,
+            undo: Vec::new(alloc),
+            versions,
+            opened: None,
+            failed: false,
+            counts: Counts {
+                records: 1,
+                pointer_writes: 0,
+                value_writes: 0,
+            },
+            root: NodeId(root),
+        })
+    }
 
     /// What is known of every store.
     pub(crate) fn whole(&self)
@@ -53,14 +88,16 @@ impl<N: LineNodes> Core<N> {
         self.versions.len() as u32
     }
 
-    /// The root record, at a place: its first node.
+    /// The root record, at a place: the node that its version keeps, or the newest one.
     pub(crate) fn root(&self, at: LinePlace) -> NodeId
         requires { (state_of (stored_of self.now)).has at }
         ensures name { (state_of (stored_of self.now)).name result ≡ root_name }
         ensures live { (state_of (stored_of self.now)).live at result }
     {
-        let _ = &self.counts;
-        NodeId(0)
+        match self.versions.get(at.stamp as usize) {
+            Some(version) => version.root,
+            None => self.root,
+        }
     }
 
     /// The number in a field of a record, at a place.
@@ -82,6 +119,22 @@ impl<N: LineNodes> Core<N> {
     {
         let x = self.nodes.cover(r.0, at.stamp);
         target_of(self.nodes.read(x, field.0, at.stamp))
+    }
+
+    /// The name of a record.
+    pub(crate) fn name(&self, r: NodeId) -> Name
+        requires { (p : LinePlace) × (state_of (stored_of self.now)).live p r }
+        ensures { result ≡ (state_of (stored_of self.now)).name r }
+    {
+        self.nodes.name(r.0)
+    }
+
+    /// The type of a record.
+    pub(crate) fn ty(&self, r: NodeId) -> TypeNo
+        requires { (p : LinePlace) × (state_of (stored_of self.now)).live p r }
+        ensures { (p : LinePlace) → (state_of (stored_of self.now)).live p r → type_in ((state_of (stored_of self.now)).heap p) ((state_of (stored_of self.now)).name r) ≡ Some result }
+    {
+        self.nodes.ty(r.0)
     }
 
     /// Opens a run. Its place has the newest heap. It takes no memory.
@@ -107,7 +160,12 @@ impl<N: LineNodes> Core<N> {
         let version = VersionNo(self.stamp());
         let to = self.nodes.count();
         let from = self.opened.unwrap_or(to);
-        self.versions.push(Stretch { run, from, to })?;
+        self.versions.push(Stretch {
+            run,
+            from,
+            to,
+            root: self.root,
+        })?;
         self.opened = None;
         self.undo.clear();
         Ok(version)
@@ -143,6 +201,13 @@ impl<N: LineNodes> Core<N> {
         ensures { result ≡ length self.now.nodes }
     {
         self.nodes.count()
+    }
+
+    /// How many values are stamped in newest nodes. It goes over all nodes.
+    pub(crate) fn potential(&self) -> u64
+        ensures { result ≡ potential (line_in self.now) }
+    {
+        self.nodes.potential()
     }
 }
 

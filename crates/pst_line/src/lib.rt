@@ -1,17 +1,26 @@
-//! The store of a linear history, in which only the newest version is written, by one run at a time. It is in work: its own calls
-//! and the undoing of a trapped run are still to come, and nothing stands on it yet.
+//! The store of a linear history, in which only the newest version is written, by one run at a time.
 //!
 //! Model: what a store holds (`specs/Store`): the line of nodes, the versions as stretches of node numbers, the open run, the counts.
 //!
-//! Contract: the laws say what each change of nodes means for the heaps of the versions, and that an open run can be undone from
-//! its last write to its first. A started store reads, begins a run, makes records, writes and publishes; after want of memory in a
-//! write every version reads as before. (Node copying, after Driscoll, Sarnak, Sleator and Tarjan.)
+//! Contract: a `LineStore` is a heap at many places (`HeapAt`), whose open run is published as the next version, or undone from its
+//! last write to its first (`LineCalls`). After want of memory in a write every version reads as before. The laws say what each
+//! change of nodes means for the heaps of the versions. A version keeps the node of its root, so that reads at it walk over no
+//! copies of the root record. (Node copying, after Driscoll, Sarnak, Sleator and Tarjan.)
+//!
+//!     let at = store.begin();
+//!     store.store_value(at, r, field, 7)?;
+//!     let version = store.publish(run)?;
 #![tactic(auto)]
 
 pub mod calls;
 mod inner;
 pub mod laws;
+mod line_heap;
 pub mod line_nodes;
+pub mod line_store;
 mod node_list;
 pub mod place;
+#[cfg(test)]
+mod tests;
+mod undo_run;
 mod writes;

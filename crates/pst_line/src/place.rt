@@ -9,12 +9,14 @@ pub struct LinePlace {
     pub(crate) stamp: u32,
 }
 
-/// A version: its run, and the numbers of the nodes that were made from `begin` of its run to its `publish`.
+/// A version: its run, the numbers of the nodes that were made from `begin` of its run to its `publish`, and a node of the root
+/// record that is live there.
 #[derive(Clone, Copy, Debug, PartialEq, Eq)]
 pub struct Stretch {
     pub run: RunNo,
     pub from: u64,
     pub to: u64,
+    pub root: NodeId,
 }
 
 /// What a write of the open run found.

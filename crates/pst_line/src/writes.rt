@@ -5,17 +5,18 @@ use crate::line_nodes::LineNodes;
 use crate::place::{LinePlace, Undo};
 use pst_base::{Name, NoMemory, NodeId, SlotNo, TypeNo};
 use pst_line_nodes::content::Content;
+use pst_places::StoreFault;
 
 impl<N: LineNodes> Core<N> {
-    ghost use Rattle.std.specs.Prelude.{◌≡◌, ◌⊎◌, Some, None, OnOk, OnErr, IfOk, IsSome, true, false, length};
+    ghost use Rattle.std.specs.Prelude.{◌≡◌, ◌⊎◌, Some, None, OnOk, OnErr, IfOk, IsSome, IsTrue, true, false, length, ◌↔◌};
     ghost use Rattle.pst_base.specs.declared.names.Kind.{Kind};
     ghost use Rattle.pst_base.specs.declared.names.Kind.TheVariants.{Int};
     ghost use Rattle.pst_base.specs.Heap.{kind_in, IsPointer};
     ghost use Rattle.pst_places.specs.State.{HasRoom, Allocated, IsNewType, IsFresh, Unchanged, WritesStay, ValueStored, PointerStored};
-    ghost use Rattle.pst_places.specs.Store.{MayStorePointer};
-    ghost use Rattle.pst_line.specs.Store.{state_of, Undone};
+    ghost use Rattle.pst_places.specs.Store.{MayStorePointer, PointerOutcome};
+    ghost use Rattle.pst_line.specs.Store.{state_of};
     ghost use Rattle.pst_line.specs.Held.{stored_of};
-    ghost use Rattle.pst_line.specs.Entered.{HasEntered, IsStepBack, HasNoRoom, IsLinked};
+    ghost use Rattle.pst_line.specs.Entered.{HasEntered, HasNoRoom, IsLinked};
 
     /// Makes a record with all fields 0 or null, in the open run. A refusal changes nothing.
     pub(crate) fn make(&mut self, at: LinePlace, ty: TypeNo, name: Name) -> Result<NodeId, NoMemory>
@@ -47,6 +48,7 @@ impl<N: LineNodes> Core<N> {
         let found = self.nodes.cover(r.0, stamp);
         self.failed = true;
         let x = self.nodes.make_room(&self.shape, found, field.0, stamp)?;
+        self.root = NodeId(self.nodes.cover(self.root.0, stamp));
         let content = self.nodes.read(x, field.0, stamp);
         self.undo.push(Undo {
             node: NodeId(x),
@@ -125,5 +127,51 @@ impl<N: LineNodes> Core<N> {
         self.counts.pointer_writes += 1;
         self.failed = false;
         Ok(())
+    }
+
+    // Whether a record has room for a pointer from a field of another one, or of its own: an inverse slot of its newest node is
+    // free, or is this very field's, which the write overwrites. It takes no memory.
+    fn has_room(&self, at: LinePlace, r: NodeId, field: SlotNo, q: NodeId) -> bool
+        requires { MayStorePointer (state_of (stored_of self.now)) at r field.0 (Some q) }
+        ensures { IsTrue result ↔ ¬ (HasNoRoom self.now at r field.0 q) }
+    {
+        let stamp = self.stamp();
+        let x = self.nodes.cover(r.0, stamp);
+        let z = self.nodes.cover(q.0, stamp);
+        self.nodes.open_slot(z, x, field.0).is_some()
+    }
+
+    // Writes a pointer to a record, in the open run. It is refused, before anything is changed, exactly where the record has no
+    // room for a pointer more.
+    fn link(&mut self, at: LinePlace, r: NodeId, field: SlotNo, q: NodeId) -> Result<(), StoreFault>
+        requires { MayStorePointer (state_of (stored_of self.old)) at r field.0 (Some q) }
+        ensures { PointerOutcome (state_of (stored_of self.old)) at r field.0 (Some q) result (state_of (stored_of self.new)) }
+    {
+        if !self.has_room(at, r, field, q) {
+            return Err(StoreFault::InDegree);
+        }
+        self.connect(at, r, field, q)?;
+        Ok(())
+    }
+
+    /// Writes a pointer, or null for None, in the open run. It is refused exactly where the target has no room for a pointer
+    /// more.
+    pub(crate) fn point(
+        &mut self,
+        at: LinePlace,
+        r: NodeId,
+        field: SlotNo,
+        to: Option<NodeId>,
+    ) -> Result<(), StoreFault>
+        requires { MayStorePointer (state_of (stored_of self.old)) at r field.0 to }
+        ensures { PointerOutcome (state_of (stored_of self.old)) at r field.0 to result (state_of (stored_of self.new)) }
+    {
+        match to {
+            None => {
+                self.write_null(at, r, field)?;
+                Ok(())
+            }
+            Some(q) => self.link(at, r, field, q),
+        }
     }
 }

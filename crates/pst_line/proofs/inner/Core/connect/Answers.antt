@@ -1,4 +1,4 @@
-use Rattle.pst_line_nodes.proofs.Results.{on_err, on_ok_map}
+use Rattle.pst_line_nodes.proofs.Results.{on_err}
 use Rattle.pst_line.proofs.Ends.{at_stamp_pointer, pointer_slot, unchanged_end, newest_end}
 use Rattle.pst_line.proofs.Linking.{last_z, some_slot, open_line, some_of, target_end, target_ends}
 use Rattle.pst_line.proofs.inner.Core.connect.Goals as goal

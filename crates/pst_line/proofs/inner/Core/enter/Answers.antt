@@ -1,6 +1,5 @@
-use Rattle.std.proofs.Common.{rules}
 use Rattle.pst_line_nodes.proofs.Results.{on_err}
-use Rattle.pst_line.proofs.Entering.{some_line, newest_there, enter_failed, enter_unchanged, slot_entered, entered}
+use Rattle.pst_line.proofs.Entering.{some_line, newest_there, enter_failed, root_entered, linked_entered, found_failed, enter_unchanged, slot_entered, entered}
 use Rattle.pst_line.proofs.inner.Core.enter.Goals as goal
 
 pub make_room-requires-clause-line : goal.make_room-requires-clause-line
@@ -15,20 +14,29 @@ invariant_of-self g c = enter_failed _ _ c.self.view_is c.self.invariant _ c.sta
 pub returns-in_err-x-clause-err : goal.returns-in_err-x-clause-err
 returns-in_err-x-clause-err g c = on_err _ _ (enter_unchanged _ _ c.self.view_is c.self.invariant _ c.stamp-stamp.ensures c.requires.open _ c.make_room.ensures.carried c.make_room.ensures.kept c.self.inside.undo.items)
 
+pub cover-requires-clause-linked : goal.cover-requires-clause-linked
+cover-requires-clause-linked g c = linked_entered _ _ c.self.view_is c.self.invariant _ c.stamp-stamp.ensures c.requires.open _ c.make_room.ensures.carried c.make_room.ensures.kept
+
+pub cover-requires-clause-there : goal.cover-requires-clause-there
+cover-requires-clause-there g c = (root_entered _ _ c.self.view_is c.self.invariant _ c.stamp-stamp.ensures c.requires.open _ c.make_room.ensures.carried c.make_room.ensures.kept).there
+
+pub cover-requires-clause-begun : goal.cover-requires-clause-begun
+cover-requires-clause-begun g c = (root_entered _ _ c.self.view_is c.self.invariant _ c.stamp-stamp.ensures c.requires.open _ c.make_room.ensures.carried c.make_room.ensures.kept).begun
+
 pub read-content-requires-clause-slot : goal.read-content-requires-clause-slot
 read-content-requires-clause-slot g c =
     slot_entered _ _ c.self.view_is c.self.invariant _ c.stamp-stamp.ensures c.requires.open _ c.make_room.ensures.carried c.make_room.ensures.kept c.args.r.0 c.args.field.0 c.cover-found.result c.in_ok-x.x c.requires.live c.requires.field c.cover-found.ensures.covers c.cover-found.ensures.home c.in_ok-x.ensures.room c.in_ok-x.ensures.quiet
 
 pub invariant_of-self-in_err-push : goal.invariant_of-self-in_err-push
-invariant_of-self-in_err-push g c = enter_failed _ _ c.self.view_is c.self.invariant _ c.stamp-stamp.ensures c.requires.open _ c.make_room.ensures.carried c.make_room.ensures.kept _
+invariant_of-self-in_err-push g c = found_failed _ _ c.self.view_is c.self.invariant _ c.stamp-stamp.ensures c.requires.open _ c.make_room.ensures.carried c.make_room.ensures.kept _ c.cover.ensures.covers c.cover.ensures.home _
 
 pub returns-in_err-push-clause-err : goal.returns-in_err-push-clause-err
 returns-in_err-push-clause-err g c = on_err _ _ (enter_unchanged _ _ c.self.view_is c.self.invariant _ c.stamp-stamp.ensures c.requires.open _ c.make_room.ensures.carried c.make_room.ensures.kept c.push.new.self.items)
 
 pub invariant_of-self-2 : goal.invariant_of-self-2
-invariant_of-self-2 g c = enter_failed _ _ c.self.view_is c.self.invariant _ c.stamp-stamp.ensures c.requires.open _ c.make_room.ensures.carried c.make_room.ensures.kept _
+invariant_of-self-2 g c = found_failed _ _ c.self.view_is c.self.invariant _ c.stamp-stamp.ensures c.requires.open _ c.make_room.ensures.carried c.make_room.ensures.kept _ c.cover.ensures.covers c.cover.ensures.home _
 
 pub returns-clause-ok : goal.returns-clause-ok
 returns-clause-ok g c =
     entered _ _ c.self.view_is c.self.invariant _ c.stamp-stamp.ensures c.requires.open _ c.make_room.ensures.carried c.make_room.ensures.kept c.args.r.0 c.args.field.0 c.cover-found.result c.in_ok-x.x c.requires.live c.requires.field c.cover-found.ensures.covers c.cover-found.ensures.home c.in_ok-x.ensures.room c.in_ok-x.ensures.quiet
-    _ c.read-content.result c.read-content.ensures c.in_ok-push.ensures.items
+    _ c.cover.ensures.covers c.cover.ensures.home _ c.read-content.result c.read-content.ensures c.in_ok-push.ensures.items

@@ -1,4 +1,4 @@
-use Rattle.std.proofs.Common.{FitsSigned, w64, ◌∙◌, ap, arith}
+use Rattle.std.proofs.Common.{FitsSigned, w64, ◌∙◌, ap}
 use Rattle.std.proofs.lemmas.Int.{to_z-of_z}
 use Rattle.pst_base.specs.declared.names.Kind.TheVariants.{Int}
 use Rattle.pst_line_nodes.specs.Line.{number}
