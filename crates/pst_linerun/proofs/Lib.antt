@@ -1,0 +1,9 @@
+mod Ended
+mod Refusing
+mod CarriedOut
+mod Holding
+mod Running
+mod Asking
+mod Answering
+mod Starting
+mod WorkedLemmas

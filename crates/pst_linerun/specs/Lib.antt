@@ -1,0 +1,4 @@
+pub mod Linear
+pub mod Standing
+pub mod Carried
+pub mod Worked

@@ -1,0 +1,86 @@
+//! Why a command is refused.
+
+ghost use Rattle.std.specs.Prelude.{◌≡◌};
+ghost use Rattle.pst_history.specs.History.{first};
+ghost use Rattle.pst_engine.specs.Refused.{version_by, runs_by};
+ghost use Rattle.pst_linerun.specs.Carried.{old_by, line_refusal_by};
+
+use pst_base::{RunNo, VersionNo};
+use pst_coded::Meant;
+use pst_history::RUNS;
+use pst_line::calls::LineCalls;
+use pst_runs::{proc_refused, query_refused};
+use pst_script::{Command, Refusal};
+
+/// Whether no version has the number.
+fn version_refused<S: LineCalls>(store: &S, version: VersionNo) -> Option<Refusal>
+    ensures { result ≡ version_by (S.state store.now) version }
+{
+    if store.count() <= version.0 {
+        return Some(Refusal::Version);
+    }
+    None
+}
+
+/// Whether the version is not the newest one.
+fn old_refused<S: LineCalls>(store: &S, version: VersionNo) -> Option<Refusal>
+    ensures { result ≡ old_by (S.state store.now) version }
+{
+    if version.0 as u64 + 1 != store.count() as u64 {
+        return Some(Refusal::Old);
+    }
+    None
+}
+
+/// Whether all run numbers are taken.
+fn runs_refused(next_run: RunNo) -> Option<Refusal>
+    ensures { result ≡ runs_by next_run.0 }
+{
+    if next_run.0 as usize > RUNS {
+        return Some(Refusal::Runs);
+    }
+    None
+}
+
+/// The first of two refusals that holds.
+fn first_of(one: Option<Refusal>, next: Option<Refusal>) -> Option<Refusal>
+    ensures { result ≡ first one next }
+{
+    match one {
+        Some(refusal) => Some(refusal),
+        None => next,
+    }
+}
+
+/// The first refusal of a command that holds, if one does.
+pub(crate) fn refused<S: LineCalls, C: Meant>(
+    code: &C,
+    store: &S,
+    next_run: RunNo,
+    line: &Command,
+) -> Option<Refusal>
+    ensures { result ≡ line_refusal_by (C.meaning code.now) (S.state store.now) next_run.0 line.now }
+{
+    match line {
+        Command::Run(call) => first_of(
+            first_of(
+                proc_refused(code, &call.procedure, &call.arguments),
+                version_refused(store, call.version),
+            ),
+            first_of(old_refused(store, call.version), runs_refused(next_run)),
+        ),
+        Command::Query(call) => first_of(
+            query_refused(code, &call.procedure, &call.arguments),
+            version_refused(store, call.version),
+        ),
+        Command::OpenRun(_) => Some(Refusal::Line),
+        Command::OpenEmpty { .. } => Some(Refusal::Line),
+        Command::CallRun { .. } => Some(Refusal::Line),
+        Command::StepRun { .. } => Some(Refusal::Line),
+        Command::CloseRun { .. } => Some(Refusal::Line),
+        Command::DropRun { .. } => Some(Refusal::Line),
+        Command::Budget { .. } => None,
+        Command::Versions => None,
+        Command::Stats => None,
+    }
+}
