@@ -1,0 +1,5 @@
+pub mod Behind
+pub mod Names
+pub mod Types
+pub mod Apart
+pub mod Worked
