@@ -3,6 +3,7 @@
 
 use pst_cli::{number, persist};
 use pst_io::{StdSink, StdSource};
+use pst_line::line_store::LineStore;
 use pst_store::Store;
 use std::process::ExitCode;
 use std::rt::Env;
@@ -34,6 +35,14 @@ fn main(rt: HostRuntime) -> ExitCode {
     let mut source = StdSource::new(rt.stdin());
     let mut sink = StdSink::new(rt.stdout());
     let mut store: Store = Store::empty();
-    let status = persist(rt.alloc(), &words, &mut source, &mut sink, &mut store);
+    let mut line = LineStore::empty();
+    let status = persist(
+        rt.alloc(),
+        &words,
+        &mut source,
+        &mut sink,
+        &mut store,
+        &mut line,
+    );
     ExitCode::from(number(status))
 }

@@ -20,6 +20,7 @@ use Rattle.pst_cli.specs.declared.status.Status.TheVariants.{Done, ReadFault, Wr
 use Rattle.pst_cli.specs.Input.{CutInput, cut, cut_of}
 use Rattle.pst_cli.specs.Pieces.{IsPartOf}
 use Rattle.pst_cli.specs.Verdict.{Verdict, Accepted, Refused as IsRefusedBy, Judged, HasFault}
+use Rattle.pst_cli.specs.Script.{by_tree}
 use Rattle.pst_cli.specs.Kept.{Kept, history_after}
 use Rattle.pst_cli.specs.Output.{OfVerdict, Accepting}
 use Rattle.pst_cli.specs.Reading.{GivesPast, GivesUntil, ReadsText}
@@ -44,13 +45,13 @@ fault_asked Usage k question path a left text out fault same has w = absurd w
 module _ (k : Kept) (question : Question) (path : List ℕ) (a b : InputState) (left left' : Option (List ℕ)) (text : List ℕ) (items : List Item) (program : Program)
     (judged : Judged text (Accepted items (program_of program))) where
   pub answer_asked : (lines : List (List ℕ)) (piece out : List ℕ) → GivesAll a left b left' lines → k.leaves (meaning_of program) lines
-      → Tells program (meaning_of program) (history_after (meaning_of program) lines) question path piece → out ≡ piece → Asks Done k question path a left b left' text out
+      → Tells program (meaning_of program) (history_after by_tree (meaning_of program) lines) question path piece → out ≡ piece → Asks Done k question path a left b left' text out
   answer_asked lines piece out g kept told e =
-      (lines, g, (Accepted items (program_of program), judged, (kept, (program, refl, subst (Tells program (meaning_of program) (history_after (meaning_of program) lines) question path) (sym e) told))))
+      (lines, g, (Accepted items (program_of program), judged, (kept, (program, refl, subst (Tells program (meaning_of program) (history_after by_tree (meaning_of program) lines) question path) (sym e) told))))
 
   -- the answer was not written whole
   pub answer_stopped : (s : Stop) (lines : List (List ℕ)) (piece out : List ℕ) → GivesAll a left b left' lines → k.leaves (meaning_of program) lines
-      → Tells program (meaning_of program) (history_after (meaning_of program) lines) question path piece → StopsAtReply s (Some piece) out → Asks (status_of s) k question path a left b left' text out
+      → Tells program (meaning_of program) (history_after by_tree (meaning_of program) lines) question path piece → StopsAtReply s (Some piece) out → Asks (status_of s) k question path a left b left' text out
   answer_stopped stop.Write lines piece out g kept told (whole, same, part) =
       let e : whole ≡ piece = cc in
       inr (lines, g, (Accepted items (program_of program), judged, (kept, (program, refl, (piece, told, subst (λ l. IsPartOf l out) e part)))))
@@ -129,7 +130,7 @@ module _ (k : Kept) (question : Question) (path : List ℕ) (t u : InputState) (
   asked_row Refused out (same, w) = (
     readable t input (Some rest) text r seen most,
     after_program t u input rest text left r seen most same,
-    refused_alike k input text out (cut_of input) w (told_text input text r.separator (pending t (Some rest)) r.told),
+    refused_alike k Run input text out (cut_of input) tt w (told_text input text r.separator (pending t (Some rest)) r.told),
   )
   asked_row WriteFault out (inl (same, w)) = inl (
     readable t input (Some rest) text r seen most,

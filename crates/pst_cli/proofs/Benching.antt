@@ -17,7 +17,7 @@ use Rattle.pst_cli.specs.declared.stop.Stop.TheVariants as stop
 use Rattle.pst_cli.specs.declared.status.Status.{Status}
 use Rattle.pst_cli.specs.declared.status.Status.TheVariants.{Done, ReadFault, WriteFault, Usage, Refused, TooLong, Memory}
 use Rattle.pst_cli.specs.Pieces.{AfterSome, IsPartOf}
-use Rattle.pst_cli.specs.Script.{script_of}
+use Rattle.pst_cli.specs.Script.{by_tree, script_of}
 use Rattle.pst_cli.specs.Kept.{first_history, history_after}
 use Rattle.pst_cli.specs.Verdict.{Accepted, Refused as IsRefusedBy, Judged, HasFault}
 use Rattle.pst_cli.specs.Serving.{Refuses, StopsAtReply, status_of}
@@ -31,10 +31,10 @@ unfolding refusal reply
 stats_answer m h = refl
 
 -- the summary of a store that is left in a history is that of the history
-pub summary_is : (m : Meaning) (lines : List (List ℕ)) (store : Option Stored) (sum : ℤ) (text : List ℕ) → IsLeft m store (history_after m lines) → sum ≡ fold ◌+ℤ◌ (pos 0) (printed_from m (first_history m) lines)
+pub summary_is : (m : Meaning) (lines : List (List ℕ)) (store : Option Stored) (sum : ℤ) (text : List ℕ) → IsLeft m store (history_after by_tree m lines) → sum ≡ fold ◌+ℤ◌ (pos 0) (printed_from by_tree m (first_history m) lines)
     → text ≡ summary (length (state_in store).versions) (text_of (answer.StatsAre (state_in store).counts)) (length (nodes_in store)) sum → text ≡ summary_of m lines store
 summary_is m lines store sum text left summed is =
-    let h = history_after m lines in
+    let h = history_after by_tree m lines in
     let nodes = length (nodes_in store) in
     is ∙ ap (λ n. summary n (text_of (answer.StatsAre (state_in store).counts)) nodes sum) left.versions.many
     ∙ ap (λ r. summary (version_count h) (text_of r) nodes sum) (ap (λ c. answer.StatsAre c) left.counts ∙ sym (stats_answer m h))
@@ -44,8 +44,8 @@ pub broken_if_left : (m : Meaning) (store : Option Stored) (h : History) → IsL
 broken_if_left m store h left = record { versions = left.versions; small = λ none. left.small; bounded = left.bounded }
 
 -- there was no room behind the last line
-pub broken_behind : (m : Meaning) (lines : List (List ℕ)) (store : Option Stored) → IsLeft m store (history_after m lines) → AfterSome (script_of m) (first_history m) (IsBroken m store) lines
-broken_behind m lines store left = after_all (script_of m) (first_history m) (IsBroken m store) lines (broken_if_left m store (history_after m lines) left)
+pub broken_behind : (m : Meaning) (lines : List (List ℕ)) (store : Option Stored) → IsLeft m store (history_after by_tree m lines) → AfterSome (script_of by_tree m) (first_history m) (IsBroken m store) lines
+broken_behind m lines store left = after_all (script_of by_tree m) (first_history m) (IsBroken m store) lines (broken_if_left m store (history_after by_tree m lines) left)
 
 -- ---- rows
 
@@ -60,16 +60,16 @@ fault_row TooLong text lines store out fault has w = absurd w
 fault_row Usage text lines store out fault has w = absurd w
 
 pub memory_row : (text : List ℕ) (lines : List (List ℕ)) (old new : Option Stored) (items : List Item) (program : Program) → Judged text (Accepted items (program_of program))
-    → (new ≡ old) ⊎ AfterSome (script_of (meaning_of program)) (first_history (meaning_of program)) (IsBroken (meaning_of program) new) lines → BenchRow Memory text lines old new []
+    → (new ≡ old) ⊎ AfterSome (script_of by_tree (meaning_of program)) (first_history (meaning_of program)) (IsBroken (meaning_of program) new) lines → BenchRow Memory text lines old new []
 memory_row text lines old new items program judged (inl same) = (refl, inl same)
 memory_row text lines old new items program judged (inr some) = (refl, inr (Accepted items (program_of program), judged, some))
 
 pub done_row : (text : List ℕ) (lines : List (List ℕ)) (old new : Option Stored) (piece out : List ℕ) (items : List Item) (program : Program) → Judged text (Accepted items (program_of program))
-    → IsLeft (meaning_of program) new (history_after (meaning_of program) lines) → piece ≡ summary_of (meaning_of program) lines new → out ≡ piece → BenchRow Done text lines old new out
+    → IsLeft (meaning_of program) new (history_after by_tree (meaning_of program) lines) → piece ≡ summary_of (meaning_of program) lines new → out ≡ piece → BenchRow Done text lines old new out
 done_row text lines old new piece out items program judged left is w = (Accepted items (program_of program), judged, (left, w ∙ is))
 
 pub stopped_row : (s : Stop) (text : List ℕ) (lines : List (List ℕ)) (old new : Option Stored) (piece out : List ℕ) (items : List Item) (program : Program) → Judged text (Accepted items (program_of program))
-    → IsLeft (meaning_of program) new (history_after (meaning_of program) lines) → piece ≡ summary_of (meaning_of program) lines new → StopsAtReply s (Some piece) out → BenchRow (status_of s) text lines old new out
+    → IsLeft (meaning_of program) new (history_after by_tree (meaning_of program) lines) → piece ≡ summary_of (meaning_of program) lines new → StopsAtReply s (Some piece) out → BenchRow (status_of s) text lines old new out
 stopped_row stop.Write text lines old new piece out items program judged left is (whole, same, part) =
     let e : whole ≡ piece = cc in
     (Accepted items (program_of program), judged, (left, subst (λ l. IsPartOf l out) (e ∙ is) part))

@@ -12,7 +12,7 @@ use Rattle.pst_cli.specs.declared.job.Question.{Question}
 use Rattle.pst_cli.specs.declared.job.Question.TheVariants.{Changed}
 use Rattle.pst_cli.specs.declared.stop.Stop.{Stop}
 use Rattle.pst_cli.specs.declared.stop.Stop.TheVariants as stop
-use Rattle.pst_cli.specs.Script.{script_of}
+use Rattle.pst_cli.specs.Script.{Rules, by_tree, script_of}
 use Rattle.pst_cli.specs.Kept.{Kept, kept_by, first_history, history_after}
 use Rattle.pst_cli.specs.Asking.{readings_in, Tells, TellsOf, TellsChange, TellsPath, GivesAll, StopsCarrying, StopsAsking, Finds}
 
@@ -28,14 +28,14 @@ path_told program m h version path out steps some told = subst (λ o. TellsPath 
 -- ---- what is found
 
 -- carrying the script out stopped
-pub carrying_stopped : {T : Type 0} (leaves breaks : Meaning → T → History → Type 0) (old new : T) (m : Meaning) (s : Stop) (a b : InputState) (left left' : Option (List ℕ)) (lines : List (List ℕ))
-    → StopsCarrying (script_of m) (first_history m) (leaves m new) (breaks m new) s a left b left' lines
-    → StopsAsking (new ≡ old) ((kept_by leaves breaks old new).leaves m) ((kept_by leaves breaks old new).breaks m) s a left b left'
-carrying_stopped leaves breaks old new m stop.Read a b left left' lines (g, off, kept) = (lines, g, off, kept)
-carrying_stopped leaves breaks old new m stop.TooLong a b left left' lines (g, off, kept) = (lines, g, off, kept)
-carrying_stopped leaves breaks old new m stop.Write a b left left' lines never = absurd never
-carrying_stopped leaves breaks old new m stop.Memory a b left left' lines (g, inl (off, kept)) = inr (inl (lines, g, off, kept))
-carrying_stopped leaves breaks old new m stop.Memory a b left left' lines (g, inr (near, broken)) = inr (inr (inl (lines, g, near, broken)))
+pub carrying_stopped : {T : Type 0} (rules : Rules) (leaves breaks : Meaning → T → History → Type 0) (old new : T) (m : Meaning) (s : Stop) (a b : InputState) (left left' : Option (List ℕ)) (lines : List (List ℕ))
+    → StopsCarrying (script_of rules m) (first_history m) (leaves m new) (breaks m new) s a left b left' lines
+    → StopsAsking (new ≡ old) ((kept_by rules leaves breaks old new).leaves m) ((kept_by rules leaves breaks old new).breaks m) s a left b left'
+carrying_stopped rules leaves breaks old new m stop.Read a b left left' lines (g, off, kept) = (lines, g, off, kept)
+carrying_stopped rules leaves breaks old new m stop.TooLong a b left left' lines (g, off, kept) = (lines, g, off, kept)
+carrying_stopped rules leaves breaks old new m stop.Write a b left left' lines never = absurd never
+carrying_stopped rules leaves breaks old new m stop.Memory a b left left' lines (g, inl (off, kept)) = inr (inl (lines, g, off, kept))
+carrying_stopped rules leaves breaks old new m stop.Memory a b left left' lines (g, inr (near, broken)) = inr (inr (inl (lines, g, near, broken)))
 
 module _ (k : Kept) (program : Program) (m : Meaning) (question : Question) (path : List ℕ) (a b : InputState) (left left' : Option (List ℕ)) where
   -- the fault of a call is handed on
@@ -43,9 +43,9 @@ module _ (k : Kept) (program : Program) (m : Meaning) (question : Question) (pat
   found_stopped r s t is same w = subst (λ o. Finds k program m question path o a left b left') (sym (is ∙ ap (λ u. Err u) same)) w
 
   -- the answer was told of a program that is this one
-  pub answer_found : (told : Program) (lines : List (List ℕ)) (text : List ℕ) → told ≡ program → GivesAll a left b left' lines → k.leaves m lines → Tells told m (history_after m lines) question path text
+  pub answer_found : (told : Program) (lines : List (List ℕ)) (text : List ℕ) → told ≡ program → GivesAll a left b left' lines → k.leaves m lines → Tells told m (history_after by_tree m lines) question path text
       → Finds k program m question path (Ok text) a left b left'
-  answer_found told lines text same g kept tells = (lines, g, kept, subst (λ p. Tells p m (history_after m lines) question path text) same tells)
+  answer_found told lines text same g kept tells = (lines, g, kept, subst (λ p. Tells p m (history_after by_tree m lines) question path text) same tells)
 
   -- there was no room for the answer
   pub answer_lacks : (lines : List (List ℕ)) → GivesAll a left b left' lines → k.leaves m lines → Finds k program m question path (Err stop.Memory) a left b left'

@@ -1,4 +1,4 @@
--- What is kept where no script was begun, and how a session over a store begins.
+-- How a session over a store begins.
 use Rattle.std.proofs.Common.{◌≡◌, refl, sym, ◌∙◌, subst, ap, false, true, ⊎_elim, ℕ, List, [], ◌∷◌, Option, Some, None, map}
 use Rattle.std.specs.Prelude.{IsSomeAnd}
 use Rattle.pst_base.specs.declared.shape.TypeShape.{TypeShape}
@@ -12,15 +12,6 @@ use Rattle.pst_meaning.specs.declared.place.Fork.{Fork}
 use Rattle.pst_meaning.specs.Store.{Stored, IsForked, IsPlace, as_fork}
 use Rattle.pst_store.specs.Calls.{IsStarted}
 use Rattle.pst_store.specs.Whole.{state_in}
-use Rattle.pst_cli.specs.declared.job.Job.{Job}
-use Rattle.pst_cli.specs.declared.job.Job.TheVariants.{Run, Replay, Check, Code}
-use Rattle.pst_cli.specs.Storing.{kept_in}
-
-pub untouched : (store : Option Stored) (job : Job) → (kept_in store store job).untouched
-untouched store Run = refl
-untouched store Replay = refl
-untouched store Check = refl
-untouched store Code = refl
 
 -- no fork is in an empty list
 none_forked : (p : Place) → IsForked [] p → ⊥

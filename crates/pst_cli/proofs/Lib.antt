@@ -4,6 +4,7 @@ pub mod Writing
 pub mod Keeping
 pub mod Reading
 pub mod Serving
+pub mod Stores
 pub mod RowLemmas
 pub mod Verdicts
 pub mod Numerals

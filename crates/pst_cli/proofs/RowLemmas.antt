@@ -1,5 +1,5 @@
 -- Which row of the table holds.
-use Rattle.std.proofs.Common.{◌≡◌, ℕ, ◌+◌, ◌-◌, ◌<◌, ◌≤◌, ◌⊎◌, inl, inr, Bool, true, false, List, [], ◌∷◌, ◌++◌, length, take, drop, refl, sym, ap, ◌∙◌, subst, arith, Option, None, Some, IsTrue, append-nil, append_assoc, length-append}
+use Rattle.std.proofs.Common.{◌≡◌, ℕ, zero, suc, ◌+◌, ◌-◌, ◌<◌, ◌≤◌, ◌⊎◌, inl, inr, Bool, true, false, List, [], ◌∷◌, ◌++◌, length, take, drop, refl, sym, ap, ◌∙◌, subst, arith, Option, None, Some, IsTrue, append-nil, append_assoc, length-append}
 use Rattle.std.specs.Prelude.{IfSome, IsSome, min}
 use Rattle.std.specs.Io.KnownBytes.{Appends, Consumes, IsAtEnd}
 use Rattle.std.proofs.KnownBytes.{Appends-nil}
@@ -10,7 +10,9 @@ use Rattle.pst_io.specs.Text.{lines_of, whole_lines}
 use Rattle.pst_io.specs.Input.{InputState, Gives, IsOver, IsCutOff, EndsWhereSeen, bytes_read, pending}
 use Rattle.pst_io.proofs.Handing.{gives_none, gives_then}
 use Rattle.pst_cli.specs.declared.job.Job.{Job}
-use Rattle.pst_cli.specs.declared.job.Job.TheVariants.{Run, Replay, Check, Code}
+use Rattle.pst_cli.specs.declared.job.Job.TheVariants.{Run, Replay, Line, Check, Code}
+use Rattle.pst_cli.specs.declared.job.Task.{Task}
+use Rattle.pst_cli.specs.declared.job.Task.TheVariants.{Input}
 use Rattle.pst_cli.specs.declared.page.Page.{Page}
 use Rattle.pst_cli.specs.declared.page.Page.TheVariants.{Canonical, Listing}
 use Rattle.pst_cli.specs.declared.stop.Stop.{Stop}
@@ -21,9 +23,9 @@ use Rattle.pst_cli.specs.Input.{CutInput, cut, cut_of, bytes_of, up_to}
 use Rattle.pst_cli.specs.Pieces.{IsAll}
 use Rattle.pst_cli.specs.Verdict.{Verdict, Accepted, Refused as IsRefusedBy, Judged, IsAccepted, IsRefused}
 use Rattle.pst_cli.specs.Kept.{Kept, still}
-use Rattle.pst_cli.specs.Output.{replied, printed, Outputs, OfVerdict, Accepting, Refusing, StopsInPage}
+use Rattle.pst_cli.specs.Output.{rules_of, replied, printed, Outputs, OfVerdict, Accepting, Refusing, StopsInPiece, StopsBeforePiece, StopsInPage}
 use Rattle.pst_cli.specs.Reading.{GivesPast, GivesUntil, IsTextOf, IsNear, ReadsText}
-use Rattle.pst_cli.specs.Rows.{IsReadable, IsWithin, HasRead, ReadsUpTo, ReadsAll, Writes, CutOff, StopsReading, StopsWriting, LacksProgram, LacksRoom, Row}
+use Rattle.pst_cli.specs.Rows.{IsReadable, IsWithin, HasRead, ReadsUpTo, ReadsAll, Writes, CutOff, StopsReading, StopsScript, StopsWriting, LacksProgram, LacksReply, LacksRoom, Row, IsComplete, IsServable}
 use Rattle.pst_cli.specs.Serving.{ReadsNothing, ServesInPart, Serves, Prints, status_of}
 use Rattle.pst_cli.proofs.Counting.{bytes_of-append, lines_least, lines_front, cut_bytes, whole_bytes, near_program}
 use Rattle.pst_cli.proofs.Serving.{job_of_page}
@@ -139,6 +141,7 @@ long_row P c input left lines g off p = long_by P c input g.before g.more left l
 lacks_room : (k : Kept) (job : Job) (input : List ℕ) (left : Option (List ℕ)) (out : List ℕ) → LacksProgram k input left out → LacksRoom k job input left out
 lacks_room k Run input left out p = inl p
 lacks_room k Replay input left out p = inl p
+lacks_room k Line input left out p = inl p
 lacks_room k Check input left out p = p
 lacks_room k Code input left out p = p
 
@@ -255,12 +258,64 @@ pub told_text : (input text separator : List ℕ) (after : Option (List ℕ)) �
 told_text input text separator None told = absurd told
 told_text input text separator (Some rest) told = ap (λ c. c.text) told
 
+-- ---- a job that answers the script
+
+abbrev pub IsAnswering : Job → Type 0
+IsAnswering Run = Unit {0}
+IsAnswering Replay = Unit {0}
+IsAnswering Line = Unit {0}
+IsAnswering Check = ⊥
+IsAnswering Code = ⊥
+
+answers_within : (job : Job) (input : List ℕ) → IsAnswering job → length input ≤ MOST_INPUT → IsWithin job input
+answers_within Run input is within = within
+answers_within Replay input is within = within
+answers_within Line input is within = within
+answers_within Check input is within = absurd is
+answers_within Code input is within = absurd is
+
+answers_read : (job : Job) (input : List ℕ) (left : Option (List ℕ)) → IsAnswering job → HasRead (length input) input left → ReadsAll job input left
+answers_read Run input left is read = read
+answers_read Replay input left is read = read
+answers_read Line input left is read = read
+answers_read Check input left is read = absurd is
+answers_read Code input left is read = absurd is
+
+answers_written : (Is : Verdict → Type 0) (job : Job) (c : CutInput) (out : List ℕ) → IsAnswering job → Outputs Is IsAll c.text (replied (rules_of job) c.script) out → Writes Is IsAll job c out
+answers_written Is Run c out is w = w
+answers_written Is Replay c out is w = w
+answers_written Is Line c out is w = w
+answers_written Is Check c out is w = absurd is
+answers_written Is Code c out is w = absurd is
+
+answers_cut : (k : Kept) (job : Job) (c : CutInput) (out : List ℕ) → IsAnswering job → Outputs (Accepting k c.script) IsAll c.text (replied (rules_of job) c.script) out → CutOff k (Some c) job out
+answers_cut k Run c out is w = w
+answers_cut k Replay c out is w = w
+answers_cut k Line c out is w = w
+answers_cut k Check c out is w = absurd is
+answers_cut k Code c out is w = absurd is
+
+answers_stop : (k : Kept) (job : Job) (input : List ℕ) (left : Option (List ℕ)) (out : List ℕ) → IsAnswering job → StopsScript (rules_of job) k input left out → StopsWriting k job input left out
+answers_stop k Run input left out is w = w
+answers_stop k Replay input left out is w = w
+answers_stop k Line input left out is w = w
+answers_stop k Check input left out is w = absurd is
+answers_stop k Code input left out is w = absurd is
+
+answers_lack : (k : Kept) (job : Job) (input : List ℕ) (left : Option (List ℕ)) (out : List ℕ) → IsAnswering job → IsReadable input → LacksReply (rules_of job) k input left out → LacksRoom k job input left out
+answers_lack k Run input left out is read w = inr (read, w)
+answers_lack k Replay input left out is read w = inr (read, w)
+answers_lack k Line input left out is read w = inr (read, w)
+answers_lack k Check input left out is read w = absurd is
+answers_lack k Code input left out is read w = absurd is
+
 -- ---- the script was answered
 
 -- the output of the same verdict for another script
-pub refused_alike : (k : Kept) (input text out : List ℕ) (c : CutInput) → Outputs (Refusing k) IsAll text (replied []) out → c.text ≡ text → Writes (Refusing k) IsAll Run c out
-refused_alike k input text out c (Accepted items program, judged, never, written) e = absurd never
-refused_alike k input text out c (IsRefusedBy fault, judged, same, written) e = (IsRefusedBy fault, subst (λ t. Judged t (IsRefusedBy fault)) (sym e) judged, same, written)
+pub refused_alike : (k : Kept) (job : Job) (input text out : List ℕ) (c : CutInput) → IsAnswering job → Outputs (Refusing k) IsAll text (replied (rules_of job) []) out → c.text ≡ text → Writes (Refusing k) IsAll job c out
+refused_alike k job input text out c is (Accepted items program, judged, never, written) e = absurd never
+refused_alike k job input text out c is (IsRefusedBy fault, judged, same, written) e =
+    answers_written (Refusing k) job c out is (IsRefusedBy fault, subst (λ t. Judged t (IsRefusedBy fault)) (sym e) judged, same, written)
 
 pub of_text : (text text' : List ℕ) (P : Verdict → Type 0) → text' ≡ text → OfVerdict text P → OfVerdict text' P
 of_text text text' P e w = subst (λ t. OfVerdict t P) (sym e) w
@@ -285,98 +340,83 @@ whole_input t u input rest text (Some more) given r g over end most =
       parts = r.told ∙ ap (λ l. record { text = text; separator = r.separator; script = l }) (g.told ∙ ap (λ l. given ++ lines_of l) none ∙ append-nil given);
     }
 
-done_row : (k : Kept) (t u : InputState) (input rest text out : List ℕ) (left : Option (List ℕ)) (given : List (List ℕ)) → ReadsText fresh (Some input) t (Some rest) text → Gives t (Some rest) u left given → IsOver u → IsAtEnd left
-    → bytes_read u ≤ MOST_INPUT → Outputs (Accepting k given) IsAll text (replied given) out → Row Done k Run input left out
-done_row k t u input rest text out left given r g over end most w =
-    let whole = whole_input t u input rest text left given r g over end most in
-    (whole.within, whole.read, subst (λ (c : CutInput). Writes (Accepting k c.script) IsAll Run c out) (sym whole.parts) w)
-
 pub was_going : (a b : Bool) → (IsTrue a → IsTrue b) → b ≡ false → a ≡ false
 was_going true b still going = let ended = still refl in cc
 was_going false b still going = refl
-
-script_stops : (k : Kept) (t u : InputState) (input rest text out : List ℕ) (left : Option (List ℕ)) (given : List (List ℕ)) → ReadsText fresh (Some input) t (Some rest) text → Gives t (Some rest) u left given → IsCutOff u
-    → bytes_read u ≤ MOST_INPUT → Outputs (Accepting k given) IsAll text (replied given) out → StopsReading k Run input left out
-script_stops k t u input rest text out left given r g off most w =
-    let all = gives_then fresh (Some input) t (Some rest) u left r.lines given r.gives g in
-    stops_reading k Run u input left (r.lines ++ given) out all off most
-    (subst (λ o. CutOff k o Run out) (sym (cuts t input rest text r (was_going t.ended u.ended g.still off.1) given)) w)
-
-script_long : (k : Kept) (t u : InputState) (input rest text out : List ℕ) (left : Option (List ℕ)) (given : List (List ℕ)) → ReadsText fresh (Some input) t (Some rest) text → GivesPast t (Some rest) u left given → IsCutOff u
-    → Outputs (Accepting k given) IsAll text (replied given) out → Row TooLong k Run input left out
-script_long k t u input rest text out left given r g off w =
-    let all = gives_then fresh (Some input) t (Some rest) u g.before r.lines given r.gives g.gives in
-    long_by (λ o. CutOff k o Run out) u input g.before g.more left (r.lines ++ given) all off g.past g.full
-    (subst (λ o. CutOff k o Run out) (sym (cuts t input rest text r (was_going t.ended u.ended g.gives.still off.1) given)) w)
 
 -- the program was read, and nothing since
 pub after_program : (t u : InputState) (input rest text : List ℕ) (left : Option (List ℕ)) → ReadsText fresh (Some input) t (Some rest) text → EndsWhereSeen t (Some rest) → bytes_read t ≤ MOST_INPUT
     → ReadsNothing t (Some rest) u left → ReadsUpTo [] input left
 after_program t u input rest text left r seen most same = subst (λ l. ReadsUpTo [] input l) (sym same.1) (reads_program t input (Some rest) text r seen most)
 
-memory_row : (k : Kept) (t u : InputState) (input rest text out : List ℕ) (left : Option (List ℕ)) → ReadsText fresh (Some input) t (Some rest) text → EndsWhereSeen t (Some rest) → bytes_read t ≤ MOST_INPUT
-    → bytes_read u ≤ MOST_INPUT → ServesInPart k t (Some rest) u left text out → Row Memory k Run input left out
-memory_row k t u input rest text out left r seen most most' (inl (none, same, reads)) = inr (inl (lacks_program k input left out (after_program t u input rest text left r seen most reads) none same))
-memory_row k t u input rest text out left r seen most most' (inr (inl (given, g, off, w))) = inl (script_stops k t u input rest text out left given r g off most' w)
-memory_row k t u input rest text out left r seen most most' (inr (inr (given, g, near, w))) =
-    inr (inr (
-      readable t input (Some rest) text r seen most,
-      (given, reads_up_to t u input rest text left given r seen g near most', of_text text (cut_of input).text _ (told_text input text r.separator (pending t (Some rest)) r.told) w),
-    ))
+-- the script behind a program was read and answered by a job
+module _ (k : Kept) (job : Job) (is : IsAnswering job) (t u : InputState) (input rest text : List ℕ) (left : Option (List ℕ)) (r : ReadsText fresh (Some input) t (Some rest) text)
+    (seen : EndsWhereSeen t (Some rest)) (most : bytes_read t ≤ MOST_INPUT) (most' : bytes_read u ≤ MOST_INPUT) where
+  done_row : (given : List (List ℕ)) (out : List ℕ) → Gives t (Some rest) u left given → IsOver u → IsAtEnd left → Outputs (Accepting k given) IsAll text (replied (rules_of job) given) out → Row Done k job input left out
+  done_row given out g over end w =
+      let whole = whole_input t u input rest text left given r g over end most' in (
+        answers_within job input is whole.within,
+        answers_read job input left is whole.read,
+        subst (λ (c : CutInput). Writes (Accepting k c.script) IsAll job c out) (sym whole.parts) (answers_written (Accepting k given) job (record { text = text; separator = r.separator; script = given }) out is w),
+      )
 
-served_row : (k : Kept) (status : Status) (t u : InputState) (input rest text out : List ℕ) (left : Option (List ℕ)) → ReadsText fresh (Some input) t (Some rest) text → EndsWhereSeen t (Some rest) → bytes_read t ≤ MOST_INPUT
-    → bytes_read u ≤ MOST_INPUT → Serves status k t (Some rest) u left text out → Row status k Run input left out
-served_row k Done t u input rest text out left r seen most most' (given, g, over, end, w) = done_row k t u input rest text out left given r g over end most' w
-served_row k Refused t u input rest text out left r seen most most' (same, w) = (
-  readable t input (Some rest) text r seen most,
-  after_program t u input rest text left r seen most same,
-  refused_alike k input text out (cut_of input) w (told_text input text r.separator (pending t (Some rest)) r.told),
-)
-served_row k WriteFault t u input rest text out left r seen most most' (given, g, near, w) = (
-  readable t input (Some rest) text r seen most,
-  (given, reads_up_to t u input rest text left given r seen g near most', of_text text (cut_of input).text _ (told_text input text r.separator (pending t (Some rest)) r.told) w),
-)
-served_row k ReadFault t u input rest text out left r seen most most' (given, g, off, w) = script_stops k t u input rest text out left given r g off most' w
-served_row k TooLong t u input rest text out left r seen most most' (given, g, off, w) = script_long k t u input rest text out left given r g off w
-served_row k Memory t u input rest text out left r seen most most' w = memory_row k t u input rest text out left r seen most most' w
-served_row k Usage t u input rest text out left r seen most most' never = absurd never
+  cut_off : (given : List (List ℕ)) (out : List ℕ) → t.ended ≡ false → Outputs (Accepting k given) IsAll text (replied (rules_of job) given) out → CutOff k (cut (r.lines ++ given)) job out
+  cut_off given out going w =
+      subst (λ o. CutOff k o job out) (sym (cuts t input rest text r going given)) (answers_cut k job (record { text = text; separator = r.separator; script = given }) out is w)
 
-served : (k : Kept) (status : Status) (t u : InputState) (input text : List ℕ) (mid left sink sink' : Option (List ℕ)) → ReadsText fresh (Some input) t mid text → EndsWhereSeen t mid → bytes_read t ≤ MOST_INPUT
-    → bytes_read u ≤ MOST_INPUT → (out : List ℕ) × Appends sink sink' out × Serves status k t mid u left text out → (out : List ℕ) × Appends sink sink' out × Row status k Run input left out
-served k status t u input text None left sink sink' r seen most most' s = absurd r.told
-served k status t u input text (Some rest) left sink sink' r seen most most' s =
-    (s.0, s.1, served_row k status t u input rest text s.0 left r seen most most' s.2)
+  script_stops : (given : List (List ℕ)) (out : List ℕ) → Gives t (Some rest) u left given → IsCutOff u → Outputs (Accepting k given) IsAll text (replied (rules_of job) given) out → StopsReading k job input left out
+  script_stops given out g off w =
+      let all = gives_then fresh (Some input) t (Some rest) u left r.lines given r.gives g in
+      stops_reading k job u input left (r.lines ++ given) out all off most' (cut_off given out (was_going t.ended u.ended g.still off.1) w)
+
+  script_long : (given : List (List ℕ)) (out : List ℕ) → GivesPast t (Some rest) u left given → IsCutOff u → Outputs (Accepting k given) IsAll text (replied (rules_of job) given) out → Row TooLong k job input left out
+  script_long given out g off w =
+      let all = gives_then fresh (Some input) t (Some rest) u g.before r.lines given r.gives g.gives in
+      long_by (λ o. CutOff k o job out) u input g.before g.more left (r.lines ++ given) all off g.past g.full (cut_off given out (was_going t.ended u.ended g.gives.still off.1) w)
+
+  -- what holds of the verdict after these lines
+  up_to_line : (P : List (List ℕ) → Verdict → Type 0) (given : List (List ℕ)) → Gives t (Some rest) u left given → IsNear u → OfVerdict text (P given)
+      → (given : List (List ℕ)) × ReadsUpTo given input left × OfVerdict (cut_of input).text (P given)
+  up_to_line P given g near w =
+      (given, reads_up_to t u input rest text left given r seen g near most', of_text text (cut_of input).text (P given) (told_text input text r.separator (pending t (Some rest)) r.told) w)
+
+  memory_row : (out : List ℕ) → ServesInPart (rules_of job) k t (Some rest) u left text out → Row Memory k job input left out
+  memory_row out (inl (none, same, reads)) =
+      inr (lacks_room k job input left out (lacks_program k input left out (after_program t u input rest text left r seen most reads) none same))
+  memory_row out (inr (inl (given, g, off, w))) = inl (script_stops given out g off w)
+  memory_row out (inr (inr (given, g, near, w))) =
+      inr (answers_lack k job input left out is (readable t input (Some rest) text r seen most) (up_to_line (λ given verdict. StopsBeforePiece (rules_of job) k given verdict out) given g near w))
+
+  served_row : (status : Status) (out : List ℕ) → Serves status (rules_of job) k t (Some rest) u left text out → Row status k job input left out
+  served_row Done out (given, g, over, end, w) = done_row given out g over end w
+  served_row Refused out (same, w) = (
+    readable t input (Some rest) text r seen most,
+    after_program t u input rest text left r seen most same,
+    refused_alike k job input text out (cut_of input) is w (told_text input text r.separator (pending t (Some rest)) r.told),
+  )
+  served_row WriteFault out (given, g, near, w) = (
+    readable t input (Some rest) text r seen most,
+    answers_stop k job input left out is (up_to_line (λ given verdict. StopsInPiece (rules_of job) k given verdict out) given g near w),
+  )
+  served_row ReadFault out (given, g, off, w) = script_stops given out g off w
+  served_row TooLong out (given, g, off, w) = script_long given out g off w
+  served_row Memory out w = memory_row out w
+  served_row Usage out never = absurd never
+
+served : (k : Kept) (job : Job) → IsAnswering job → (status : Status) (t u : InputState) (input text : List ℕ) (mid left sink sink' : Option (List ℕ)) → ReadsText fresh (Some input) t mid text → EndsWhereSeen t mid
+    → bytes_read t ≤ MOST_INPUT → bytes_read u ≤ MOST_INPUT → (out : List ℕ) × Appends sink sink' out × Serves status (rules_of job) k t mid u left text out
+    → (out : List ℕ) × Appends sink sink' out × Row status k job input left out
+served k job is status t u input text None left sink sink' r seen most most' s = absurd r.told
+served k job is status t u input text (Some rest) left sink sink' r seen most most' (out, written, w) =
+    (out, written, served_row k job is t u input rest text left r seen most most' status out w)
 
 -- the script was read and answered
-pub text_served : (k : Kept) (status : Status) (a t u : InputState) (left mid left' sink sink' : Option (List ℕ)) (text : List ℕ) → a ≡ fresh → ReadsText a left t mid text → EndsWhereSeen t mid → bytes_read t ≤ MOST_INPUT
-    → bytes_read u ≤ MOST_INPUT → (out : List ℕ) × Appends sink sink' out × Serves status k t mid u left' text out
-    → IfSome left (λ input. (out : List ℕ) × Appends sink sink' out × Row status k Run input left' out)
-text_served k status a t u None mid left' sink sink' text new r seen most most' s = tt
-text_served k status a t u (Some input) mid left' sink sink' text new r seen most most' s =
-    served k status t u input text mid left' sink sink' (subst (λ v. ReadsText v (Some input) t mid text) new r) seen most most' s
-
-cut_replayed : (k : Kept) (o : Option CutInput) (out : List ℕ) → CutOff k o Run out → CutOff k o Replay out
-cut_replayed k None out off = off
-cut_replayed k (Some c) out off = off
-
-stop_replayed : (k : Kept) (input : List ℕ) (left : Option (List ℕ)) (out : List ℕ) → StopsReading k Run input left out → StopsReading k Replay input left out
-stop_replayed k input left out (n, read, off) = (n, read, cut_replayed k (cut (whole_lines (take n input))) out off)
-
-replayed : (k : Kept) (status : Status) (input out : List ℕ) (left : Option (List ℕ)) → Row status k Run input left out → Row status k Replay input left out
-replayed k Done input out left row = row
-replayed k Refused input out left row = row
-replayed k WriteFault input out left row = row
-replayed k ReadFault input out left row = stop_replayed k input left out row
-replayed k TooLong input out left (long, rest, off) = (long, rest, cut_replayed k (cut (whole_lines (take MOST_INPUT input))) out off)
-replayed k Memory input out left (inl row) = inl (stop_replayed k input left out row)
-replayed k Memory input out left (inr row) = inr row
-replayed k Usage input out left row = row
-
--- the same by replaying
-pub text_replayed : (k : Kept) (status : Status) (left left' sink sink' : Option (List ℕ)) → IfSome left (λ input. (out : List ℕ) × Appends sink sink' out × Row status k Run input left' out)
-    → IfSome left (λ input. (out : List ℕ) × Appends sink sink' out × Row status k Replay input left' out)
-text_replayed k status None left' sink sink' p = tt
-text_replayed k status (Some input) left' sink sink' (out, written, row) = (out, written, replayed k status input out left' row)
+pub text_served : (k : Kept) (job : Job) → IsAnswering job → (status : Status) (a t u : InputState) (left mid left' sink sink' : Option (List ℕ)) (text : List ℕ) → a ≡ fresh → ReadsText a left t mid text
+    → EndsWhereSeen t mid → bytes_read t ≤ MOST_INPUT → bytes_read u ≤ MOST_INPUT → (out : List ℕ) × Appends sink sink' out × Serves status (rules_of job) k t mid u left' text out
+    → IfSome left (λ input. (out : List ℕ) × Appends sink sink' out × Row status k job input left' out)
+text_served k job is status a t u None mid left' sink sink' text new r seen most most' s = tt
+text_served k job is status a t u (Some input) mid left' sink sink' text new r seen most most' s =
+    served k job is status t u input text mid left' sink sink' (subst (λ v. ReadsText v (Some input) t mid text) new r) seen most most' s
 
 -- ---- a page was written
 
@@ -435,3 +475,45 @@ pub text_printed : (status : Status) (P : Type 0) → P → (page : Page) (a t :
 text_printed status P p page a t None left' sink sink' text new r seen most w = tt
 text_printed status P p page a t (Some input) left' sink sink' text new r seen most (out, written, w) =
     (out, written, printed_row status P p page t input text out left' (subst (λ v. ReadsText v (Some input) t left' text) new r) seen most w)
+
+-- ---- how a call ends in which neither the source nor the sink failed
+
+cut_printed : (k : Kept) (page : Page) (o : Option CutInput) (out : List ℕ) → IsSome o → CutOff k o (job_of_page page) out → ⊥
+cut_printed k page None out some off = absurd (cc)
+cut_printed k Canonical (Some c) out some off = off
+cut_printed k Listing (Some c) out some off = off
+
+too_many : (input : List ℕ) → length input ≤ MOST_INPUT → MOST_INPUT < length input → ⊥
+too_many input within long = let bad : suc zero ≡ zero = omega (arith, within, long) in absurd (cc)
+
+not_long : (k : Kept) (job : Job) (input out : List ℕ) → IsWithin job input → MOST_INPUT < length input → CutOff k (cut (whole_lines (take MOST_INPUT input))) job out → ⊥
+not_long k Run input out within long off = too_many input within long
+not_long k Replay input out within long off = too_many input within long
+not_long k Line input out within long off = too_many input within long
+not_long k Check input out (inl within) long off = too_many input within long
+not_long k Check input out (inr some) long off = cut_printed k Canonical (cut (whole_lines (take MOST_INPUT input))) out some off
+not_long k Code input out (inl within) long off = too_many input within long
+not_long k Code input out (inr some) long off = cut_printed k Listing (cut (whole_lines (take MOST_INPUT input))) out some off
+
+complete : (k : Kept) (status : Status) (job : Job) (input : List ℕ) (left : Option (List ℕ)) (out : List ℕ) → IsWithin job input → (status ≡ ReadFault → ⊥) → (status ≡ WriteFault → ⊥)
+    → Row status k job input left out → IsComplete status
+complete k Done job input left out within read write row = tt
+complete k Refused job input left out within read write row = tt
+complete k Memory job input left out within read write row = tt
+complete k ReadFault job input left out within read write row = read refl
+complete k WriteFault job input left out within read write row = write refl
+complete k TooLong job input left out within read write (long, rest, off) = not_long k job input out within long off
+complete k Usage job input left out within read write never = never
+
+-- the words name this job
+pub named : (o p : Option Task) (job : Job) → o ≡ p → o ≡ Some (Input job) → p ≡ Some (Input job)
+named o p job same is = sym same ∙ is
+
+pub one_job : (o : Option Task) (a b : Job) → o ≡ Some (Input a) → o ≡ Some (Input b) → a ≡ b
+one_job o a b is is' = cc
+
+pub completes : (k : Kept) (status : Status) (job : Job) (o : Option Task) (left left' sink sink' : Option (List ℕ)) (R W : Type 0) → o ≡ Some (Input job) → (status ≡ ReadFault → R) → (status ≡ WriteFault → W)
+    → IfSome left (λ input. (out : List ℕ) × Appends sink sink' out × Row status k job input left' out) → IfSome left (λ input. IsServable o input → (R → ⊥) → (W → ⊥) → IsComplete status)
+completes k status job o None left' sink sink' R W is read write p = tt
+completes k status job o (Some input) left' sink sink' R W is read write (out, written, row) = λ servable sound whole.
+    complete k status job input left' out (subst (λ t. IsServable t input) is servable) (λ e. sound (read e)) (λ e. whole (write e)) row

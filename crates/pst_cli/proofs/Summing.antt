@@ -5,23 +5,23 @@ use Rattle.pst_script.specs.Commands.{reading}
 use Rattle.pst_history.specs.Meaning.{Meaning}
 use Rattle.pst_history.specs.History.{History}
 use Rattle.pst_cli.specs.Pieces.{Answering, state_after, AfterSome}
-use Rattle.pst_cli.specs.Script.{answer_of, next_of, script_of}
+use Rattle.pst_cli.specs.Script.{Rules, answer_of, next_of, script_of}
 use Rattle.pst_cli.specs.Bench.{printed_by, printed_from}
 use Rattle.pst_cli.proofs.Writing.{state_more}
 
-printed_from-push : (m : Meaning) (h : History) (given : List (List ℕ)) (line : List ℕ)
-    → printed_from m h (given ++ line ∷ []) ≡ printed_from m h given ++ printed_by (answer_of m (state_after (script_of m) h given) (reading line))
-printed_from-push m h [] line = append-nil _
-printed_from-push m h (first ∷ given) line =
-    ap (λ l. printed_by (answer_of m h (reading first)) ++ l) (printed_from-push m (next_of m h (reading first)) given line)
-    ∙ sym (append_assoc (printed_by (answer_of m h (reading first))) (printed_from m (next_of m h (reading first)) given) _)
+printed_from-push : (rules : Rules) (m : Meaning) (h : History) (given : List (List ℕ)) (line : List ℕ)
+    → printed_from rules m h (given ++ line ∷ []) ≡ printed_from rules m h given ++ printed_by (answer_of rules m (state_after (script_of rules m) h given) (reading line))
+printed_from-push rules m h [] line = append-nil _
+printed_from-push rules m h (first ∷ given) line =
+    ap (λ l. printed_by (answer_of rules m h (reading first)) ++ l) (printed_from-push rules m (next_of rules m h (reading first)) given line)
+    ∙ sym (append_assoc (printed_by (answer_of rules m h (reading first))) (printed_from rules m (next_of rules m h (reading first)) given) _)
 
 -- one more line was summed
-pub sum_more : (m : Meaning) (h : History) (given : List (List ℕ)) (line : List ℕ) (sum all : ℤ) → sum ≡ fold ◌+ℤ◌ (pos 0) (printed_from m h given)
-    → all ≡ fold ◌+ℤ◌ sum (printed_by (answer_of m (state_after (script_of m) h given) (reading line))) → all ≡ fold ◌+ℤ◌ (pos 0) (printed_from m h (given ++ line ∷ []))
-sum_more m h given line sum all before more =
-    let now = printed_by (answer_of m (state_after (script_of m) h given) (reading line)) in
-    more ∙ ap (λ n. fold ◌+ℤ◌ n now) before ∙ sym (ap (fold ◌+ℤ◌ (pos 0)) (printed_from-push m h given line) ∙ fold-append ◌+ℤ◌ (pos 0) (printed_from m h given) now)
+pub sum_more : (rules : Rules) (m : Meaning) (h : History) (given : List (List ℕ)) (line : List ℕ) (sum all : ℤ) → sum ≡ fold ◌+ℤ◌ (pos 0) (printed_from rules m h given)
+    → all ≡ fold ◌+ℤ◌ sum (printed_by (answer_of rules m (state_after (script_of rules m) h given) (reading line))) → all ≡ fold ◌+ℤ◌ (pos 0) (printed_from rules m h (given ++ line ∷ []))
+sum_more rules m h given line sum all before more =
+    let now = printed_by (answer_of rules m (state_after (script_of rules m) h given) (reading line)) in
+    more ∙ ap (λ n. fold ◌+ℤ◌ n now) before ∙ sym (ap (fold ◌+ℤ◌ (pos 0)) (printed_from-push rules m h given line) ∙ fold-append ◌+ℤ◌ (pos 0) (printed_from rules m h given) now)
 
 -- one line further
 pub line_more : (all given behind rest : List (List ℕ)) (line : List ℕ) → all ≡ given ++ rest → rest ≡ line ∷ behind → all ≡ (given ++ line ∷ []) ++ behind

@@ -29,6 +29,7 @@ use Rattle.pst_cli.specs.declared.stop.Stop.TheVariants as stop
 use Rattle.pst_cli.specs.Input.{CutInput, cut, cut_of}
 use Rattle.pst_cli.specs.Pieces.{Answering, state_after, BreaksIn, IsAll, IsPartOf}
 use Rattle.pst_cli.specs.Verdict.{Verdict, Accepted, Refused as IsRefusedBy, fault_text}
+use Rattle.pst_cli.specs.Script.{by_tree}
 use Rattle.pst_cli.specs.Kept.{Kept, history_after}
 use Rattle.pst_cli.specs.Output.{routines_in, replied, Outputs, OfVerdict, Accepting, Refusing}
 use Rattle.pst_cli.specs.Reading.{GivesPast, IsNear}
@@ -75,7 +76,7 @@ WhereThere s version Is out =
 abbrev pub Answered : Kept → List (List ℕ) → (Program → Meaning → History → List ℕ → Type 0) → Verdict → List ℕ → Type 0
 Answered k lines Told (Accepted items named) out =
     let m = direct (routines_in named) in
-    k.leaves m lines × ((program : Program) × (program_of program ≡ named) × Told program m (history_after m lines) out)
+    k.leaves m lines × ((program : Program) × (program_of program ≡ named) × Told program m (history_after by_tree m lines) out)
 Answered k lines Told (IsRefusedBy fault) out = ⊥
 
 -- all of the answer
@@ -166,7 +167,7 @@ StopsAsking untouched leaves breaks stop.Memory a left b left' =
 -- what comes of a question about the script of a program: an answer behind the last line
 abbrev pub Finds : Kept → Program → Meaning → Question → (path : List ℕ) → Result (List ℕ) Stop → InputState → Option (List ℕ) → InputState → Option (List ℕ) → Type 0
 Finds k program m question path (Ok text) a left b left' =
-    (lines : List (List ℕ)) × GivesAll a left b left' lines × k.leaves m lines × Tells program m (history_after m lines) question path text
+    (lines : List (List ℕ)) × GivesAll a left b left' lines × k.leaves m lines × Tells program m (history_after by_tree m lines) question path text
 Finds k program m question path (Err s) a left b left' = StopsAsking k.untouched (k.leaves m) (k.breaks m) s a left b left'
 
 -- a text is that of a program whose script stopped so, or it lacked room for its program or the line of its fault
@@ -178,7 +179,7 @@ StopsText k text s a left b left' =
 abbrev pub Asks : Status → Kept → Question → (path : List ℕ) → InputState → Option (List ℕ) → InputState → Option (List ℕ) → List ℕ → List ℕ → Type 0
 Asks Done k question path a left b left' text out =
     (lines : List (List ℕ)) × GivesAll a left b left' lines × OfVerdict text (λ verdict. Answered k lines (IsAnswer question path) verdict out)
-Asks Refused k question path a left b left' text out = ReadsNothing a left b left' × Outputs (Refusing k) IsAll text (replied []) out
+Asks Refused k question path a left b left' text out = ReadsNothing a left b left' × Outputs (Refusing k) IsAll text (replied by_tree []) out
 Asks WriteFault k question path a left b left' text out =
     (ReadsNothing a left b left' × OfVerdict text (λ verdict. StopsInFault k verdict out))
     ⊎ ((lines : List (List ℕ)) × GivesAll a left b left' lines × OfVerdict text (λ verdict. Answered k lines (IsPartOfAnswer question path) verdict out))

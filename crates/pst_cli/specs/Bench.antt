@@ -17,7 +17,7 @@ use Rattle.pst_store.specs.Whole.{nodes_in}
 use Rattle.pst_cli.specs.declared.status.Status.{Status}
 use Rattle.pst_cli.specs.declared.status.Status.TheVariants.{Done, ReadFault, WriteFault, Usage, Refused, TooLong, Memory}
 use Rattle.pst_cli.specs.Pieces.{AfterSome, IsPartOf}
-use Rattle.pst_cli.specs.Script.{answer_of, next_of, script_of}
+use Rattle.pst_cli.specs.Script.{Rules, by_tree, answer_of, next_of, script_of}
 use Rattle.pst_cli.specs.Kept.{first_history, history_after}
 use Rattle.pst_cli.specs.Verdict.{Verdict, Accepted, Refused as IsRefusedBy, fault_text}
 use Rattle.pst_cli.specs.Output.{routines_in, OfVerdict}
@@ -36,6 +36,7 @@ printed_in (answer.Dropped run) = []
 printed_in (answer.BudgetSet charges) = []
 printed_in (answer.VersionList parents) = []
 printed_in (answer.StatsAre counts) = []
+printed_in (answer.LineStatsAre counts) = []
 printed_in (answer.Refused refusal) = []
 
 -- a line may have no reply
@@ -44,9 +45,9 @@ printed_by None = []
 printed_by (Some r) = printed_in r
 
 -- in the replies to lines, from a history on
-abbrev pub printed_from : Meaning → History → List (List ℕ) → List ℤ
-printed_from m h [] = []
-printed_from m h (line ∷ lines) = printed_by (answer_of m h (reading line)) ++ printed_from m (next_of m h (reading line)) lines
+abbrev pub printed_from : Rules → Meaning → History → List (List ℕ) → List ℤ
+printed_from rules m h [] = []
+printed_from rules m h (line ∷ lines) = printed_by (answer_of rules m h (reading line)) ++ printed_from rules m (next_of rules m h (reading line)) lines
 
 -- ---- the summary
 
@@ -62,8 +63,8 @@ bench_lines number = lines_of (script SIZE number)
 -- the summary of the history after lines, of the replies to them, and of the store that is left
 abbrev pub summary_of : Meaning → List (List ℕ) → Option Stored → List ℕ
 summary_of m lines store =
-    let h = history_after m lines in
-    summary (version_count h) (text_of (reply m h Stats)) (length (nodes_in store)) (fold ◌+ℤ◌ (pos 0) (printed_from m (first_history m) lines))
+    let h = history_after by_tree m lines in
+    summary (version_count h) (text_of (reply m h Stats)) (length (nodes_in store)) (fold ◌+ℤ◌ (pos 0) (printed_from by_tree m (first_history m) lines))
 
 -- ---- the table, for the lines of the script, the store that was handed in and the one that is left
 
@@ -71,7 +72,7 @@ summary_of m lines store =
 abbrev pub EndsBench : List (List ℕ) → Option Stored → List ℕ → Verdict → Type 0
 EndsBench lines new out (Accepted items program) =
     let m = direct (routines_in program) in
-    IsLeft m new (history_after m lines) × (out ≡ summary_of m lines new)
+    IsLeft m new (history_after by_tree m lines) × (out ≡ summary_of m lines new)
 EndsBench lines new out (IsRefusedBy fault) = ⊥
 
 -- the program is refused by the line of its fault
@@ -83,14 +84,14 @@ RefusesBench old new out (IsRefusedBy fault) = (new ≡ old) × (out ≡ fault_t
 abbrev pub StopsBench : List (List ℕ) → (old new : Option Stored) → List ℕ → Verdict → Type 0
 StopsBench lines old new out (Accepted items program) =
     let m = direct (routines_in program) in
-    IsLeft m new (history_after m lines) × IsPartOf (summary_of m lines new) out
+    IsLeft m new (history_after by_tree m lines) × IsPartOf (summary_of m lines new) out
 StopsBench lines old new out (IsRefusedBy fault) = (new ≡ old) × IsPartOf (fault_text fault) out
 
 -- the store has the versions of the history after some first ones of the lines
 abbrev pub BreaksBench : List (List ℕ) → Option Stored → Verdict → Type 0
 BreaksBench lines new (Accepted items program) =
     let m = direct (routines_in program) in
-    AfterSome (script_of m) (first_history m) (IsBroken m new) lines
+    AfterSome (script_of by_tree m) (first_history m) (IsBroken m new) lines
 BreaksBench lines new (IsRefusedBy fault) = ⊥
 
 -- The row of a status, for the text of the program and what was written. Whether the text is refused only a test can show: no clause

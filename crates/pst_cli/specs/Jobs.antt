@@ -6,7 +6,7 @@ use Rattle.pst_base.specs.declared.names.VersionNo.{VersionNo}
 use Rattle.pst_changed.specs.Path.{is_path}
 use Rattle.pst_script.specs.Numerals.{number_of as written_number, passing, fits_32_bits}
 use Rattle.pst_cli.specs.declared.job.Job.{Job}
-use Rattle.pst_cli.specs.declared.job.Job.TheVariants.{Run, Replay, Check, Code}
+use Rattle.pst_cli.specs.declared.job.Job.TheVariants.{Run, Replay, Line, Check, Code}
 use Rattle.pst_cli.specs.declared.job.Question.TheVariants.{Dump, Changed}
 use Rattle.pst_cli.specs.declared.job.Task.{Task}
 use Rattle.pst_cli.specs.declared.job.Task.TheVariants.{Input, Bench, Ask}
@@ -17,9 +17,10 @@ abbrev pub job_named : List ℕ → Option Job
 job_named word =
     if bytes_eq word (codes "run") then Some Run
     else (if bytes_eq word (codes "replay") then Some Replay
+    else (if bytes_eq word (codes "line") then Some Line
     else (if bytes_eq word (codes "check") then Some Check
     else (if bytes_eq word (codes "code") then Some Code
-    else None)))
+    else None))))
 
 abbrev pub fits_64_bits : ℕ → Bool
 fits_64_bits n = nat_lt n (2 ^ 64)

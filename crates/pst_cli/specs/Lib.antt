@@ -10,6 +10,7 @@ pub mod Reading
 pub mod Rows
 pub mod Serving
 pub mod Storing
+pub mod Lining
 pub mod Bench
 pub mod Asking
 pub mod Laws

@@ -9,11 +9,11 @@ use Rattle.pst_listing.specs.Listing.{listed}
 use Rattle.pst_history.specs.Meaning.{Meaning}
 use Rattle.pst_history.specs.Direct.{direct}
 use Rattle.pst_cli.specs.declared.job.Job.{Job}
-use Rattle.pst_cli.specs.declared.job.Job.TheVariants.{Run, Replay, Check, Code}
+use Rattle.pst_cli.specs.declared.job.Job.TheVariants.{Run, Replay, Line, Check, Code}
 use Rattle.pst_cli.specs.declared.page.Page.{Page}
 use Rattle.pst_cli.specs.declared.page.Page.TheVariants.{Canonical, Listing}
 use Rattle.pst_cli.specs.Pieces.{pieces_from, IsPartOf, StopsInReply, StopsBeforeReply}
-use Rattle.pst_cli.specs.Script.{script_of}
+use Rattle.pst_cli.specs.Script.{Rules, by_tree, by_line, script_of}
 use Rattle.pst_cli.specs.Kept.{Kept, first_history}
 use Rattle.pst_cli.specs.Verdict.{Verdict, Accepted, Refused, Judged, fault_text}
 
@@ -22,13 +22,13 @@ abbrev pub routines_in : NamedProgram → Routines
 routines_in program = record { shape = program.shape; procedures = program.procedures }
 
 -- the replies to a script, from the history of the opening on in which version 0 is alone
-abbrev pub replies_of : Meaning → List (List ℕ) → List (List ℕ)
-replies_of m script = pieces_from (script_of m) (first_history m) script
+abbrev pub replies_of : Rules → Meaning → List (List ℕ) → List (List ℕ)
+replies_of rules m script = pieces_from (script_of rules m) (first_history m) script
 
 -- the line of the fault, or the replies to the script
-abbrev pub replied : List (List ℕ) → Verdict → List (List ℕ)
-replied script (Refused fault) = fault_text fault ∷ []
-replied script (Accepted items program) = replies_of (direct (routines_in program)) script
+abbrev pub replied : Rules → List (List ℕ) → Verdict → List (List ℕ)
+replied rules script (Refused fault) = fault_text fault ∷ []
+replied rules script (Accepted items program) = replies_of rules (direct (routines_in program)) script
 
 -- the canonical text of a program, or the listing of its code
 abbrev pub page_text : Page → List tree.Item → NamedProgram → List ℕ
@@ -40,9 +40,18 @@ abbrev pub printed : Page → Verdict → List (List ℕ)
 printed page (Refused fault) = fault_text fault ∷ []
 printed page (Accepted items program) = page_text page items program ∷ []
 
+-- How the commands of a script are answered. The jobs that answer none may have any rules.
+abbrev pub rules_of : Job → Rules
+rules_of Run = by_tree
+rules_of Replay = by_tree
+rules_of Line = by_line
+rules_of Check = by_tree
+rules_of Code = by_tree
+
 abbrev pub pieces : Job → List (List ℕ) → Verdict → List (List ℕ)
-pieces Run script verdict = replied script verdict
-pieces Replay script verdict = replied script verdict
+pieces Run script verdict = replied (rules_of Run) script verdict
+pieces Replay script verdict = replied (rules_of Replay) script verdict
+pieces Line script verdict = replied (rules_of Line) script verdict
 pieces Check script verdict = printed Canonical verdict
 pieces Code script verdict = printed Listing verdict
 
@@ -66,18 +75,18 @@ Refusing k (Refused fault) = k.untouched
 
 -- A proper part of the line of the fault is written, before any line of the script is read; or the lines of the script are
 -- carried out and answered but for the last, which is carried out, and a proper part of the reply to it is written.
-abbrev pub StopsInPiece : Kept → List (List ℕ) → Verdict → List ℕ → Type 0
-StopsInPiece k given (Refused fault) out = (given ≡ []) × IsPartOf (fault_text fault) out × k.untouched
-StopsInPiece k given (Accepted items program) out =
+abbrev pub StopsInPiece : Rules → Kept → List (List ℕ) → Verdict → List ℕ → Type 0
+StopsInPiece rules k given (Refused fault) out = (given ≡ []) × IsPartOf (fault_text fault) out × k.untouched
+StopsInPiece rules k given (Accepted items program) out =
     let m = direct (routines_in program) in
-    StopsInReply (script_of m) (first_history m) given out × k.leaves m given
+    StopsInReply (script_of rules m) (first_history m) given out × k.leaves m given
 
 -- the lines of the script are answered but for the last one, in which there was no room
-abbrev pub StopsBeforePiece : Kept → List (List ℕ) → Verdict → List ℕ → Type 0
-StopsBeforePiece k given (Refused fault) out = ⊥
-StopsBeforePiece k given (Accepted items program) out =
+abbrev pub StopsBeforePiece : Rules → Kept → List (List ℕ) → Verdict → List ℕ → Type 0
+StopsBeforePiece rules k given (Refused fault) out = ⊥
+StopsBeforePiece rules k given (Accepted items program) out =
     let m = direct (routines_in program) in
-    StopsBeforeReply (script_of m) (first_history m) given out × k.breaks m given
+    StopsBeforeReply (script_of rules m) (first_history m) given out × k.breaks m given
 
 -- a proper part of the line of the fault or of the page is written
 abbrev pub StopsInPage : Page → Verdict → List ℕ → Type 0

@@ -3,7 +3,7 @@ use Rattle.std.specs.Prelude.{◌≡◌, ℕ, ◌+◌, ◌<◌, ◌≤◌, ◌�
 use Rattle.pst_io.specs.declared.room.TheConstants.{MOST_INPUT, MOST_READ}
 use Rattle.pst_io.specs.Text.{whole_lines}
 use Rattle.pst_cli.specs.declared.job.Job.{Job}
-use Rattle.pst_cli.specs.declared.job.Job.TheVariants.{Run, Replay, Check, Code}
+use Rattle.pst_cli.specs.declared.job.Job.TheVariants.{Run, Replay, Line, Check, Code}
 use Rattle.pst_cli.specs.declared.job.Task.{Task}
 use Rattle.pst_cli.specs.declared.job.Task.TheVariants.{Input, Bench, Ask}
 use Rattle.pst_cli.specs.declared.page.Page.{Page}
@@ -13,8 +13,9 @@ use Rattle.pst_cli.specs.declared.status.Status.TheVariants.{Done, ReadFault, Wr
 use Rattle.pst_cli.specs.Input.{CutInput, cut, cut_of, up_to}
 use Rattle.pst_cli.specs.Pieces.{IsAll}
 use Rattle.pst_cli.specs.Verdict.{Verdict}
+use Rattle.pst_cli.specs.Script.{Rules}
 use Rattle.pst_cli.specs.Kept.{Kept}
-use Rattle.pst_cli.specs.Output.{pieces, Outputs, OfVerdict, Accepting, Refusing, StopsInPiece, StopsBeforePiece, StopsInPage}
+use Rattle.pst_cli.specs.Output.{rules_of, pieces, Outputs, OfVerdict, Accepting, Refusing, StopsInPiece, StopsBeforePiece, StopsInPage}
 
 -- ---- what was read
 
@@ -26,6 +27,7 @@ IsReadable input = (length input ≤ MOST_INPUT) ⊎ IsSome (cut (whole_lines (t
 abbrev pub IsWithin : Job → List ℕ → Type 0
 IsWithin Run input = length input ≤ MOST_INPUT
 IsWithin Replay input = length input ≤ MOST_INPUT
+IsWithin Line input = length input ≤ MOST_INPUT
 IsWithin Check input = IsReadable input
 IsWithin Code input = IsReadable input
 
@@ -49,6 +51,7 @@ pub record ReadsUpTo (given : List (List ℕ)) (input : List ℕ) (left : Option
 abbrev pub ReadsAll : Job → List ℕ → Option (List ℕ) → Type 0
 ReadsAll Run input left = HasRead (length input) input left
 ReadsAll Replay input left = HasRead (length input) input left
+ReadsAll Line input left = HasRead (length input) input left
 ReadsAll Check input left = ReadsUpTo [] input left
 ReadsAll Code input left = ReadsUpTo [] input left
 
@@ -63,6 +66,7 @@ abbrev pub CutOff : Kept → Option CutInput → Job → List ℕ → Type 0
 CutOff k None job out = (out ≡ []) × k.untouched
 CutOff k (Some c) Run out = Writes (Accepting k c.script) IsAll Run c out
 CutOff k (Some c) Replay out = Writes (Accepting k c.script) IsAll Replay c out
+CutOff k (Some c) Line out = Writes (Accepting k c.script) IsAll Line c out
 CutOff k (Some c) Check out = ⊥
 CutOff k (Some c) Code out = ⊥
 
@@ -71,16 +75,18 @@ abbrev pub StopsReading : Kept → Job → List ℕ → Option (List ℕ) → Li
 StopsReading k job input left out = (n : ℕ) × HasRead n input left × CutOff k (cut (whole_lines (take n input))) job out
 
 -- a reply or the line of the fault was not written whole, and nothing was read behind the line whose reply it was
-abbrev pub StopsScript : Kept → List ℕ → Option (List ℕ) → List ℕ → Type 0
-StopsScript k input left out = (given : List (List ℕ)) × ReadsUpTo given input left × OfVerdict (cut_of input).text (λ verdict. StopsInPiece k given verdict out)
+abbrev pub StopsScript : Rules → Kept → List ℕ → Option (List ℕ) → List ℕ → Type 0
+StopsScript rules k input left out =
+    (given : List (List ℕ)) × ReadsUpTo given input left × OfVerdict (cut_of input).text (λ verdict. StopsInPiece rules k given verdict out)
 
 -- a page or the line of the fault was not written whole
 abbrev pub StopsPage : Kept → Page → List ℕ → Option (List ℕ) → List ℕ → Type 0
 StopsPage k page input left out = ReadsUpTo [] input left × OfVerdict (cut_of input).text (λ verdict. StopsInPage page verdict out) × k.untouched
 
 abbrev pub StopsWriting : Kept → Job → List ℕ → Option (List ℕ) → List ℕ → Type 0
-StopsWriting k Run input left out = StopsScript k input left out
-StopsWriting k Replay input left out = StopsScript k input left out
+StopsWriting k Run input left out = StopsScript (rules_of Run) k input left out
+StopsWriting k Replay input left out = StopsScript (rules_of Replay) k input left out
+StopsWriting k Line input left out = StopsScript (rules_of Line) k input left out
 StopsWriting k Check input left out = StopsPage k Canonical input left out
 StopsWriting k Code input left out = StopsPage k Listing input left out
 
@@ -89,12 +95,14 @@ abbrev pub LacksProgram : Kept → List ℕ → Option (List ℕ) → List ℕ �
 LacksProgram k input left out = (out ≡ []) × k.untouched × ((n : ℕ) × HasRead n input left × (n < up_to (cut_of input) [] + MOST_READ))
 
 -- there was no room in a line of the script, and nothing was read behind it
-abbrev pub LacksReply : Kept → List ℕ → Option (List ℕ) → List ℕ → Type 0
-LacksReply k input left out = (given : List (List ℕ)) × ReadsUpTo given input left × OfVerdict (cut_of input).text (λ verdict. StopsBeforePiece k given verdict out)
+abbrev pub LacksReply : Rules → Kept → List ℕ → Option (List ℕ) → List ℕ → Type 0
+LacksReply rules k input left out =
+    (given : List (List ℕ)) × ReadsUpTo given input left × OfVerdict (cut_of input).text (λ verdict. StopsBeforePiece rules k given verdict out)
 
 abbrev pub LacksRoom : Kept → Job → List ℕ → Option (List ℕ) → List ℕ → Type 0
-LacksRoom k Run input left out = LacksProgram k input left out ⊎ (IsReadable input × LacksReply k input left out)
-LacksRoom k Replay input left out = LacksProgram k input left out ⊎ (IsReadable input × LacksReply k input left out)
+LacksRoom k Run input left out = LacksProgram k input left out ⊎ (IsReadable input × LacksReply (rules_of Run) k input left out)
+LacksRoom k Replay input left out = LacksProgram k input left out ⊎ (IsReadable input × LacksReply (rules_of Replay) k input left out)
+LacksRoom k Line input left out = LacksProgram k input left out ⊎ (IsReadable input × LacksReply (rules_of Line) k input left out)
 LacksRoom k Check input left out = LacksProgram k input left out
 LacksRoom k Code input left out = LacksProgram k input left out
 

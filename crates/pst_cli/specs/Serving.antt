@@ -20,6 +20,7 @@ use Rattle.pst_cli.specs.declared.status.Status.{Status}
 use Rattle.pst_cli.specs.declared.status.Status.TheVariants.{Done, ReadFault, WriteFault, Usage, Refused, TooLong, Memory}
 use Rattle.pst_cli.specs.Pieces.{Answering, pieces_from, state_after, IsAll, IsPartOf, StopsInReply, StopsBeforeReply, BreaksIn}
 use Rattle.pst_cli.specs.Verdict.{HasFault, IsAccepted, IsRefused, fault_text}
+use Rattle.pst_cli.specs.Script.{Rules}
 use Rattle.pst_cli.specs.Kept.{Kept}
 use Rattle.pst_cli.specs.Output.{replied, printed, Outputs, OfVerdict, Accepting, Refusing, StopsInPiece, StopsBeforePiece, StopsInPage}
 use Rattle.pst_cli.specs.Reading.{GivesPast, IsNear}
@@ -99,25 +100,25 @@ abbrev pub ReadsNothing : InputState → Option (List ℕ) → InputState → Op
 ReadsNothing a left b left' = (b ≡ a) × (left' ≡ left)
 
 -- there was no room: for the program or the line of its fault; to read on; or in a line
-abbrev pub ServesInPart : Kept → InputState → Option (List ℕ) → InputState → Option (List ℕ) → List ℕ → List ℕ → Type 0
-ServesInPart k a left b left' text out =
+abbrev pub ServesInPart : Rules → Kept → InputState → Option (List ℕ) → InputState → Option (List ℕ) → List ℕ → List ℕ → Type 0
+ServesInPart rules k a left b left' text out =
     ((out ≡ []) × k.untouched × ReadsNothing a left b left')
-    ⊎ (((lines : List (List ℕ)) × Gives a left b left' lines × IsCutOff b × Outputs (Accepting k lines) IsAll text (replied lines) out)
-    ⊎ ((lines : List (List ℕ)) × Gives a left b left' lines × IsNear b × OfVerdict text (λ verdict. StopsBeforePiece k lines verdict out)))
+    ⊎ (((lines : List (List ℕ)) × Gives a left b left' lines × IsCutOff b × Outputs (Accepting k lines) IsAll text (replied rules lines) out)
+    ⊎ ((lines : List (List ℕ)) × Gives a left b left' lines × IsNear b × OfVerdict text (λ verdict. StopsBeforePiece rules k lines verdict out)))
 
 -- what comes of the text of a program whose script is then read and answered
-abbrev pub Serves : Status → Kept → InputState → Option (List ℕ) → InputState → Option (List ℕ) → List ℕ → List ℕ → Type 0
-Serves Done k a left b left' text out =
-    (lines : List (List ℕ)) × Gives a left b left' lines × IsOver b × IsAtEnd left' × Outputs (Accepting k lines) IsAll text (replied lines) out
-Serves Refused k a left b left' text out = ReadsNothing a left b left' × Outputs (Refusing k) IsAll text (replied []) out
-Serves WriteFault k a left b left' text out =
-    (lines : List (List ℕ)) × Gives a left b left' lines × IsNear b × OfVerdict text (λ verdict. StopsInPiece k lines verdict out)
-Serves ReadFault k a left b left' text out =
-    (lines : List (List ℕ)) × Gives a left b left' lines × IsCutOff b × Outputs (Accepting k lines) IsAll text (replied lines) out
-Serves TooLong k a left b left' text out =
-    (lines : List (List ℕ)) × GivesPast a left b left' lines × IsCutOff b × Outputs (Accepting k lines) IsAll text (replied lines) out
-Serves Memory k a left b left' text out = ServesInPart k a left b left' text out
-Serves Usage k a left b left' text out = ⊥
+abbrev pub Serves : Status → Rules → Kept → InputState → Option (List ℕ) → InputState → Option (List ℕ) → List ℕ → List ℕ → Type 0
+Serves Done rules k a left b left' text out =
+    (lines : List (List ℕ)) × Gives a left b left' lines × IsOver b × IsAtEnd left' × Outputs (Accepting k lines) IsAll text (replied rules lines) out
+Serves Refused rules k a left b left' text out = ReadsNothing a left b left' × Outputs (Refusing k) IsAll text (replied rules []) out
+Serves WriteFault rules k a left b left' text out =
+    (lines : List (List ℕ)) × Gives a left b left' lines × IsNear b × OfVerdict text (λ verdict. StopsInPiece rules k lines verdict out)
+Serves ReadFault rules k a left b left' text out =
+    (lines : List (List ℕ)) × Gives a left b left' lines × IsCutOff b × Outputs (Accepting k lines) IsAll text (replied rules lines) out
+Serves TooLong rules k a left b left' text out =
+    (lines : List (List ℕ)) × GivesPast a left b left' lines × IsCutOff b × Outputs (Accepting k lines) IsAll text (replied rules lines) out
+Serves Memory rules k a left b left' text out = ServesInPart rules k a left b left' text out
+Serves Usage rules k a left b left' text out = ⊥
 
 -- what comes of the text of a program that is printed
 abbrev pub Prints : Status → Page → List ℕ → List ℕ → Type 0

@@ -13,8 +13,9 @@ use Rattle.pst_meaning.specs.declared.place.Place.{Place}
 use Rattle.pst_meaning.specs.Store.{Stored}
 use Rattle.pst_store.specs.Whole.{IsBounded, IsSmall, queue_in, state_in}
 use Rattle.pst_cli.specs.declared.job.Job.{Job}
-use Rattle.pst_cli.specs.declared.job.Job.TheVariants.{Run, Replay, Check, Code}
+use Rattle.pst_cli.specs.declared.job.Job.TheVariants.{Run, Replay, Line, Check, Code}
 use Rattle.pst_cli.specs.Kept.{Kept, kept_by, still}
+use Rattle.pst_cli.specs.Output.{rules_of}
 
 -- The store holds each version of the history, with its parent, its run and its heap, and what was made and written is counted;
 -- no node waits to be split, and none is over its capacity; and there are at most as many nodes as what was counted pays for.
@@ -41,7 +42,8 @@ pub record IsRunning {H : Type 0} (program : Program) (engine : Engine H NodeId 
 
 -- `run` leaves the store in a history; every other job leaves it as it was handed in
 abbrev pub kept_in : (old new : Option Stored) → Job → Kept
-kept_in old new Run = kept_by IsLeft IsBroken old new
+kept_in old new Run = kept_by (rules_of Run) IsLeft IsBroken old new
 kept_in old new Replay = still (new ≡ old)
+kept_in old new Line = still (new ≡ old)
 kept_in old new Check = still (new ≡ old)
 kept_in old new Code = still (new ≡ old)

@@ -41,9 +41,9 @@ pub(crate) fn reply_to<X: Session>(
 ) -> Result<Option<Reply>, NoMemory>
     requires { StandForSome X.stands session.old held.old }
     ensures about { X.about session.new ≡ X.about session.old }
-    ensures reply { IfOk result (λ reply. (m : Meaning) (h : History) → X.stands session.old held.old m h → reply ≡ answer_of m h (reading line.now)) }
-    ensures stands { OnOk result ((m : Meaning) (h : History) → X.stands session.old held.old m h → X.stands session.new held.new m (next_of m h (reading line.now))) }
-    ensures breaks { OnErr result ((m : Meaning) (h : History) → X.stands session.old held.old m h → X.breaks m held.new h ⊎ X.breaks m held.new (next_of m h (reading line.now))) }
+    ensures reply { IfOk result (λ reply. (m : Meaning) (h : History) → X.stands session.old held.old m h → reply ≡ answer_of X.rules m h (reading line.now)) }
+    ensures stands { OnOk result ((m : Meaning) (h : History) → X.stands session.old held.old m h → X.stands session.new held.new m (next_of X.rules m h (reading line.now))) }
+    ensures breaks { OnErr result ((m : Meaning) (h : History) → X.stands session.old held.old m h → X.breaks m held.new h ⊎ X.breaks m held.new (next_of X.rules m h (reading line.now))) }
 {
     match read_line(alloc, line) {
         Ok(None) => Ok(None),
@@ -75,9 +75,9 @@ fn piece_for<X: Session>(
     line: &[u8],
 ) -> Result<Option<Text>, NoMemory>
     requires { StandForSome X.stands session.old held.old }
-    ensures piece { IfOk result (λ piece. (m : Meaning) (h : History) → X.stands session.old held.old m h → piece ≡ (script_of m).reply h line.now) }
-    ensures stands { OnOk result ((m : Meaning) (h : History) → X.stands session.old held.old m h → X.stands session.new held.new m ((script_of m).next h line.now)) }
-    ensures breaks { OnErr result ((m : Meaning) (h : History) → X.stands session.old held.old m h → X.breaks m held.new h ⊎ X.breaks m held.new ((script_of m).next h line.now)) }
+    ensures piece { IfOk result (λ piece. (m : Meaning) (h : History) → X.stands session.old held.old m h → piece ≡ (script_of X.rules m).reply h line.now) }
+    ensures stands { OnOk result ((m : Meaning) (h : History) → X.stands session.old held.old m h → X.stands session.new held.new m ((script_of X.rules m).next h line.now)) }
+    ensures breaks { OnErr result ((m : Meaning) (h : History) → X.stands session.old held.old m h → X.breaks m held.new h ⊎ X.breaks m held.new ((script_of X.rules m).next h line.now)) }
 {
     let reply = reply_to(alloc, session, held, line)?;
     session.known(held);
@@ -94,10 +94,10 @@ pub(crate) fn answer_line<X: Session, K: Sink>(
 ) -> Result<(), Stop>
     requires { StandForSome X.stands session.old held.old }
     ensures answered { (m : Meaning) (h : History) → X.stands session.old held.old m h → (out : List ℕ) × Appends (K.taken sink.old) (K.taken sink.new) out
-        × MatchResult result (λ _. out ≡ concat (option_to_list ((script_of m).reply h line.now))) (λ stop. StopsAtReply stop ((script_of m).reply h line.now) out) }
-    ensures stands { OnOk result ((m : Meaning) (h : History) → X.stands session.old held.old m h → X.stands session.new held.new m ((script_of m).next h line.now)) }
+        × MatchResult result (λ _. out ≡ concat (option_to_list ((script_of X.rules m).reply h line.now))) (λ stop. StopsAtReply stop ((script_of X.rules m).reply h line.now) out) }
+    ensures stands { OnOk result ((m : Meaning) (h : History) → X.stands session.old held.old m h → X.stands session.new held.new m ((script_of X.rules m).next h line.now)) }
     ensures held { IfErr result (λ stop. (m : Meaning) (h : History) → X.stands session.old held.old m h
-        → HeldAtReply (script_of m) (X.leaves m held.new) (X.breaks m held.new) stop h line.now) }
+        → HeldAtReply (script_of X.rules m) (X.leaves m held.new) (X.breaks m held.new) stop h line.now) }
     ensures later { K.faults sink.old ≤ K.faults sink.new }
     ensures write { result ≡ Err Stop.Write → Rose (K.faults sink.old) (K.faults sink.new) }
 {

@@ -16,7 +16,7 @@ ghost use Rattle.pst_engine.specs.Stands.{HoldsVersions};
 ghost use Rattle.pst_dump.specs.Dump.{IsDump};
 ghost use Rattle.pst_changed.specs.Path.{IsPathIn};
 ghost use Rattle.pst_changed.specs.Change.{readings_of, heap_from};
-ghost use Rattle.pst_cli.specs.Script.{script_of};
+ghost use Rattle.pst_cli.specs.Script.{by_tree, script_of};
 ghost use Rattle.pst_cli.specs.Kept.{kept_by};
 ghost use Rattle.pst_cli.specs.Reading.{IsNear};
 ghost use Rattle.pst_cli.specs.Serving.{StandForSome};
@@ -64,7 +64,7 @@ fn carry_script<X: Session, S: Source>(
     requires stands { StandForSome X.stands session.old held.old }
     requires open { IsOpen lines.old (S.left source.old) }
     requires near { IsNear lines.old.input }
-    ensures carried { (m : Meaning) (h : History) → X.stands session.old held.old m h → Carries (script_of m) h (X.stands session.new held.new m) (X.leaves m held.new) (X.breaks m held.new)
+    ensures carried { (m : Meaning) (h : History) → X.stands session.old held.old m h → Carries (script_of X.rules m) h (X.stands session.new held.new m) (X.leaves m held.new) (X.breaks m held.new)
         result lines.old.input (S.left source.old) lines.new.input (S.left source.new) }
     ensures about { X.about session.new ≡ X.about session.old }
     ensures within { bytes_read lines.new.input ≤ MOST_INPUT }
@@ -170,7 +170,7 @@ fn answer_to<S: Source, O: Order + Drop, N: FatNodes>(
     requires open { IsOpen lines.old (S.left source.old) }
     requires near { IsNear lines.old.input }
     requires within_old { bytes_read lines.old.input ≤ MOST_INPUT }
-    ensures found { Finds (kept_by IsLeft IsBroken store.old store.new) program (meaning_of program) question path.now result lines.old.input (S.left source.old) lines.new.input (S.left source.new) }
+    ensures found { Finds (kept_by by_tree IsLeft IsBroken store.old store.new) program (meaning_of program) question path.now result lines.old.input (S.left source.old) lines.new.input (S.left source.new) }
     ensures within { bytes_read lines.new.input ≤ MOST_INPUT }
     ensures later { S.faults source.old ≤ S.faults source.new }
     ensures read { result ≡ Err Stop.Read → Rose (S.faults source.old) (S.faults source.new) }
@@ -205,7 +205,7 @@ fn inquire<S: Source, K: Sink, O: Order + Drop, N: FatNodes>(
     requires near { IsNear lines.old.input }
     requires within_old { bytes_read lines.old.input ≤ MOST_INPUT }
     ensures asked { (out : List ℕ) × Appends (K.taken sink.old) (K.taken sink.new) out
-        × Asks result (kept_by IsLeft IsBroken store.old store.new) question path.now lines.old.input (S.left source.old) lines.new.input (S.left source.new) text.items out }
+        × Asks result (kept_by by_tree IsLeft IsBroken store.old store.new) question path.now lines.old.input (S.left source.old) lines.new.input (S.left source.new) text.items out }
     ensures within { bytes_read lines.new.input ≤ MOST_INPUT }
     ensures later { S.faults source.old ≤ S.faults source.new }
     ensures sink_later { K.faults sink.old ≤ K.faults sink.new }

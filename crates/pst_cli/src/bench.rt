@@ -14,7 +14,7 @@ ghost use Rattle.pst_history.specs.History.{History};
 ghost use Rattle.pst_history.specs.Direct.{meaning_of};
 ghost use Rattle.pst_store.specs.Whole.{nodes_in, state_in};
 ghost use Rattle.pst_cli.specs.Pieces.{state_after, AfterSome};
-ghost use Rattle.pst_cli.specs.Script.{answer_of, next_of, script_of};
+ghost use Rattle.pst_cli.specs.Script.{by_tree, answer_of, next_of, script_of};
 ghost use Rattle.pst_cli.specs.Kept.{first_history, history_after};
 ghost use Rattle.pst_cli.specs.Serving.{StandForSome};
 ghost use Rattle.pst_cli.specs.Storing.{IsLeft, IsBroken};
@@ -54,6 +54,7 @@ fn printed_in(reply: &Reply) -> &[i64]
         Reply::BudgetSet { .. } => &[],
         Reply::VersionList(_) => &[],
         Reply::StatsAre(_) => &[],
+        Reply::LineStatsAre(_) => &[],
         Reply::Refused(_) => &[],
     }
 }
@@ -97,9 +98,9 @@ fn sum_line<X: Session>(
     sum: i64,
 ) -> Result<i64, NoMemory>
     requires { StandForSome X.stands session.old held.old }
-    ensures sum { IfOk result (λ all. (m : Meaning) (h : History) → X.stands session.old held.old m h → all ≡ fold ◌+ℤ◌ sum (printed_by (answer_of m h (reading line.now)))) }
-    ensures stands { OnOk result ((m : Meaning) (h : History) → X.stands session.old held.old m h → X.stands session.new held.new m (next_of m h (reading line.now))) }
-    ensures breaks { OnErr result ((m : Meaning) (h : History) → X.stands session.old held.old m h → X.breaks m held.new h ⊎ X.breaks m held.new (next_of m h (reading line.now))) }
+    ensures sum { IfOk result (λ all. (m : Meaning) (h : History) → X.stands session.old held.old m h → all ≡ fold ◌+ℤ◌ sum (printed_by (answer_of X.rules m h (reading line.now)))) }
+    ensures stands { OnOk result ((m : Meaning) (h : History) → X.stands session.old held.old m h → X.stands session.new held.new m (next_of X.rules m h (reading line.now))) }
+    ensures breaks { OnErr result ((m : Meaning) (h : History) → X.stands session.old held.old m h → X.breaks m held.new h ⊎ X.breaks m held.new (next_of X.rules m h (reading line.now))) }
 {
     let reply = reply_to(alloc, session, held, line)?;
     session.known(held);
@@ -117,9 +118,9 @@ fn sum_lines<X: Session>(
     text: &[u8],
 ) -> Result<i64, NoMemory>
     requires { StandForSome X.stands session.old held.old }
-    ensures sum { IfOk result (λ sum. (m : Meaning) (h : History) → X.stands session.old held.old m h → sum ≡ fold ◌+ℤ◌ (pos 0) (printed_from m h (lines_of text.now))) }
-    ensures stands { OnOk result ((m : Meaning) (h : History) → X.stands session.old held.old m h → X.stands session.new held.new m (state_after (script_of m) h (lines_of text.now))) }
-    ensures breaks { OnErr result ((m : Meaning) (h : History) → X.stands session.old held.old m h → AfterSome (script_of m) h (X.breaks m held.new) (lines_of text.now)) }
+    ensures sum { IfOk result (λ sum. (m : Meaning) (h : History) → X.stands session.old held.old m h → sum ≡ fold ◌+ℤ◌ (pos 0) (printed_from X.rules m h (lines_of text.now))) }
+    ensures stands { OnOk result ((m : Meaning) (h : History) → X.stands session.old held.old m h → X.stands session.new held.new m (state_after (script_of X.rules m) h (lines_of text.now))) }
+    ensures breaks { OnErr result ((m : Meaning) (h : History) → X.stands session.old held.old m h → AfterSome (script_of X.rules m) h (X.breaks m held.new) (lines_of text.now)) }
 {
     let mut sum = 0;
     let mut rest = text;
@@ -164,9 +165,9 @@ fn summarize<O: Order + Drop, N: FatNodes>(
     requires typed { IsTyped (routines_of program) }
     requires empty { store.old ≡ None }
     ensures summary { IfOk result (λ text. text ≡ summary_of (meaning_of program) (bench_lines number) store.new) }
-    ensures left { OnOk result (IsLeft (meaning_of program) store.new (history_after (meaning_of program) (bench_lines number))) }
+    ensures left { OnOk result (IsLeft (meaning_of program) store.new (history_after by_tree (meaning_of program) (bench_lines number))) }
     ensures err { OnErr result ((store.new ≡ store.old)
-        ⊎ AfterSome (script_of (meaning_of program)) (first_history (meaning_of program)) (IsBroken (meaning_of program) store.new) (bench_lines number)) }
+        ⊎ AfterSome (script_of by_tree (meaning_of program)) (first_history (meaning_of program)) (IsBroken (meaning_of program) store.new) (bench_lines number)) }
 {
     let script = bench_script(alloc, number)?;
     let mut session = Running::begin(alloc, program, store)?;

@@ -16,6 +16,8 @@ pub enum Job {
     Run,
     /// To answer the script by executing each version's runs again from the first.
     Replay,
+    /// To answer the script by a store in which only the newest version is written.
+    Line,
     /// To print the canonical text of the program.
     Check,
     /// To print the listing of its code.
@@ -50,6 +52,8 @@ fn job_named(word: &[u8]) -> Option<Job>
         Some(Job::Run)
     } else if word == b"replay".as_slice() {
         Some(Job::Replay)
+    } else if word == b"line".as_slice() {
+        Some(Job::Line)
     } else if word == b"check".as_slice() {
         Some(Job::Check)
     } else if word == b"code".as_slice() {

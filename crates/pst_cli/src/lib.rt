@@ -8,6 +8,7 @@ mod fault;
 mod job;
 mod judge;
 mod laws;
+mod lining;
 mod page;
 mod program;
 mod replaying;

@@ -16,9 +16,12 @@ pub(crate) struct Replaying {
 
 impl Session for Replaying {
     ghost use Rattle.std.specs.Prelude.{⊤};
+    ghost use Rattle.pst_cli.specs.Script.{by_tree};
     ghost use Rattle.pst_cli.specs.Serving.{IsReplaying};
 
     type Held = ();
+
+    ghost rules = { by_tree };
 
     ghost about = { λ s. s.program };
 

@@ -21,9 +21,12 @@ pub(crate) struct Running<O: Order + Drop, N: FatNodes> {
 
 impl<O: Order + Drop, N: FatNodes> Session for Running<O, N> {
     ghost use Rattle.std.specs.Prelude.{◌≡◌, None};
+    ghost use Rattle.pst_cli.specs.Script.{by_tree};
     ghost use Rattle.pst_cli.specs.Storing.{IsLeft, IsBroken, IsRunning};
 
     type Held = StoreOf<O, N>;
+
+    ghost rules = { by_tree };
 
     ghost about = { λ s. s.code };
 

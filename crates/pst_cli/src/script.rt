@@ -31,7 +31,7 @@ pub(crate) fn answer_script<X: Session, S: Source, K: Sink>(
     requires near { IsNear lines.old.input }
 
     ensures answered { (m : Meaning) (h : History) → X.stands session.old held.old m h → (out : List ℕ) × Appends (K.taken sink.old) (K.taken sink.new) out
-        × Answers (script_of m) h (X.leaves m held.new) (X.breaks m held.new) result lines.old.input (S.left source.old) lines.new.input (S.left source.new) out }
+        × Answers (script_of X.rules m) h (X.leaves m held.new) (X.breaks m held.new) result lines.old.input (S.left source.old) lines.new.input (S.left source.new) out }
     ensures within { bytes_read lines.new.input ≤ MOST_INPUT }
 
     ensures later { S.faults source.old ≤ S.faults source.new }

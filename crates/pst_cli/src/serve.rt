@@ -50,7 +50,7 @@ pub(crate) fn serve<X: Session, S: Source, K: Sink>(
     requires near { IsNear lines.old.input }
     requires within_old { bytes_read lines.old.input ≤ MOST_INPUT }
     ensures served { (out : List ℕ) × Appends (K.taken sink.old) (K.taken sink.new) out
-        × Serves result (kept_by X.leaves X.breaks held.old held.new) lines.old.input (S.left source.old) lines.new.input (S.left source.new) text.items out }
+        × Serves result X.rules (kept_by X.rules X.leaves X.breaks held.old held.new) lines.old.input (S.left source.old) lines.new.input (S.left source.new) text.items out }
     ensures within { bytes_read lines.new.input ≤ MOST_INPUT }
     ensures later { S.faults source.old ≤ S.faults source.new }
     ensures sink_later { K.faults sink.old ≤ K.faults sink.new }

@@ -6,8 +6,9 @@ ghost use Rattle.pst_program.specs.View.{routines_of};
 ghost use Rattle.pst_program.specs.Typed.{IsTyped};
 ghost use Rattle.pst_script.specs.Commands.{in_range};
 ghost use Rattle.pst_history.specs.Meaning.{Meaning};
-ghost use Rattle.pst_history.specs.History.{History, reply, after};
+ghost use Rattle.pst_history.specs.History.{History};
 ghost use Rattle.pst_history.specs.Direct.{meaning_of};
+ghost use Rattle.pst_cli.specs.Script.{Rules};
 ghost use Rattle.pst_cli.specs.Kept.{first_history};
 ghost use Rattle.pst_cli.specs.Serving.{StandForSome};
 
@@ -20,6 +21,9 @@ use std::alloc::Global;
 pub(crate) trait Session: Drop {
     /// What is held beside it, and handed in at each call.
     type Held;
+
+    /// How it answers commands.
+    ghost rules: { Rules };
 
     /// The program whose commands it answers.
     ghost about: { Self → Program };
@@ -54,7 +58,7 @@ pub(crate) trait Session: Drop {
     fn program(&self) -> &Program
         ensures { result.now ≡ about self.now };
 
-    /// Answers a command whose numbers a line can give. For each history that they stand for, the answer is its reply, and
+    /// Answers a command whose numbers a line can give. For each history that they stand for, the answer is its reply by the rules, and
     /// afterwards they stand for the history after the command. Want of memory is the one fault, and the last answer:
     /// what is held is then as it is left in the history before the command, or in the one after it.
     fn apply(
@@ -66,7 +70,7 @@ pub(crate) trait Session: Drop {
         requires stands { StandForSome stands self.old held.old }
         requires range { in_range command.now ≡ true }
         ensures about { about self.new ≡ about self.old }
-        ensures answer { IfOk result (λ r. (m : Meaning) (h : History) → stands self.old held.old m h → r ≡ reply m h command.now) }
-        ensures stands { OnOk result ((m : Meaning) (h : History) → stands self.old held.old m h → stands self.new held.new m (after m h command.now)) }
-        ensures breaks { OnErr result ((m : Meaning) (h : History) → stands self.old held.old m h → breaks m held.new h ⊎ breaks m held.new (after m h command.now)) };
+        ensures answer { IfOk result (λ r. (m : Meaning) (h : History) → stands self.old held.old m h → r ≡ rules.reply m h command.now) }
+        ensures stands { OnOk result ((m : Meaning) (h : History) → stands self.old held.old m h → stands self.new held.new m (rules.after m h command.now)) }
+        ensures breaks { OnErr result ((m : Meaning) (h : History) → stands self.old held.old m h → breaks m held.new h ⊎ breaks m held.new (rules.after m h command.now)) };
 }

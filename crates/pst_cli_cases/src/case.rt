@@ -48,7 +48,8 @@ pub(crate) struct Case {
     pub(crate) failing_writes: Vec<u64>,
     /// How many bytes may be written. None: more than enough.
     pub(crate) room: Option<usize>,
-    /// How many versions, records, pointer writes and value writes the store has in the end. Empty: that is not looked at.
+    /// How many versions, records, pointer writes and value writes the store that the words work over has in the end. Empty: that is
+    /// not looked at.
     pub(crate) store: Vec<usize>,
     /// Whether it is run again with each read and each write failing in turn.
     pub(crate) each_fails: bool,
@@ -60,6 +61,9 @@ pub(crate) struct Case {
     pub(crate) cuts: Vec<Cut>,
     part: Part,
 }
+
+/// What a store has that is left as it was handed in.
+pub(crate) const UNTOUCHED: [usize; 4] = [0, 0, 0, 0];
 
 /// What a store has once the program is accepted: version 0, and the root record.
 pub(crate) const STARTED: [usize; 4] = [1, 1, 0, 0];

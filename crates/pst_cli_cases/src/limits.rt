@@ -8,12 +8,12 @@ use std::test::Fail;
 /// Inputs of 67,108,864 bytes, and of one byte more.
 const SIZES: &str = "\
 == the greatest input is read
-words: run | replay | check | code
+words: run | replay | line | check | code
 -- input
 %%
 \\pad 67108864
 == one byte more is too long
-words: run | replay
+words: run | replay | line
 status: 5
 -- input
 %%
@@ -24,7 +24,7 @@ status: 5
 -- input
 \\pad 67108865
 == whole lines within the greatest input are answered
-words: run
+words: run | line
 status: 5
 -- input
 %%
@@ -88,13 +88,30 @@ ok
 version 1048513
 refused runs
 refused runs
+== all run numbers of a linear history
+words: line
+-- input
+proc p() { }
+query q() { }
+%%
+\\each 0 1048575 run \\# p
+run 1048576 p
+run 0 p
+run 1048577 p
+query 1048576 q
+-- output
+\\each 1 1048576 version \\#
+refused runs
+refused old
+refused version
+ok
 ";
 
 #[test]
 fn the_greatest_inputs_and_one_byte_more(rt: HostRuntime) -> Result<(), Fail> {
     let mut score = Score::none();
     run_file(&rt, b"", SIZES.as_bytes(), &mut score)?;
-    assert_eq!(rt; (score.passed, score.failed), (12, 0));
+    assert_eq!(rt; (score.passed, score.failed), (15, 0));
     Ok(())
 }
 
@@ -102,6 +119,6 @@ fn the_greatest_inputs_and_one_byte_more(rt: HostRuntime) -> Result<(), Fail> {
 fn run_numbers_come_to_an_end(rt: HostRuntime) -> Result<(), Fail> {
     let mut score = Score::none();
     run_file(&rt, b"", NUMBERS.as_bytes(), &mut score)?;
-    assert_eq!(rt; (score.passed, score.failed), (1, 0));
+    assert_eq!(rt; (score.passed, score.failed), (2, 0));
     Ok(())
 }

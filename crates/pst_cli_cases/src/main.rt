@@ -21,7 +21,7 @@ use text::body_of;
 const PROGRAMS: &str = "programs";
 
 /// The files of the cases.
-const CASES: [&str; 11] = [
+const CASES: [&str; 12] = [
     "versions",
     "refusals",
     "open_runs",
@@ -33,6 +33,7 @@ const CASES: [&str; 11] = [
     "typing",
     "pages",
     "questions",
+    "lines",
 ];
 
 /// Runs the cases of a file.

@@ -1,9 +1,12 @@
 //! Running a case over inputs and outputs in memory.
 
-use crate::case::Case;
+use crate::case::{Case, UNTOUCHED};
 use crate::turns::{fail_each, run_cuts};
+use pst_base::Counts;
 use pst_cli::{Status, number, persist};
 use pst_io::{MemSink, MemSource};
+use pst_line::calls::LineCalls;
+use pst_line::line_store::LineStore;
 use pst_places::VersionedHeap;
 use pst_store::Store;
 use std::alloc::{AllocError, Global};
@@ -68,7 +71,8 @@ fn room_for(case: &Case) -> usize {
     case.output.bytes.len().saturating_add(MORE)
 }
 
-/// How a call has to end, what it has to write, and what the store has to have then; where that is empty it is not looked at.
+/// How a call has to end, what it has to write, and what the store that it works over has to have then; where that is empty it is not
+/// looked at.
 #[derive(Clone, Copy)]
 pub(crate) struct Wanted<'a> {
     pub(crate) status: usize,
@@ -85,23 +89,31 @@ pub(crate) struct Trial<'a> {
     pub(crate) wanted: Wanted<'a>,
 }
 
-/// How a call ended, and what it wrote.
+/// How a call ended, what it wrote, and what the store that it works over and the other one have then.
 #[derive(Drop)]
 struct Ended {
     status: Status,
     written: Vec<u8>,
     store: Vec<usize>,
+    other: Vec<usize>,
 }
 
 /// How many versions, records, pointer writes and value writes a store has.
-fn numbers_of(alloc: Global, store: &Store) -> Result<Vec<usize>, AllocError> {
-    let counts = store.counts();
+fn numbers_of(alloc: Global, versions: u32, counts: Counts) -> Result<Vec<usize>, AllocError> {
     let mut numbers = Vec::new(alloc);
-    numbers.push(store.count() as usize)?;
+    numbers.push(versions as usize)?;
     for count in [counts.records, counts.pointer_writes, counts.value_writes] {
         numbers.push(count as usize)?;
     }
     Ok(numbers)
+}
+
+/// Whether the words work over the store of a linear history.
+fn is_line(words: &[String]) -> bool {
+    match words {
+        [word] => word.as_bytes() == b"line".as_slice(),
+        _ => false,
+    }
 }
 
 /// Runs the program.
@@ -119,11 +131,27 @@ fn run(alloc: Global, trial: Trial<'_>) -> Result<Ended, AllocError> {
         devices.failing_writes.clone()?,
     )?;
     let mut store: Store = Store::empty();
-    let status = persist(alloc, trial.words, &mut source, &mut sink, &mut store);
+    let mut line = LineStore::empty();
+    let status = persist(
+        alloc,
+        trial.words,
+        &mut source,
+        &mut sink,
+        &mut store,
+        &mut line,
+    );
+    let tree = numbers_of(alloc, store.count(), store.counts())?;
+    let line = numbers_of(alloc, line.count(), line.counts())?;
+    let (store, other) = if is_line(trial.words) {
+        (line, tree)
+    } else {
+        (tree, line)
+    };
     Ok(Ended {
         status,
         written: sink.taken().to_vec(alloc)?,
-        store: numbers_of(alloc, &store)?,
+        store,
+        other,
     })
 }
 
@@ -132,6 +160,7 @@ fn passes(wanted: Wanted<'_>, ended: &Ended) -> bool {
     usize::from(number(ended.status)) == wanted.status
         && ended.written.as_slice() == wanted.written
         && (wanted.store.is_empty() || ended.store.as_slice() == wanted.store)
+        && ended.other.as_slice() == UNTOUCHED.as_slice()
 }
 
 /// Runs the program once for a case with this name, and says what is wrong.

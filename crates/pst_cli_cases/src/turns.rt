@@ -1,7 +1,7 @@
 //! A case again and again: with each read failing in turn, with each write, and with room for each number of bytes; and on each
 //! number of the first bytes of its input.
 
-use crate::case::{Case, Cut, Step};
+use crate::case::{Case, Cut, Step, UNTOUCHED};
 use crate::run::{Devices, Score, Trial, Wanted, run_once, sizes};
 use std::alloc::{AllocError, Global};
 use std::io;
@@ -11,18 +11,18 @@ const READ_FAULT: usize = 1;
 
 const WRITE_FAULT: usize = 2;
 
-/// What a store has that is left as it was handed in.
-const UNTOUCHED: [usize; 4] = [0, 0, 0, 0];
-
 /// The first bytes of a text, so many.
 fn first(bytes: &[u8], count: usize) -> &[u8] {
     &bytes[..count.min(bytes.len())]
 }
 
-/// What the store has to have at a step, for these words: only `run` changes it.
+/// What the store has to have at a step, for these words: `run` and `line` change theirs.
 fn store_at<'a>(words: &[String], step: &'a Step) -> &'a [usize] {
     match words.first() {
-        Some(word) if word.as_bytes() == b"run".as_slice() => &step.store,
+        Some(word)
+            if word.as_bytes() == b"run".as_slice() || word.as_bytes() == b"line".as_slice() => {
+            &step.store
+        }
         Some(_) | None => &UNTOUCHED,
     }
 }

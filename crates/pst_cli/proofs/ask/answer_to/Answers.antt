@@ -3,6 +3,7 @@ use Rattle.std.proofs.lemmas.Result.{err_from_is_err_and}
 use Rattle.pst_program.specs.View.{routines_of}
 use Rattle.pst_program.specs.declared.program.Program.{Program}
 use Rattle.pst_history.specs.Direct.{meaning_of}
+use Rattle.pst_cli.specs.Script.{by_tree}
 use Rattle.pst_cli.specs.Kept.{kept_by, first_history, history_after}
 use Rattle.pst_cli.specs.Storing.{IsLeft, IsBroken}
 use Rattle.pst_cli.proofs.Keeping.{meaning_shape}
@@ -18,8 +19,8 @@ returns-in_err-carry_script-clause-found g c =
     let p = err_from_is_err_and c.from_residual.result c.from_residual.ensures.1 in
     let s = c.in_err-carry_script.field-0.0 in
     let (lines, stops) = c.in_err-carry_script.ensures.carried m (first_history m) c.in-Ok.ensures.stands in
-    found_stopped (kept_by IsLeft IsBroken c.args.store.now c.carry_script.new.held) c.args.program m c.args.question c.args.path.now _ _ _ _ c.from_residual.result s p.0 p.1 p.2
-    (carrying_stopped IsLeft IsBroken c.args.store.now c.carry_script.new.held m s _ _ _ _ lines stops)
+    found_stopped (kept_by by_tree IsLeft IsBroken c.args.store.now c.carry_script.new.held) c.args.program m c.args.question c.args.path.now _ _ _ _ c.from_residual.result s p.0 p.1 p.2
+    (carrying_stopped by_tree IsLeft IsBroken c.args.store.now c.carry_script.new.held m s _ _ _ _ lines stops)
 
 pub tell-requires : goal.tell-requires
 tell-requires g c =
@@ -32,14 +33,14 @@ pub returns-in-Ok-tell-clause-found : goal.returns-in-Ok-tell-clause-found
 returns-in-Ok-tell-clause-found g c =
     let m = meaning_of c.args.program in
     let (lines, all, now) = c.in_ok-carry_script.ensures.carried m (first_history m) c.in-Ok.ensures.stands in
-    let h = history_after m lines in
+    let h = history_after by_tree m lines in
     let same = c.program.ensures ∙ c.in_ok-carry_script.ensures.about ∙ c.in-Ok.ensures.about in
     let left = c.known.ensures.leaves m h now in
-    answer_found (kept_by IsLeft IsBroken c.args.store.now c.carry_script.new.held) c.args.program m c.args.question c.args.path.now _ _ _ _ c.program.result.now lines c.in-Ok-tell.text same all left
+    answer_found (kept_by by_tree IsLeft IsBroken c.args.store.now c.carry_script.new.held) c.args.program m c.args.question c.args.path.now _ _ _ _ c.program.result.now lines c.in-Ok-tell.text same all left
     (c.in-Ok-tell.ensures m h now.stands.sound left.versions)
 
 pub returns-clause-found : goal.returns-clause-found
 returns-clause-found g c =
     let m = meaning_of c.args.program in
     let (lines, all, now) = c.in_ok-carry_script.ensures.carried m (first_history m) c.in-Ok.ensures.stands in
-    answer_lacks (kept_by IsLeft IsBroken c.args.store.now c.carry_script.new.held) c.args.program m c.args.question c.args.path.now _ _ _ _ lines all (c.known.ensures.leaves m (history_after m lines) now)
+    answer_lacks (kept_by by_tree IsLeft IsBroken c.args.store.now c.carry_script.new.held) c.args.program m c.args.question c.args.path.now _ _ _ _ lines all (c.known.ensures.leaves m (history_after by_tree m lines) now)

@@ -14,7 +14,7 @@ abbrev pub invariant-carrying : goal.invariant-carrying
 invariant-carrying g l = record {
   given : (m : Meaning) (h : History) → g.X.Session.stands l.fn.session l.fn.held m h
       → (given : List (List ℕ)) × Gives l.fn.lines.input (g.S.Source.left l.fn.source) l.lines.input (g.S.Source.left l.source) given
-      × g.X.Session.stands l.session l.held m (state_after (script_of m) h given);
+      × g.X.Session.stands l.session l.held m (state_after (script_of g.X.Session.rules m) h given);
   about : g.X.Session.about l.session ≡ g.X.Session.about l.fn.session;
   near : IsNear l.lines.input;
   opened : IsOpen l.lines (g.S.Source.left l.source);

@@ -10,8 +10,8 @@ use Rattle.pst_cli.proofs.bench.sum_lines.Given as goal
 -- on each history that they stood for, these first lines were carried out and summed, and they stand for the one after them
 abbrev pub invariant-lines : goal.invariant-lines
 invariant-lines g l = (m : Meaning) (h : History) → g.X.Session.stands l.fn.session l.fn.held m h
-    → (given : List (List ℕ)) × (lines_of l.fn.text ≡ given ++ lines_of l.rest) × (l.sum ≡ fold ◌+ℤ◌ (pos 0) (printed_from m h given))
-    × g.X.Session.stands l.session l.held m (state_after (script_of m) h given)
+    → (given : List (List ℕ)) × (lines_of l.fn.text ≡ given ++ lines_of l.rest) × (l.sum ≡ fold ◌+ℤ◌ (pos 0) (printed_from g.X.Session.rules m h given))
+    × g.X.Session.stands l.session l.held m (state_after (script_of g.X.Session.rules m) h given)
 
 abbrev pub decreases-lines : goal.decreases-lines
 decreases-lines g l = length l.rest

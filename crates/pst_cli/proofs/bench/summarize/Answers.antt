@@ -4,7 +4,7 @@ use Rattle.std.proofs.lemmas.Result.{IfOk-weaker}
 use Rattle.pst_io.specs.Text.{lines_of}
 use Rattle.pst_history.specs.Direct.{meaning_of}
 use Rattle.pst_cli.specs.Pieces.{AfterSome}
-use Rattle.pst_cli.specs.Script.{script_of}
+use Rattle.pst_cli.specs.Script.{by_tree, script_of}
 use Rattle.pst_cli.specs.Kept.{first_history}
 use Rattle.pst_cli.specs.Storing.{IsBroken}
 use Rattle.pst_cli.specs.Bench.{bench_lines, summary_of}
@@ -34,4 +34,4 @@ returns-clause-err g c =
     let lines = lines_of c.as_slice.result.now in
     let same : lines ≡ bench_lines c.args.number = ap lines_of (c.as_slice.ensures ∙ c.in_ok-script.ensures) in
     let left = c.known.ensures.leaves m _ (c.in_ok-sum.ensures.stands m h c.in_ok-session.ensures.stands) in
-    of_error c.summary_text.result _ (inr (subst (AfterSome (script_of m) h (IsBroken m store)) same (broken_behind m lines store left)))
+    of_error c.summary_text.result _ (inr (subst (AfterSome (script_of by_tree m) h (IsBroken m store)) same (broken_behind m lines store left)))

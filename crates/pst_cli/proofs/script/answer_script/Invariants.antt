@@ -15,8 +15,8 @@ abbrev pub invariant-answering : goal.invariant-answering
 invariant-answering g l = record {
   given : (m : Meaning) (h : History) → g.X.Session.stands l.fn.session l.fn.held m h
       → (given : List (List ℕ)) × (out : List ℕ) × Gives l.fn.lines.input (g.S.Source.left l.fn.source) l.lines.input (g.S.Source.left l.source) given
-      × Appends (g.K.Sink.taken l.fn.sink) (g.K.Sink.taken l.sink) out × IsAll (pieces_from (script_of m) h given) out
-      × g.X.Session.stands l.session l.held m (state_after (script_of m) h given);
+      × Appends (g.K.Sink.taken l.fn.sink) (g.K.Sink.taken l.sink) out × IsAll (pieces_from (script_of g.X.Session.rules m) h given) out
+      × g.X.Session.stands l.session l.held m (state_after (script_of g.X.Session.rules m) h given);
   near : IsNear l.lines.input;
   opened : IsOpen l.lines (g.S.Source.left l.source);
   later : g.S.Source.faults l.fn.source ≤ g.S.Source.faults l.source;
