@@ -1,6 +1,7 @@
 -- The words of the language itself.
-use Rattle.std.specs.Prelude.{◌≡◌, ℕ, Bool, List, [], ◌∷◌, Option, Some, None, codes, All, IsSomeAnd, slice_get}
-use Rattle.std.specs.List.{list_any}
+use Rattle.std.specs.Prelude.{◌≡◌, ℕ, Bool, false, not, ◌==◌, ◌&&◌, ◌||◌, List, [], ◌∷◌, length, nat_le, Option, Some, None, codes, All, IsSomeAnd, slice_get}
+use Rattle.std.specs.Char.{is_ascii_alphabetic, is_ascii_alphanumeric}
+use Rattle.std.specs.List.{list_all, list_any}
 use Rattle.std.specs.Str.{bytes_eq}
 
 -- the keywords, in the order of their numbers
@@ -17,3 +18,22 @@ is_keyword word = list_any (λ keyword. bytes_eq keyword word) keywords
 abbrev pub IsKeywordNumber : Option ℕ → List ℕ → Type 0
 IsKeywordNumber (Some n) word = IsSomeAnd (slice_get keywords n) (λ keyword. word ≡ keyword)
 IsKeywordNumber None word = All (λ keyword. word ≡ keyword → ⊥) keywords
+
+-- ---- names
+
+-- a letter or an underscore
+abbrev pub is_name_start : ℕ → Bool
+is_name_start b = is_ascii_alphabetic b || b == 95
+
+-- a letter, a digit or an underscore
+abbrev pub is_name_byte : ℕ → Bool
+is_name_byte b = is_ascii_alphanumeric b || b == 95
+
+-- letters, digits and underscores, of which the first is no digit
+abbrev pub has_name_bytes : List ℕ → Bool
+has_name_bytes [] = false
+has_name_bytes (first ∷ rest) = is_name_start first && list_all is_name_byte rest
+
+-- a name that a program can give: at most 32 such bytes, and no keyword
+unfoldable pub is_name : List ℕ → Bool
+is_name word = nat_le (length word) 32 && (has_name_bytes word && not (is_keyword word))
