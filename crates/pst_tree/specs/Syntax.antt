@@ -9,6 +9,7 @@ pub data Expr : Type 0 where
   Name : List ℕ → Expr
   Parens : Expr → Expr
   Field : Expr → List ℕ → Expr
+  Indexed : (object : Expr) (name : List ℕ) (index : Expr) → Expr
   Negate : Expr → Expr
   Not : Expr → Expr
   Binary : Op → Expr → Expr → Expr
@@ -35,10 +36,10 @@ pub data TypeWord : Type 0 where
   Int : TypeWord
   Named : List ℕ → TypeWord
 
--- a field, with its line: a number, or a pointer to records of a type
+-- a field, with its line: a number, or a pointer to records of a type; an array has a number of elements
 pub data FieldText : Type 0 where
-  Val : (line : ℕ) (name : List ℕ) → FieldText
-  Ptr : (line : ℕ) (name target : List ℕ) → FieldText
+  Val : (line : ℕ) (name : List ℕ) (elements : Option ℤ) → FieldText
+  Ptr : (line : ℕ) (name target : List ℕ) (elements : Option ℤ) → FieldText
 
 -- a parameter or a local
 pub record LocalText : Type 0 where
@@ -61,3 +62,8 @@ pub data Item : Type 0 where
   Record : (line : ℕ) (name : List ℕ) (limit : ℤ) → List FieldText → Item
   Root : (line : ℕ) (name : List ℕ) → TypeWord → Item
   Procedure : ProcedureText → Item
+
+-- a program's text: its language, 1 or 2, and its declarations
+pub record ProgramText : Type 0 where
+  pub language : ℕ
+  pub items : List Item

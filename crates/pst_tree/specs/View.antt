@@ -23,6 +23,7 @@ expr_of expression.Null = tree.Null
 expr_of (expression.Name x) = tree.Name x
 expr_of (expression.Parens' p e) = tree.Parens (expr_of e)
 expr_of (expression.Field' p e x) = tree.Field (expr_of e) x
+expr_of (expression.Indexed' p e x q i) = tree.Indexed (expr_of e) x (expr_of i)
 expr_of (expression.Negate' p e) = tree.Negate (expr_of e)
 expr_of (expression.Not' p e) = tree.Not (expr_of e)
 expr_of (expression.Binary' op p l q r) = tree.Binary op (expr_of l) (expr_of r)
@@ -58,8 +59,8 @@ type_word_of written.Int = tree.Int
 type_word_of (written.Named t) = tree.Named t
 
 abbrev pub field_of : Field → tree.FieldText
-field_of (field.Val line x) = tree.Val line x
-field_of (field.Ptr line x t) = tree.Ptr line x t
+field_of (field.Val line x n) = tree.Val line x n
+field_of (field.Ptr line x t n) = tree.Ptr line x t n
 
 abbrev pub local_of : Local → tree.LocalText
 local_of l = record { line = l.line; name = l.name; kind = type_word_of l.kind }
@@ -80,3 +81,7 @@ item_of (declaration.Procedure line query x parameters result locals body) = tre
 -- the declarations of a tree
 abbrev pub items_of : Tree → List tree.Item
 items_of t = map item_of t.declarations.items.items
+
+-- the program's text that a tree is
+abbrev pub text_of : Tree → tree.ProgramText
+text_of t = record { language = t.language; items = items_of t }

@@ -11,11 +11,20 @@ pub enum TypeName {
     Named(Text),
 }
 
-/// A field of a record type, with the line of its first token.
+/// A field of a record type, with the line of its first token, and the number of its elements where one is written.
 #[derive(Debug, Drop)]
 pub enum Field {
-    Val { line: u32, name: Text },
-    Ptr { line: u32, name: Text, target: Text },
+    Val {
+        line: u32,
+        name: Text,
+        elements: Option<i64>,
+    },
+    Ptr {
+        line: u32,
+        name: Text,
+        target: Text,
+        elements: Option<i64>,
+    },
 }
 
 /// A parameter or a local, with the line of its first token.
@@ -123,8 +132,10 @@ pub struct Declarations {
     pub items: Vec<Declaration>,
 }
 
-/// A program's text, read.
+/// A program's text, read: its language, 1 or 2, and what it declares. In language 1 no field has a number of elements,
+/// and no expression is indexed.
 #[derive(Debug, Drop)]
 pub struct Tree {
+    pub language: u8,
     pub declarations: Declarations,
 }

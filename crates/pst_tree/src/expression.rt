@@ -14,6 +14,11 @@ pub enum Expression {
         object: Box<Expression>,
         name: Text,
     },
+    Indexed {
+        object: Box<Expression>,
+        name: Text,
+        index: Box<Expression>,
+    },
     Negate(Box<Expression>),
     Not(Box<Expression>),
     Binary {
