@@ -1,16 +1,20 @@
 -- Lemmas on tokens in a row.
 use Rattle.std.specs.Prelude.{◌≡◌, ℕ, ◌+◌, ◌≤◌, ◌<◌, Bool, true, false, List, [], ◌∷◌, ◌++◌, length, Some, take, drop, ◌==◌, Ok, Err}
-use Rattle.std.proofs.Common.{refl, sym, ap, ◌∙◌, arith, drop-cons, length-take, length-drop, inl, inr}
+use Rattle.std.proofs.Common.{refl, sym, ap, ◌∙◌, subst, arith, drop-cons, length-take, length-drop, length-append, append_assoc, inl, inr}
 use Rattle.std.proofs.lemmas.Bool.Decides.{nat_tests}
+use Rattle.std.proofs.Math.Nat.{eq-or-lt_of_le}
+use Rattle.std.proofs.Math.Logic.{⊎_elim}
 use Rattle.std.proofs.lemmas.List.Sums.{count_by-le-length}
 use Rattle.std.proofs.lemmas.List.{take-append-drop, take_all}
 use Rattle.pst_lex.specs.declared.types.Token.{Token}
 use Rattle.pst_lex.specs.declared.types.TokenKind.{TokenKind}
+use Rattle.pst_lex.specs.declared.types.FirstTokens.TheVariants as first
 use Rattle.pst_lex.specs.declared.faults.LexFault.{LexFault}
 use Rattle.pst_lex.specs.declared.faults.LexFault.TheVariants as fault
 use Rattle.pst_lex.specs.Bytes.{gap, feeds}
-use Rattle.pst_lex.specs.Lexing.{LexedTo, EndsAt, FaultsAt, Lexes, Faults, IsFault, line_of, Tokenizes}
-use Rattle.pst_lex.specs.Pieces.{Leaves, Skips, Takes}
+use Rattle.pst_lex.specs.Lexing.{LexedTo, EndsAt, FaultsAt, Lexes, Faults, IsFault, line_of, InOrder, Tokenizes, AreFirst}
+use Rattle.pst_lex.specs.Pieces.{Leaves, Keeps, Skips, Takes}
+use Rattle.pst_lex.proofs.Places.{tokens_in_place}
 
 lexed-append : (End : List ℕ → ℕ → ℕ → Type 0) (text rest : List ℕ) (a l at line : ℕ) (ts us : List Token) →
     LexedTo (λ r x y. (r ≡ rest) × (x ≡ at) × (y ≡ line)) text a l ts → LexedTo End rest at line us → LexedTo End text a l (ts ++ us)
@@ -90,3 +94,64 @@ more_test n e = grind (arith, nat_tests)
 
 pub feeds_small : (n : ℕ) (rest : List ℕ) → feeds (take n rest) ≤ n
 feeds_small n rest = omega (arith, count_by-le-length (λ b. b == 10) (take n rest), length-take n rest)
+
+-- ---- the first tokens, at most so many
+
+-- a fault in a comment, whatever is kept
+pub skip_fault_kept : (most : ℕ) (all : Bool) (text rest : List ℕ) (at line : ℕ) (ts : List Token) (f : LexFault) → Keeps most all text ts rest at line → Skips (Err f) rest line → Tokenizes (Err f) text
+skip_fault_kept most true text rest at line ts f k bad = skip_fault text rest at line ts f k.0 bad
+skip_fault_kept most false text rest at line ts f (t, more, h, full) bad = skip_fault text rest at line (ts ++ t ∷ more) f h bad
+
+-- a fault in a token's place, whatever is kept
+pub take_fault_kept : (most : ℕ) (all : Bool) (text rest : List ℕ) (at line n l : ℕ) (ts : List Token) (f : LexFault) → Keeps most all text ts rest at line → Skips (Ok (n, l)) rest line → n < length rest →
+    Takes (Err f) (drop n rest) l → Tokenizes (Err f) text
+take_fault_kept most true text rest at line n l ts f k skips lt bad = take_fault text rest at line n l ts f k.0 skips lt bad
+take_fault_kept most false text rest at line n l ts f (t, more, h, full) skips lt bad = take_fault text rest at line n l (ts ++ t ∷ more) f h skips lt bad
+
+-- one more token is kept
+pub keep_token : (most : ℕ) (all : Bool) (text rest : List ℕ) (at line n l k at' : ℕ) (kind : TokenKind) (ts : List Token) → Keeps most all text ts rest at line → (length ts ≡ most → ⊥) → Skips (Ok (n, l)) rest line → n < length rest →
+    Takes (Ok (kind, k)) (drop n rest) l → at' ≡ at + n + k → Keeps most all text (ts ++ record { kind = kind; span = record { from = at + n; to = at' }; line = l } ∷ []) (drop k (drop n rest)) at' l
+keep_token most true text rest at line n l k at' kind ts (h, le) room skips lt tok e =
+    let below : length ts < most = ⊎_elim (λ (same : length ts ≡ most). absurd (room same)) (λ (l : length ts < most). l) (eq-or-lt_of_le le) in
+    (take_token text rest at line n l k at' kind ts h skips lt tok e, omega (arith, below, length-append ts (record { kind = kind; span = record { from = at + n; to = at' }; line = l } ∷ [])))
+keep_token most false text rest at line n l k at' kind ts (t, more, h, full) room skips lt tok e = absurd (room full)
+
+-- one more token is only looked at
+pub pass_token : (most : ℕ) (all : Bool) (text rest : List ℕ) (at line n l k at' : ℕ) (kind : TokenKind) (ts : List Token) → Keeps most all text ts rest at line → length ts ≡ most → Skips (Ok (n, l)) rest line → n < length rest →
+    Takes (Ok (kind, k)) (drop n rest) l → at' ≡ at + n + k → Keeps most false text ts (drop k (drop n rest)) at' l
+pass_token most true text rest at line n l k at' kind ts (h, le) full skips lt tok e =
+    (record { kind = kind; span = record { from = at + n; to = at' }; line = l }, [], take_token text rest at line n l k at' kind ts h skips lt tok e, full)
+pass_token most false text rest at line n l k at' kind ts (t, more, h, full') full skips lt tok e =
+    let next : Token = record { kind = kind; span = record { from = at + n; to = at' }; line = l } in
+    (t, more ++ next ∷ [], subst (λ (us : List Token). Leaves text us (drop k (drop n rest)) at' l) (append_assoc ts (t ∷ more) (next ∷ [])) (take_token text rest at line n l k at' kind (ts ++ t ∷ more) h skips lt tok e), full)
+
+-- the first tokens of a text whose end has this line
+abbrev pub AreKept : (most : ℕ) → (all : Bool) → List ℕ → List Token → (end : ℕ) → Type 0
+AreKept most true text ts end = AreFirst most (Ok (first.All (record { list = ts; end = end }))) text
+AreKept most false text ts end = AreFirst most (Ok (first.Front ts)) text
+
+pub skip_end_kept : (most : ℕ) (all : Bool) (text rest : List ℕ) (at line n l : ℕ) (ts : List Token) → Keeps most all text ts rest at line → Skips (Ok (n, l)) rest line → length (drop n rest) ≡ 0 → AreKept most all text ts l
+skip_end_kept most true text rest at line n l ts (h, le) skips none = (skip_end text rest at line n l ts h skips none, le)
+skip_end_kept most false text rest at line n l ts (t, more, h, full) skips none = (t, more, l, skip_end text rest at line n l (ts ++ t ∷ more) h skips none, full)
+
+pub at_end_kept : (most : ℕ) (all : Bool) (text rest : List ℕ) (at line : ℕ) (ts : List Token) → Keeps most all text ts rest at line → length rest ≡ 0 → AreKept most all text ts line
+at_end_kept most true text rest at line ts (h, le) none = (at_end text rest at line ts h none, le)
+at_end_kept most false text rest at line ts (t, more, h, full) none = (t, more, line, at_end text rest at line (ts ++ t ∷ more) h none, full)
+
+-- tokens in order are no more than the bytes that they stand in
+few_in_order : (at end : ℕ) (ts : List Token) → InOrder at end ts → at + length ts ≤ end
+few_in_order at end [] le = omega (arith, le)
+few_in_order at end (t ∷ ts) (from, some, more) = let few = few_in_order t.span.to end ts more in omega (arith, from, some, few)
+
+-- so these are all
+pub no_front : (text : List ℕ) (ts : List Token) → AreFirst (length text) (Ok (first.Front ts)) text → ⊥
+no_front text ts (t, more, end, h, full) =
+    let few = few_in_order 0 (length text) (ts ++ t ∷ more) (tokens_in_place text (ts ++ t ∷ more) end h).0 in
+    omega (arith, few, full, length-append ts (t ∷ more))
+
+-- what a fault says of all tokens it says of the first ones
+pub first_fault : (most : ℕ) (f : LexFault) (text : List ℕ) → Tokenizes (Err f) text → AreFirst most (Err f) text
+first_fault most f text h = h
+
+pub nothing_kept : (most : ℕ) (text : List ℕ) → Keeps most true text [] text 0 1
+nothing_kept most text = ((refl, refl, refl), omega arith)

@@ -5,6 +5,8 @@ use Rattle.std.specs.List.{list_all}
 use Rattle.std.specs.Fmt.{decimal}
 use Rattle.pst_lex.specs.declared.types.Token.{Token}
 use Rattle.pst_lex.specs.declared.types.Tokens.{Tokens}
+use Rattle.pst_lex.specs.declared.types.FirstTokens.{FirstTokens}
+use Rattle.pst_lex.specs.declared.types.FirstTokens.TheVariants as first
 use Rattle.pst_lex.specs.declared.types.Span.{Span}
 use Rattle.pst_lex.specs.declared.faults.LexFault.{LexFault}
 use Rattle.pst_lex.specs.declared.faults.LexFault.TheVariants as fault
@@ -100,6 +102,12 @@ Tokenizes (Err fault.Memory) text = Unit {0}
 Tokenizes (Err (fault.Byte line)) text = Faults text (fault.Byte line)
 Tokenizes (Err (fault.Number line)) text = Faults text (fault.Number line)
 Tokenizes (Err (fault.NameLength line)) text = Faults text (fault.NameLength line)
+
+-- the first tokens of a text, at most so many: all of them, or so many with another behind them
+abbrev pub AreFirst : (most : ℕ) → Result FirstTokens LexFault → List ℕ → Type 0
+AreFirst most (Ok (first.All x)) text = Lexes text x.list x.end × (length x.list ≤ most)
+AreFirst most (Ok (first.Front ts)) text = (t : Token) × (more : List Token) × (end : ℕ) × Lexes text (ts ++ t ∷ more) end × (length ts ≡ most)
+AreFirst most (Err f) text = Tokenizes (Err f) text
 
 -- ---- tokens without places
 

@@ -25,6 +25,6 @@ pub use faults::LexFault;
 pub use laws::{
     text_is_read_in_one_way, tokens_and_faults_stand_in_place, words_are_those_of_the_text,
 };
-pub use lexer::tokens;
-pub use types::{Span, Token, TokenKind, TokenList, Tokens};
+pub use lexer::{first_tokens, tokens};
+pub use types::{FirstTokens, Span, Token, TokenKind, TokenList, Tokens};
 pub use words::{Mark, mark_at};

@@ -1,6 +1,6 @@
 //! Texts with their tokens and their first faults.
 
-use super::{LexFault, Mark, Token, TokenKind, mark_at, tokens};
+use super::{FirstTokens, LexFault, Mark, Token, TokenKind, first_tokens, mark_at, tokens};
 use std::alloc::{AllocError, Global};
 use std::test::Fail;
 
@@ -138,6 +138,27 @@ fn marks_are_keywords_and_symbols(rt: HostRuntime) -> Result<(), Fail> {
     }
     assert_eq!(rt; mark_at(&TokenKind::Keyword(19)), None);
     assert_eq!(rt; mark_at(&TokenKind::Symbol(20)), None);
+    Ok(())
+}
+
+#[test]
+fn first_tokens_are_as_many_as_are_asked_for(rt: HostRuntime) -> Result<(), Fail> {
+    let alloc = rt.alloc();
+    let text = b"a = 1; # of four";
+    for most in 0..6 {
+        match first_tokens(alloc, text, most)? {
+            FirstTokens::All(tokens) => {
+                assert!(rt; most >= 4);
+                assert_eq!(rt; tokens.list.as_slice().len(), 4);
+            }
+            FirstTokens::Front(list) => {
+                assert!(rt; most < 4);
+                assert_eq!(rt; list.as_slice().len(), most);
+            }
+        }
+    }
+    // The fault behind them is found.
+    assert!(rt; first_tokens(alloc, b"a = 007", 1).is_err());
     Ok(())
 }
 

@@ -77,3 +77,12 @@ pub struct Tokens {
     pub list: TokenList,
     pub end: u32,
 }
+
+/// The first tokens of a text, as many as were asked for.
+#[derive(Debug, Drop)]
+pub enum FirstTokens {
+    /// All tokens of the text: there are no more than were asked for.
+    All(Tokens),
+    /// As many as were asked for; others stand behind them.
+    Front(TokenList),
+}
