@@ -1,61 +1,95 @@
--- The law of reading declarations and programs.
-use Rattle.std.specs.Prelude.{◌≡◌, ℕ, ◌≤◌, ◌<◌, Bool, true, false, List, [], ◌∷◌, ◌++◌, map, Option, Some, None, length}
+-- The law of reading declarations, in the language j, and programs.
+use Rattle.std.specs.Prelude.{◌≡◌, ℕ, ℤ, ◌≤◌, ◌<◌, Bool, true, false, nat_eq, List, [], ◌∷◌, ◌++◌, map, Option, Some, None, length}
 use Rattle.std.specs.Option.{option_map}
 use Rattle.std.proofs.Common.{suc, zero, refl, sym, ap, ◌∙◌, subst, arith}
+use Rattle.pst_base.specs.declared.names.Op.TheVariants as op
 use Rattle.pst_tree.specs.Syntax as tree
 use Rattle.pst_parse.specs.declared.lexeme.Label.{Label}
 use Rattle.pst_parse.specs.declared.lexeme.Sign.TheVariants as sign
 use Rattle.pst_parse.specs.declared.lexeme.Lead.TheVariants as lead
 use Rattle.pst_parse.specs.Lexemes as token
-use Rattle.pst_parse.specs.Lexemes.{Lexeme, Plain, Leading}
+use Rattle.pst_parse.specs.Lexemes.{Lexeme, Operator, Plain, Leading}
 use Rattle.pst_tree.specs.Depth.{item_height, item_nesting}
-use Rattle.pst_parse.specs.Forms.{IsFormedItem}
-use Rattle.pst_parse.specs.Spelling.{each, listed, Empty, phrases, spelled_block, TypeText, Int, type_word as plain_type, spelled_type, FieldText, Val, Ptr, field as plain_field, spelled_field, Parameter, parameter as plain_parameter, spelled_parameter, Local, local as plain_local, spelled_local, spelled_result, head, Item, Record, Root, Procedure, item as plain_item, spelled_item}
+use Rattle.pst_parse.specs.Forms.{Each, IsCount, IsFormedField, IsFormedItem}
+use Rattle.pst_parse.specs.Spelling.{each, listed, Empty, phrases, spelled_block, TypeText, Int, type_word as plain_type, spelled_type, spelled_count, FieldText, Val, Ptr, field as plain_field, spelled_field, Parameter, parameter as plain_parameter, spelled_parameter, Local, local as plain_local, spelled_local, spelled_result, head, Item, Record, Root, Procedure, item as plain_item, spelled_item}
 use Rattle.pst_parse.specs.Reader.{Read, Got, Bad, Fault, Unexpected, TooDeep, and_then, after, label, number, type_word, many}
 use Rattle.pst_parse.specs.Reader as reader
 use Rattle.pst_parse.specs.Statements.{reading_block}
-use Rattle.pst_parse.specs.Declarations.{value_field, pointer_field, field, starts_field, typed, parameter, variable, local, starts_local, result, record_type, root, body, procedure, item, any, reading_program}
+use Rattle.pst_parse.specs.Declarations.{count, value_field, pointer_field, field, starts_field, typed, parameter, variable, local, starts_local, result, record_type, root, body, procedure, item, any}
 use Rattle.pst_parse.specs.View.{begins}
-use Rattle.pst_parse.proofs.Laws.{Construct, Begins, Lawful, Good, step_law, got_good, wrong_law, end_law, stop_law, done_law, after_good, label_good, number_good, type_good, bind_good, some_label}
+use Rattle.pst_parse.proofs.Laws.{Construct, Begins, Lawful, Good, cond_law, step_law, got_good, wrong_law, end_law, stop_law, done_law, after_good, label_good, number_good, type_good, bind_good, some_label}
 use Rattle.pst_parse.proofs.Many.{Fronts, Shortens, shortens, list, commas, many_good, listed_good, many-start, many-end}
+use Rattle.pst_parse.proofs.ReadLaw.{is_second}
 use Rattle.pst_parse.proofs.StatementLaw.{blocks, reading_block_good}
 
 -- ---- fields
 
-abbrev pub fields : Construct tree.FieldText
-fields = record { Lined = FieldText; plain = plain_field; spell = spelled_field; Fit = λ _. Unit {0}; In = λ _. Unit {0} }
+-- the number of elements of a field
+abbrev counts : (j : ℕ) → Construct (Option ℤ)
+counts j = record { Lined = Option ℤ; plain = λ n. n; spell = spelled_count; Fit = IsCount j; In = IsCount j }
 
-value_field_good : (line : ℕ) → Good fields (λ y. Leading lead.Val line ∷ y) (value_field line)
-value_field_good line =
-    label_good fields (λ y. Leading lead.Val line ∷ y) (λ x. after sign.Colon (after sign.Int (after sign.Semicolon (Got (tree.Val line x.name)))))
-    (λ x. after_good fields (λ y. Leading lead.Val line ∷ token.Name x ∷ y) sign.Colon (after sign.Int (after sign.Semicolon (Got (tree.Val line x.name))))
-    (after_good fields (λ y. Leading lead.Val line ∷ token.Name x ∷ Plain sign.Colon ∷ y) sign.Int (after sign.Semicolon (Got (tree.Val line x.name)))
-    (after_good fields (λ y. Leading lead.Val line ∷ token.Name x ∷ Plain sign.Colon ∷ Plain sign.Int ∷ y) sign.Semicolon (Got (tree.Val line x.name))
-    (got_good fields (λ y. spelled_field (Val line x) y) (Val line x) (tree.Val line x.name) refl tt (λ y. refl)))))
+count_good : (j : ℕ) → Good (counts j) (λ x. x) (count j)
+count_good j = record { close = (None, tt, [], λ x. refl); law = go }
+  where
+    go : (ts : List Lexeme) → Lawful (counts j) (λ x. x) (count j) ts (count j ts)
+    go [] = done_law (counts j) (λ x. x) (count j) None None refl tt (λ x. refl) refl
+    go (Operator op.Mul ∷ ts) =
+        cond_law (λ r. Lawful (counts j) (λ x. x) (count j) (Operator op.Mul ∷ ts) r) (nat_eq j 2) _ _
+        (λ q. step_law (counts j) (λ x. x) (count j) (λ us. and_then (number us) (λ n. Got (Some n))) (Operator op.Mul) ts (and_then (number ts) (λ n. Got (Some n))) (λ x. rw q refl)
+        ((number_good (counts j) (λ y. Operator op.Mul ∷ y) (λ n. Got (Some n))
+        (λ n. got_good (counts j) (λ y. Operator op.Mul ∷ token.Number n ∷ y) (Some n) (Some n) refl (is_second j q) (λ y. refl))).law ts))
+        (λ q. stop_law (counts j) (λ x. x) (count j) None None (Operator op.Mul) ts refl tt (λ x. refl) (λ v. rw q refl))
+    go (t ∷ ts) = stop_law (counts j) (λ x. x) (count j) None None t ts refl tt (λ x. refl) (λ v. refl)
 
-pointer_field_good : (line : ℕ) → Good fields (λ y. Leading lead.Ptr line ∷ y) (pointer_field line)
-pointer_field_good line =
-    label_good fields (λ y. Leading lead.Ptr line ∷ y) (λ x. after sign.Colon (λ rest. and_then (label rest) (λ target. after sign.Semicolon (Got (tree.Ptr line x.name target.name)))))
-    (λ x. after_good fields (λ y. Leading lead.Ptr line ∷ token.Name x ∷ y) sign.Colon (λ rest. and_then (label rest) (λ target. after sign.Semicolon (Got (tree.Ptr line x.name target.name))))
-    (label_good fields (λ y. Leading lead.Ptr line ∷ token.Name x ∷ Plain sign.Colon ∷ y) (λ target. after sign.Semicolon (Got (tree.Ptr line x.name target.name)))
-    (λ target. after_good fields (λ y. Leading lead.Ptr line ∷ token.Name x ∷ Plain sign.Colon ∷ token.Name target ∷ y) sign.Semicolon (Got (tree.Ptr line x.name target.name))
-    (got_good fields (λ y. spelled_field (Ptr line x target) y) (Ptr line x target) (tree.Ptr line x.name target.name) refl tt (λ y. refl)))))
+abbrev pub fields : (j : ℕ) → Construct tree.FieldText
+fields j = record { Lined = FieldText; plain = plain_field; spell = spelled_field; Fit = λ f. IsFormedField j (plain_field f); In = λ f. IsFormedField j (plain_field f) }
 
-some_field : Begins spelled_field (λ _. Unit {0}) (λ x. x) []
-some_field = (Val 0 some_label, tt, spelled_field (Val 0 some_label) [], λ x. refl)
+-- a number of elements, if one stands there, and a `;`
+counted_good : (j : ℕ) (pre : List Lexeme → List Lexeme) (make : Option ℤ → FieldText) (plain : Option ℤ → tree.FieldText) →
+    ((n : Option ℤ) → plain_field (make n) ≡ plain n) → ((n : Option ℤ) → IsCount j n → IsFormedField j (plain_field (make n))) →
+    ((n : Option ℤ) (x : List Lexeme) → spelled_field (make n) x ≡ pre (spelled_count n (Plain sign.Semicolon ∷ x))) →
+    Good (fields j) pre (λ ts. and_then (count j ts) (λ n. after sign.Semicolon (Got (plain n))))
+counted_good j pre make plain is fits sp =
+    bind_good (counts j) (fields j) pre (count j) (λ n. after sign.Semicolon (Got (plain n))) (count_good j)
+    (λ n q. after_good (fields j) (λ y. pre (spelled_count n y)) sign.Semicolon (Got (plain n))
+    (got_good (fields j) (λ y. pre (spelled_count n (Plain sign.Semicolon ∷ y))) (make n) (plain n) (is n) (fits n q) (sp n)))
+    (λ n q. (make n, fits n q, Plain sign.Semicolon ∷ [], sp n))
 
-field_law : (ts : List Lexeme) → Lawful fields (λ x. x) field ts (field ts)
-field_law [] = end_law fields (λ x. x) field some_field refl
-field_law (Leading lead.Val line ∷ ts) = step_law fields (λ x. x) field (value_field line) (Leading lead.Val line) ts (value_field line ts) (λ x. refl) ((value_field_good line).law ts)
-field_law (Leading lead.Ptr line ∷ ts) = step_law fields (λ x. x) field (pointer_field line) (Leading lead.Ptr line) ts (pointer_field line ts) (λ x. refl) ((pointer_field_good line).law ts)
-field_law (t ∷ ts) = wrong_law fields (λ x. x) field t ts some_field (λ v. refl)
+value_field_good : (j line : ℕ) → Good (fields j) (λ y. Leading lead.Val line ∷ y) (value_field j line)
+value_field_good j line =
+    label_good (fields j) (λ y. Leading lead.Val line ∷ y) (λ x. after sign.Colon (after sign.Int (λ rest. and_then (count j rest) (λ n. after sign.Semicolon (Got (tree.Val line x.name n))))))
+    (λ x. after_good (fields j) (λ y. Leading lead.Val line ∷ token.Name x ∷ y) sign.Colon (after sign.Int (λ rest. and_then (count j rest) (λ n. after sign.Semicolon (Got (tree.Val line x.name n)))))
+    (after_good (fields j) (λ y. Leading lead.Val line ∷ token.Name x ∷ Plain sign.Colon ∷ y) sign.Int (λ rest. and_then (count j rest) (λ n. after sign.Semicolon (Got (tree.Val line x.name n))))
+    (counted_good j (λ y. Leading lead.Val line ∷ token.Name x ∷ Plain sign.Colon ∷ Plain sign.Int ∷ y) (λ n. Val line x n) (λ n. tree.Val line x.name n) (λ n. refl) (λ n q. q) (λ n y. refl))))
 
-pub field_front : Fronts starts_field spelled_field (λ _. Unit {0})
-field_front (Val line x) q y = (Leading lead.Val line, _, refl, refl)
-field_front (Ptr line x target) q y = (Leading lead.Ptr line, _, refl, refl)
+pointer_field_good : (j line : ℕ) → Good (fields j) (λ y. Leading lead.Ptr line ∷ y) (pointer_field j line)
+pointer_field_good j line =
+    label_good (fields j) (λ y. Leading lead.Ptr line ∷ y)
+    (λ x. after sign.Colon (λ rest. and_then (label rest) (λ target rest. and_then (count j rest) (λ n. after sign.Semicolon (Got (tree.Ptr line x.name target.name n))))))
+    (λ x. after_good (fields j) (λ y. Leading lead.Ptr line ∷ token.Name x ∷ y) sign.Colon
+    (λ rest. and_then (label rest) (λ target rest. and_then (count j rest) (λ n. after sign.Semicolon (Got (tree.Ptr line x.name target.name n)))))
+    (label_good (fields j) (λ y. Leading lead.Ptr line ∷ token.Name x ∷ Plain sign.Colon ∷ y)
+    (λ target rest. and_then (count j rest) (λ n. after sign.Semicolon (Got (tree.Ptr line x.name target.name n))))
+    (λ target. counted_good j (λ y. Leading lead.Ptr line ∷ token.Name x ∷ Plain sign.Colon ∷ token.Name target ∷ y) (λ n. Ptr line x target n) (λ n. tree.Ptr line x.name target.name n)
+    (λ n. refl) (λ n q. q) (λ n y. refl))))
 
-pub field_short : Shortens field
-field_short = shortens fields starts_field field field_front field_law
+some_field : (j : ℕ) → Begins spelled_field (λ f. IsFormedField j (plain_field f)) (λ x. x) []
+some_field j = (Val 0 some_label None, tt, spelled_field (Val 0 some_label None) [], λ x. refl)
+
+field_law : (j : ℕ) (ts : List Lexeme) → Lawful (fields j) (λ x. x) (field j) ts (field j ts)
+field_law j [] = end_law (fields j) (λ x. x) (field j) (some_field j) refl
+field_law j (Leading lead.Val line ∷ ts) =
+    step_law (fields j) (λ x. x) (field j) (value_field j line) (Leading lead.Val line) ts (value_field j line ts) (λ x. refl) ((value_field_good j line).law ts)
+field_law j (Leading lead.Ptr line ∷ ts) =
+    step_law (fields j) (λ x. x) (field j) (pointer_field j line) (Leading lead.Ptr line) ts (pointer_field j line ts) (λ x. refl) ((pointer_field_good j line).law ts)
+field_law j (t ∷ ts) = wrong_law (fields j) (λ x. x) (field j) t ts (some_field j) (λ v. refl)
+
+pub field_front : (f : FieldText) (y : List Lexeme) → (t : Lexeme) × (v : List Lexeme) × (spelled_field f y ≡ t ∷ v) × (starts_field t ≡ true)
+field_front (Val line x n) y = (Leading lead.Val line, _, refl, refl)
+field_front (Ptr line x target n) y = (Leading lead.Ptr line, _, refl, refl)
+
+pub field_short : (j : ℕ) → Shortens (field j)
+field_short j = shortens (fields j) starts_field (field j) (λ f q y. field_front f y) (λ ts. field_law j ts)
 
 -- ---- types, parameters, locals
 
@@ -135,52 +169,56 @@ result_good = record { close = (None, tt, [], λ x. refl); law = go }
 
 -- ---- declarations
 
-abbrev pub items : (h d : ℕ) → Construct tree.Item
-items h d = record {
+abbrev pub items : (j h d : ℕ) → Construct tree.Item
+items j h d = record {
   Lined = Item;
   plain = plain_item;
   spell = spelled_item;
-  Fit = λ i. IsFormedItem (plain_item i);
-  In = λ i. IsFormedItem (plain_item i) × (item_height (plain_item i) ≤ h) × (item_nesting (plain_item i) ≤ d);
+  Fit = λ i. IsFormedItem j (plain_item i);
+  In = λ i. IsFormedItem j (plain_item i) × (item_height (plain_item i) ≤ h) × (item_nesting (plain_item i) ≤ d);
 }
 
-record_good : (h d line : ℕ) → Good (items h d) (λ y. Leading lead.Record line ∷ y) (record_type line)
-record_good h d line =
-    label_good (items h d) (λ y. Leading lead.Record line ∷ y)
-    (λ x rest. and_then (number rest) (λ v. after sign.OpenBrace (λ rest. and_then (many starts_field field rest) (λ fs. after sign.CloseBrace (Got (tree.Record line x.name v fs))))))
-    (λ x. number_good (items h d) (λ y. Leading lead.Record line ∷ token.Name x ∷ y)
-    (λ v. after sign.OpenBrace (λ rest. and_then (many starts_field field rest) (λ fs. after sign.CloseBrace (Got (tree.Record line x.name v fs)))))
-    (λ v. after_good (items h d) (λ y. Leading lead.Record line ∷ token.Name x ∷ token.Number v ∷ y) sign.OpenBrace
-    (λ rest. and_then (many starts_field field rest) (λ fs. after sign.CloseBrace (Got (tree.Record line x.name v fs))))
-    (bind_good (list fields) (items h d) (λ y. Leading lead.Record line ∷ token.Name x ∷ token.Number v ∷ Plain sign.OpenBrace ∷ y) (many starts_field field)
-    (λ fs. after sign.CloseBrace (Got (tree.Record line x.name v fs)))
-    (many_good fields starts_field field field_front (λ a q. tt) field_law)
-    (λ fs q. after_good (items h d) (λ y. Leading lead.Record line ∷ token.Name x ∷ token.Number v ∷ Plain sign.OpenBrace ∷ each spelled_field fs y) sign.CloseBrace
-    (Got (tree.Record line x.name v (map plain_field fs)))
-    (got_good (items h d) (λ y. Leading lead.Record line ∷ token.Name x ∷ token.Number v ∷ Plain sign.OpenBrace ∷ each spelled_field fs (Plain sign.CloseBrace ∷ y))
-    (Record line x v fs) (tree.Record line x.name v (map plain_field fs)) refl (tt, omega arith, omega arith) (λ y. refl)))
-    (λ fs q. (Record line x v fs, tt, Plain sign.CloseBrace ∷ [], λ y. refl)))))
+each_field : (j : ℕ) (fs : List FieldText) → Each (λ f. IsFormedField j (plain_field f)) fs → Each (IsFormedField j) (map plain_field fs)
+each_field j [] q = tt
+each_field j (f ∷ fs) (q, q') = (q, each_field j fs q')
 
-root_good : (h d line : ℕ) → Good (items h d) (λ y. Leading lead.Root line ∷ y) (root line)
-root_good h d line =
-    label_good (items h d) (λ y. Leading lead.Root line ∷ y) (λ x rest. and_then (typed rest) (λ k. after sign.Semicolon (Got (tree.Root line x.name k))))
-    (λ x. typed_good (items h d) (λ y. Leading lead.Root line ∷ token.Name x ∷ y) (λ k. after sign.Semicolon (Got (tree.Root line x.name k)))
-    (λ k. after_good (items h d) (λ y. Leading lead.Root line ∷ token.Name x ∷ Plain sign.Colon ∷ spelled_type k y) sign.Semicolon (Got (tree.Root line x.name (plain_type k)))
-    (got_good (items h d) (λ y. Leading lead.Root line ∷ token.Name x ∷ Plain sign.Colon ∷ spelled_type k (Plain sign.Semicolon ∷ y)) (Root line x k) (tree.Root line x.name (plain_type k)) refl
+record_good : (j h d line : ℕ) → Good (items j h d) (λ y. Leading lead.Record line ∷ y) (record_type j line)
+record_good j h d line =
+    label_good (items j h d) (λ y. Leading lead.Record line ∷ y)
+    (λ x rest. and_then (number rest) (λ v. after sign.OpenBrace (λ rest. and_then (many starts_field (field j) rest) (λ fs. after sign.CloseBrace (Got (tree.Record line x.name v fs))))))
+    (λ x. number_good (items j h d) (λ y. Leading lead.Record line ∷ token.Name x ∷ y)
+    (λ v. after sign.OpenBrace (λ rest. and_then (many starts_field (field j) rest) (λ fs. after sign.CloseBrace (Got (tree.Record line x.name v fs)))))
+    (λ v. after_good (items j h d) (λ y. Leading lead.Record line ∷ token.Name x ∷ token.Number v ∷ y) sign.OpenBrace
+    (λ rest. and_then (many starts_field (field j) rest) (λ fs. after sign.CloseBrace (Got (tree.Record line x.name v fs))))
+    (bind_good (list (fields j)) (items j h d) (λ y. Leading lead.Record line ∷ token.Name x ∷ token.Number v ∷ Plain sign.OpenBrace ∷ y) (many starts_field (field j))
+    (λ fs. after sign.CloseBrace (Got (tree.Record line x.name v fs)))
+    (many_good (fields j) starts_field (field j) (λ f q y. field_front f y) (λ a q. q) (λ us. field_law j us))
+    (λ fs q. after_good (items j h d) (λ y. Leading lead.Record line ∷ token.Name x ∷ token.Number v ∷ Plain sign.OpenBrace ∷ each spelled_field fs y) sign.CloseBrace
+    (Got (tree.Record line x.name v (map plain_field fs)))
+    (got_good (items j h d) (λ y. Leading lead.Record line ∷ token.Name x ∷ token.Number v ∷ Plain sign.OpenBrace ∷ each spelled_field fs (Plain sign.CloseBrace ∷ y))
+    (Record line x v fs) (tree.Record line x.name v (map plain_field fs)) refl (each_field j fs q, omega arith, omega arith) (λ y. refl)))
+    (λ fs q. (Record line x v fs, each_field j fs q, Plain sign.CloseBrace ∷ [], λ y. refl)))))
+
+root_good : (j h d line : ℕ) → Good (items j h d) (λ y. Leading lead.Root line ∷ y) (root line)
+root_good j h d line =
+    label_good (items j h d) (λ y. Leading lead.Root line ∷ y) (λ x rest. and_then (typed rest) (λ k. after sign.Semicolon (Got (tree.Root line x.name k))))
+    (λ x. typed_good (items j h d) (λ y. Leading lead.Root line ∷ token.Name x ∷ y) (λ k. after sign.Semicolon (Got (tree.Root line x.name k)))
+    (λ k. after_good (items j h d) (λ y. Leading lead.Root line ∷ token.Name x ∷ Plain sign.Colon ∷ spelled_type k y) sign.Semicolon (Got (tree.Root line x.name (plain_type k)))
+    (got_good (items j h d) (λ y. Leading lead.Root line ∷ token.Name x ∷ Plain sign.Colon ∷ spelled_type k (Plain sign.Semicolon ∷ y)) (Root line x k) (tree.Root line x.name (plain_type k)) refl
     (tt, omega arith, omega arith) (λ y. refl))))
 
 -- what stands behind the head of a procedure
-body_good : (h d line : ℕ) (query : Bool) (x : Label) (ps : List Parameter) (r : Option TypeText) →
-    Good (items h d) (λ y. Leading (head query) line ∷ token.Name x ∷ Plain sign.OpenParen ∷ listed spelled_parameter ps (spelled_result r y))
-    (body h d (λ ls b. tree.Procedure record { line = line; query = query; name = x.name; parameters = map plain_parameter ps; result = option_map plain_type r; locals = ls; body = b }))
-body_good h d line query x ps r =
-    after_good (items h d) pre sign.OpenBrace (λ ts. and_then (many starts_local local ts) (λ ls rest. and_then (reading_block h d rest) (λ b. after sign.CloseBrace (Got (make ls b)))))
-    (bind_good (list locals) (items h d) (λ y. pre (Plain sign.OpenBrace ∷ y)) (many starts_local local) (λ ls rest. and_then (reading_block h d rest) (λ b. after sign.CloseBrace (Got (make ls b))))
+body_good : (j h d line : ℕ) (query : Bool) (x : Label) (ps : List Parameter) (r : Option TypeText) →
+    Good (items j h d) (λ y. Leading (head query) line ∷ token.Name x ∷ Plain sign.OpenParen ∷ listed spelled_parameter ps (spelled_result r y))
+    (body j h d (λ ls b. tree.Procedure record { line = line; query = query; name = x.name; parameters = map plain_parameter ps; result = option_map plain_type r; locals = ls; body = b }))
+body_good j h d line query x ps r =
+    after_good (items j h d) pre sign.OpenBrace (λ ts. and_then (many starts_local local ts) (λ ls rest. and_then (reading_block j h d rest) (λ b. after sign.CloseBrace (Got (make ls b)))))
+    (bind_good (list locals) (items j h d) (λ y. pre (Plain sign.OpenBrace ∷ y)) (many starts_local local) (λ ls rest. and_then (reading_block j h d rest) (λ b. after sign.CloseBrace (Got (make ls b))))
     (many_good locals starts_local local local_front (λ a q. tt) local_law)
-    (λ ls q. bind_good (blocks h d) (items h d) (λ y. pre (Plain sign.OpenBrace ∷ each spelled_local ls y)) (reading_block h d) (λ b. after sign.CloseBrace (Got (make (map plain_local ls) b)))
-    (reading_block_good h d)
-    (λ b (q', low, shallow). after_good (items h d) (λ y. pre (Plain sign.OpenBrace ∷ each spelled_local ls (spelled_block b y))) sign.CloseBrace (Got (make (map plain_local ls) (phrases b)))
-    (got_good (items h d) (λ y. pre (Plain sign.OpenBrace ∷ each spelled_local ls (spelled_block b (Plain sign.CloseBrace ∷ y)))) (Procedure line query x ps r ls b) (make (map plain_local ls) (phrases b)) refl
+    (λ ls q. bind_good (blocks j h d) (items j h d) (λ y. pre (Plain sign.OpenBrace ∷ each spelled_local ls y)) (reading_block j h d) (λ b. after sign.CloseBrace (Got (make (map plain_local ls) b)))
+    (reading_block_good j h d)
+    (λ b (q', low, shallow). after_good (items j h d) (λ y. pre (Plain sign.OpenBrace ∷ each spelled_local ls (spelled_block b y))) sign.CloseBrace (Got (make (map plain_local ls) (phrases b)))
+    (got_good (items j h d) (λ y. pre (Plain sign.OpenBrace ∷ each spelled_local ls (spelled_block b (Plain sign.CloseBrace ∷ y)))) (Procedure line query x ps r ls b) (make (map plain_local ls) (phrases b)) refl
     (q', low, shallow) (λ y. refl)))
     (λ b q'. (Procedure line query x ps r ls b, q', Plain sign.CloseBrace ∷ [], λ y. refl)))
     (λ ls q. (Procedure line query x ps r ls Empty, tt, Plain sign.CloseBrace ∷ [], λ y. refl)))
@@ -191,62 +229,62 @@ body_good h d line query x ps r =
     make : List tree.LocalText → tree.Phrases → tree.Item
     make ls b = tree.Procedure record { line = line; query = query; name = x.name; parameters = map plain_parameter ps; result = option_map plain_type r; locals = ls; body = b }
 
-procedure_good : (h d line : ℕ) (query : Bool) → Good (items h d) (λ y. Leading (head query) line ∷ y) (procedure h d line query)
-procedure_good h d line query =
-    label_good (items h d) (λ y. Leading (head query) line ∷ y) (λ x. after sign.OpenParen (λ rest. and_then (reader.listed parameter rest) (λ ps rest. and_then (result rest) (λ r. body h d (make x ps r)))))
-    (λ x. after_good (items h d) (λ y. Leading (head query) line ∷ token.Name x ∷ y) sign.OpenParen (λ rest. and_then (reader.listed parameter rest) (λ ps rest. and_then (result rest) (λ r. body h d (make x ps r))))
-    (bind_good (commas parameters) (items h d) (λ y. Leading (head query) line ∷ token.Name x ∷ Plain sign.OpenParen ∷ y) (reader.listed parameter) (λ ps rest. and_then (result rest) (λ r. body h d (make x ps r)))
+procedure_good : (j h d line : ℕ) (query : Bool) → Good (items j h d) (λ y. Leading (head query) line ∷ y) (procedure j h d line query)
+procedure_good j h d line query =
+    label_good (items j h d) (λ y. Leading (head query) line ∷ y) (λ x. after sign.OpenParen (λ rest. and_then (reader.listed parameter rest) (λ ps rest. and_then (result rest) (λ r. body j h d (make x ps r)))))
+    (λ x. after_good (items j h d) (λ y. Leading (head query) line ∷ token.Name x ∷ y) sign.OpenParen (λ rest. and_then (reader.listed parameter rest) (λ ps rest. and_then (result rest) (λ r. body j h d (make x ps r))))
+    (bind_good (commas parameters) (items j h d) (λ y. Leading (head query) line ∷ token.Name x ∷ Plain sign.OpenParen ∷ y) (reader.listed parameter) (λ ps rest. and_then (result rest) (λ r. body j h d (make x ps r)))
     (listed_good parameters parameter (λ a q. tt) parameter_good)
-    (λ ps q. bind_good results (items h d) (λ y. Leading (head query) line ∷ token.Name x ∷ Plain sign.OpenParen ∷ listed spelled_parameter ps y) result (λ r. body h d (make x (map plain_parameter ps) r))
+    (λ ps q. bind_good results (items j h d) (λ y. Leading (head query) line ∷ token.Name x ∷ Plain sign.OpenParen ∷ listed spelled_parameter ps y) result (λ r. body j h d (make x (map plain_parameter ps) r))
     result_good
-    (λ r q'. body_good h d line query x ps r)
+    (λ r q'. body_good j h d line query x ps r)
     (λ r q'. (Procedure line query x ps r [] Empty, tt, Plain sign.OpenBrace ∷ Plain sign.CloseBrace ∷ [], λ y. refl)))
     (λ ps q. (Procedure line query x ps None [] Empty, tt, Plain sign.OpenBrace ∷ Plain sign.CloseBrace ∷ [], λ y. refl))))
   where
     make : Label → List tree.LocalText → Option tree.TypeWord → List tree.LocalText → tree.Phrases → tree.Item
     make x ps r ls b = tree.Procedure record { line = line; query = query; name = x.name; parameters = ps; result = r; locals = ls; body = b }
 
-some_item : (h d : ℕ) → Begins spelled_item (items h d).In (λ x. x) []
-some_item h d = (Root 0 some_label Int, (tt, omega arith, omega arith), spelled_item (Root 0 some_label Int) [], λ x. refl)
+some_item : (j h d : ℕ) → Begins spelled_item (items j h d).In (λ x. x) []
+some_item j h d = (Root 0 some_label Int, (tt, omega arith, omega arith), spelled_item (Root 0 some_label Int) [], λ x. refl)
 
-pub item_law : (h d : ℕ) (ts : List Lexeme) → Lawful (items h d) (λ x. x) (item h d) ts (item h d ts)
-item_law h d [] = end_law (items h d) (λ x. x) (item h d) (some_item h d) refl
-item_law h d (Leading lead.Record line ∷ ts) = step_law (items h d) (λ x. x) (item h d) (record_type line) (Leading lead.Record line) ts (record_type line ts) (λ x. refl) ((record_good h d line).law ts)
-item_law h d (Leading lead.Root line ∷ ts) = step_law (items h d) (λ x. x) (item h d) (root line) (Leading lead.Root line) ts (root line ts) (λ x. refl) ((root_good h d line).law ts)
-item_law h d (Leading lead.Proc line ∷ ts) =
-    step_law (items h d) (λ x. x) (item h d) (procedure h d line false) (Leading lead.Proc line) ts (procedure h d line false ts) (λ x. refl) ((procedure_good h d line false).law ts)
-item_law h d (Leading lead.Query line ∷ ts) =
-    step_law (items h d) (λ x. x) (item h d) (procedure h d line true) (Leading lead.Query line) ts (procedure h d line true ts) (λ x. refl) ((procedure_good h d line true).law ts)
-item_law h d (t ∷ ts) = wrong_law (items h d) (λ x. x) (item h d) t ts (some_item h d) (λ v. refl)
+pub item_law : (j h d : ℕ) (ts : List Lexeme) → Lawful (items j h d) (λ x. x) (item j h d) ts (item j h d ts)
+item_law j h d [] = end_law (items j h d) (λ x. x) (item j h d) (some_item j h d) refl
+item_law j h d (Leading lead.Record line ∷ ts) = step_law (items j h d) (λ x. x) (item j h d) (record_type j line) (Leading lead.Record line) ts (record_type j line ts) (λ x. refl) ((record_good j h d line).law ts)
+item_law j h d (Leading lead.Root line ∷ ts) = step_law (items j h d) (λ x. x) (item j h d) (root line) (Leading lead.Root line) ts (root line ts) (λ x. refl) ((root_good j h d line).law ts)
+item_law j h d (Leading lead.Proc line ∷ ts) =
+    step_law (items j h d) (λ x. x) (item j h d) (procedure j h d line false) (Leading lead.Proc line) ts (procedure j h d line false ts) (λ x. refl) ((procedure_good j h d line false).law ts)
+item_law j h d (Leading lead.Query line ∷ ts) =
+    step_law (items j h d) (λ x. x) (item j h d) (procedure j h d line true) (Leading lead.Query line) ts (procedure j h d line true ts) (λ x. refl) ((procedure_good j h d line true).law ts)
+item_law j h d (t ∷ ts) = wrong_law (items j h d) (λ x. x) (item j h d) t ts (some_item j h d) (λ v. refl)
 
 pub item_front : (i : Item) (x : List Lexeme) → (t : Lexeme) × (v : List Lexeme) × (spelled_item i x ≡ t ∷ v) × (any t ≡ true)
 item_front (Record line y limit fs) x = (Leading lead.Record line, _, refl, refl)
 item_front (Root line y k) x = (Leading lead.Root line, _, refl, refl)
 item_front (Procedure line query y ps r ls b) x = (Leading (head query) line, _, refl, refl)
 
-pub item_short : (h d : ℕ) → Shortens (item h d)
-item_short h d = shortens (items h d) any (item h d) (λ i q x. item_front i x) (λ ts. item_law h d ts)
+pub item_short : (j h d : ℕ) → Shortens (item j h d)
+item_short j h d = shortens (items j h d) any (item j h d) (λ i q x. item_front i x) (λ ts. item_law j h d ts)
 
-pub program_good : (h d : ℕ) → Good (list (items h d)) (λ x. x) (reading_program h d)
-program_good h d = many_good (items h d) any (item h d) (λ i q x. item_front i x) (λ i (q, low, shallow). q) (λ ts. item_law h d ts)
+-- declarations up to the end, and the same wherever they begin
+pub many_items_good : (j h d : ℕ) → Good (list (items j h d)) (λ x. x) (many any (item j h d))
+many_items_good j h d = many_good (items j h d) any (item j h d) (λ i q x. item_front i x) (λ i (q, low, shallow). q) (λ ts. item_law j h d ts)
 
--- a program is read up to the end
-pub program_rest : (h d n : ℕ) (ts rest : List Lexeme) (p : List tree.Item) → length ts ≤ n → reading_program h d ts ≡ Got p rest → rest ≡ []
-program_rest h d n [] rest p le e = let none = many-end any (item h d) in cc
-program_rest h d zero (t ∷ ts) rest p le e = absurd (omega arith)
-program_rest h d (suc n) (t ∷ ts) rest p le e =
-    go (item h d (t ∷ ts)) refl (λ us rest p le. program_rest h d n us rest p le) (sym (many-start any (item h d) (item_short h d) t ts refl) ∙ e)
+pub items_rest : (j h d n : ℕ) (ts rest : List Lexeme) (p : List tree.Item) → length ts ≤ n → many any (item j h d) ts ≡ Got p rest → rest ≡ []
+items_rest j h d n [] rest p le e = let none = many-end any (item j h d) in cc
+items_rest j h d zero (t ∷ ts) rest p le e = absurd (omega arith)
+items_rest j h d (suc n) (t ∷ ts) rest p le e =
+    go (item j h d (t ∷ ts)) refl (λ us rest p le. items_rest j h d n us rest p le) (sym (many-start any (item j h d) (item_short j h d) t ts refl) ∙ e)
   where
     inner : (r : Read (List tree.Item)) (a : tree.Item) → and_then r (λ l. Got (a ∷ l)) ≡ Got p rest → (l : List tree.Item) × (r ≡ Got l rest)
     inner (Got l s) a e = (l, let same : s ≡ rest = cc in ap (λ z. Got l z) same)
     inner (Bad k s) a e = cc
 
-    go : (r : Read tree.Item) → item h d (t ∷ ts) ≡ r → ((us rest : List Lexeme) (p : List tree.Item) → length us ≤ n → reading_program h d us ≡ Got p rest → rest ≡ []) →
-        and_then r (λ a rest. and_then (many any (item h d) rest) (λ l. Got (a ∷ l))) ≡ Got p rest → rest ≡ []
+    go : (r : Read tree.Item) → item j h d (t ∷ ts) ≡ r → ((us rest : List Lexeme) (p : List tree.Item) → length us ≤ n → many any (item j h d) us ≡ Got p rest → rest ≡ []) →
+        and_then r (λ a rest. and_then (many any (item j h d) rest) (λ l. Got (a ∷ l))) ≡ Got p rest → rest ≡ []
     go (Bad k s) is again e = cc
     go (Got a s) is again e =
-        let (l, q) = inner (many any (item h d) s) a e in
-        let lt : length s < length (t ∷ ts) = item_short h d (t ∷ ts) s a is in
+        let (l, q) = inner (many any (item j h d) s) a e in
+        let lt : length s < length (t ∷ ts) = item_short j h d (t ∷ ts) s a is in
         again s rest l (omega arith) q
 
 pub no_token : (ts : List Lexeme) → false ≡ begins any ts → ts ≡ []

@@ -1,61 +1,72 @@
 -- What reading a program answers, in the grammar's words.
-use Rattle.std.specs.Prelude.{◌≡◌, ℕ, ◌≤◌, ◌+◌, max, List, [], ◌∷◌, ◌++◌, length}
-use Rattle.std.proofs.Common.{refl, sym, ap, ◌∙◌, subst, arith, append-nil, append_assoc}
+use Rattle.std.specs.Prelude.{◌≡◌, ℕ, ◌≤◌, ◌+◌, max, List, [], ◌∷◌, ◌++◌, map}
+use Rattle.std.proofs.Common.{inl, inr, refl, sym, ap, ◌∙◌, subst, arith, append-nil, append_assoc}
 use Rattle.pst_tree.specs.Syntax as tree
 use Rattle.pst_parse.specs.Lexemes.{Lexeme}
 use Rattle.pst_tree.specs.Depth.{greatest, item_height, item_nesting}
-use Rattle.pst_parse.specs.Forms.{Each, IsFormedItem, IsProgram, IsShallow}
-use Rattle.pst_parse.specs.Spelling.{each, Item, item as plain_item, spelled_item, program, spelled_program}
+use Rattle.pst_parse.specs.Forms.{Each, IsFormedItem, IsLanguage, IsProgram, IsShallow}
+use Rattle.pst_parse.specs.Spelling.{Item, item as plain_item, Opening, First, Second, language, Program, program, spelled_program}
 use Rattle.pst_parse.specs.Grammar as grammar
 use Rattle.pst_parse.specs.Grammar.{Spells, IsUnexpected, IsTooDeep}
 use Rattle.pst_parse.specs.Reader.{Read, Got, Bad, Unexpected, TooDeep}
 use Rattle.pst_parse.specs.Declarations.{reading_program}
 use Rattle.pst_parse.proofs.Laws.{Begins, Lawful}
-use Rattle.pst_parse.proofs.Many.{list}
-use Rattle.pst_parse.proofs.DeclarationLaw.{items, program_good, program_rest}
+use Rattle.pst_parse.proofs.DeclarationLaw.{items}
+use Rattle.pst_parse.proofs.ProgramLaw.{programs, program_good, program_rest}
 use Rattle.pst_parse.proofs.DeclarationAgain.{program_again}
 use Rattle.pst_parse.proofs.Wider.{program_under}
 
 -- programs, part by part and whole
-formed : (p : List Item) → Each (λ i. IsFormedItem (plain_item i)) p → IsProgram (program p)
-formed [] q = tt
-formed (i ∷ p) (q, q') = (q, formed p q')
+is_language : (o : Opening) → IsLanguage (language o)
+is_language First = inl refl
+is_language (Second line) = inr refl
 
-parts : (h d : ℕ) (p : List Item) → IsProgram (program p) → greatest item_height (program p) ≤ h → greatest item_nesting (program p) ≤ d → Each (items h d).In p
-parts h d [] q low few = tt
-parts h d (i ∷ p) (q, q') low few = ((q, omega arith, omega arith), parts h d p q' (omega arith) (omega arith))
+each_formed : (j : ℕ) (l : List Item) → Each (λ i. IsFormedItem j (plain_item i)) l → Each (IsFormedItem j) (map plain_item l)
+each_formed j [] q = tt
+each_formed j (i ∷ l) (q, q') = (q, each_formed j l q')
 
-shallow : (h d : ℕ) (p : List Item) → Each (items h d).In p → IsShallow h d (program p)
-shallow h d [] q = record { formed = tt; height = omega arith; nesting = omega arith }
-shallow h d (i ∷ p) ((q, low, few), q') =
-    let rest : IsShallow h d (program p) = shallow h d p q' in
-    let low' : greatest item_height (program p) ≤ h = rest.height in
-    let few' : greatest item_nesting (program p) ≤ d = rest.nesting in
-    record { formed = (q, rest.formed); height = omega arith; nesting = omega arith }
+parts_of : (j h d : ℕ) (l : List Item) → Each (IsFormedItem j) (map plain_item l) → greatest item_height (map plain_item l) ≤ h → greatest item_nesting (map plain_item l) ≤ d → Each (items j h d).In l
+parts_of j h d [] q low few = tt
+parts_of j h d (i ∷ l) (q, q') low few = ((q, omega arith, omega arith), parts_of j h d l q' (omega arith) (omega arith))
 
-again_program : (h d : ℕ) (p : List Item) → IsShallow h d (program p) → reading_program h d (spelled_program p []) ≡ Got (program p) []
+limits_of : (j h d : ℕ) (l : List Item) → Each (items j h d).In l → Each (IsFormedItem j) (map plain_item l) × (greatest item_height (map plain_item l) ≤ h) × (greatest item_nesting (map plain_item l) ≤ d)
+limits_of j h d [] q = (tt, omega arith, omega arith)
+limits_of j h d (i ∷ l) ((q, low, few), q') = let (formed, low', few') = limits_of j h d l q' in ((q, formed), omega arith, omega arith)
+
+formed : (p : Program) → Each (λ i. IsFormedItem (language p.opening) (plain_item i)) p.items → IsProgram (program p)
+formed p q = (is_language p.opening, each_formed (language p.opening) p.items q)
+
+parts : (h d : ℕ) (p : Program) → IsProgram (program p) → greatest item_height (program p).items ≤ h → greatest item_nesting (program p).items ≤ d → Each (items (language p.opening) h d).In p.items
+parts h d p (q, q') low few = parts_of (language p.opening) h d p.items q' low few
+
+shallow : (h d : ℕ) (p : Program) → Each (items (language p.opening) h d).In p.items → IsShallow h d (program p)
+shallow h d p q =
+    let (each, low, few) = limits_of (language p.opening) h d p.items q in
+    record { formed = (is_language p.opening, each); height = low; nesting = few }
+
+again_program : (h d : ℕ) (p : Program) → IsShallow h d (program p) → reading_program h d (spelled_program p []) ≡ Got (program p) []
 again_program h d p s = program_again h d p (parts h d p s.formed s.height s.nesting)
 
-clash : (h d : ℕ) (p : List Item) (s : List Lexeme) → IsProgram (program p) → reading_program h d (spelled_program p []) ≡ Bad Unexpected s → ⊥
+clash : (h d : ℕ) (p : Program) (s : List Lexeme) → IsProgram (program p) → reading_program h d (spelled_program p []) ≡ Bad Unexpected s → ⊥
 clash h d p s q e =
     let ts = spelled_program p [] in
-    let k = h + greatest item_height (program p) in
-    let c = d + greatest item_nesting (program p) in
+    let k = h + greatest item_height (program p).items in
+    let c = d + greatest item_nesting (program p).items in
     let w = program_under h k d c ts (omega arith) (omega arith) in
     let w' = rw e at w in
     let a : reading_program k c ts ≡ Got (program p) [] = program_again k c p (parts k c p q (omega arith) (omega arith)) in
     cc
 
-clash_deep : (h d : ℕ) (p : List Item) (s : List Lexeme) → IsShallow h d (program p) → reading_program h d (spelled_program p []) ≡ Bad TooDeep s → ⊥
+clash_deep : (h d : ℕ) (p : Program) (s : List Lexeme) → IsShallow h d (program p) → reading_program h d (spelled_program p []) ≡ Bad TooDeep s → ⊥
 clash_deep h d p s q e = let a = again_program h d p q in cc
 
-begins_shallow : (h d : ℕ) (u : List Lexeme) → Begins (each spelled_item) (Each (items h d).In) (λ x. x) u → grammar.Begins (IsShallow h d) u
+begins_shallow : (h d : ℕ) (u : List Lexeme) → Begins spelled_program (programs h d).In (λ x. x) u → grammar.Begins (IsShallow h d) u
 begins_shallow h d u (p, q, c, sp) = (p, c ++ [], shallow h d p q, sp [])
 
-begins_program : (u : List Lexeme) → Begins (each spelled_item) (Each (λ i. IsFormedItem (plain_item i))) (λ x. x) u → grammar.Begins IsProgram u
-begins_program u (p, q, c, sp) = (p, c ++ [], formed p q, sp [])
+begins_program : (h d : ℕ) (u : List Lexeme) → Begins spelled_program (programs h d).Fit (λ x. x) u → grammar.Begins IsProgram u
+begins_program h d u (p, q, c, sp) = (p, c ++ [], formed p q, sp [])
 
-unexpected_is : (h d : ℕ) (ts rest : List Lexeme) (r : Read (List tree.Item)) → r ≡ Bad Unexpected rest → Lawful (list (items h d)) (λ x. x) (reading_program h d) ts r →
+unexpected_is : (h d : ℕ) (ts rest : List Lexeme) (r : Read tree.ProgramText) → r ≡ Bad Unexpected rest → Lawful (programs h d) (λ x. x) (reading_program h d) ts r →
     (u : List Lexeme) × (ts ≡ u ++ rest) × IsUnexpected h d u rest
 unexpected_is h d ts rest (Got p s) e law = cc
 unexpected_is h d ts rest (Bad TooDeep s) e law = cc
@@ -70,11 +81,11 @@ unexpected_is h d ts (t ∷ v) (Bad Unexpected (k ∷ w)) e (u, at, b, loc) =
       rw same at at,
       (
         begins_shallow h d u b,
-        λ (p, x, q, sp). clash h d p (k ∷ x) q (ap (reading_program h d) (sp ∙ append_assoc u (t ∷ []) x ∙ rw head refl) ∙ loc (k ∷ x) (x, refl)),
+        λ (p, x, q, sp). clash h d p (k ∷ x) q (ap (reading_program h d) (sp ∙ append_assoc u (t ∷ []) x ∙ ap (λ z. u ++ (z ∷ x)) (sym head)) ∙ loc (k ∷ x) (x, refl)),
       ),
     )
 
-deep_is : (h d : ℕ) (ts rest : List Lexeme) (r : Read (List tree.Item)) → r ≡ Bad TooDeep rest → Lawful (list (items h d)) (λ x. x) (reading_program h d) ts r →
+deep_is : (h d : ℕ) (ts rest : List Lexeme) (r : Read tree.ProgramText) → r ≡ Bad TooDeep rest → Lawful (programs h d) (λ x. x) (reading_program h d) ts r →
     (u : List Lexeme) × (ts ≡ u ++ rest) × IsTooDeep h d u rest
 deep_is h d ts rest (Got p s) e law = cc
 deep_is h d ts rest (Bad Unexpected s) e law = cc
@@ -86,13 +97,13 @@ deep_is h d ts (k ∷ w) (Bad TooDeep s) e (u, t, v, at, is, b, b', loc) =
       rw same at at,
       (
         begins_shallow h d u b,
-        rw head at (begins_program (u ++ (t ∷ [])) b'),
-        λ (p, x, q, sp). clash_deep h d p (t ∷ x) q (ap (reading_program h d) (sp ∙ append_assoc u (k ∷ []) x ∙ rw head refl) ∙ loc (t ∷ x) (x, refl)),
+        rw head at (begins_program h d (u ++ (t ∷ [])) b'),
+        λ (p, x, q, sp). clash_deep h d p (t ∷ x) q (ap (reading_program h d) (sp ∙ append_assoc u (k ∷ []) x ∙ ap (λ z. u ++ (z ∷ x)) (sym head)) ∙ loc (t ∷ x) (x, refl)),
       ),
     )
 
-got_is : (h d : ℕ) (run : List Lexeme → Read (List tree.Item)) (ts rest : List Lexeme) (p : List tree.Item) (r : Read (List tree.Item)) → r ≡ Got p rest → rest ≡ [] →
-    Lawful (list (items h d)) (λ x. x) run ts r → (l : List Item) × (program l ≡ p) × IsShallow h d p × Spells ts l
+got_is : (h d : ℕ) (run : List Lexeme → Read tree.ProgramText) (ts rest : List Lexeme) (p : tree.ProgramText) (r : Read tree.ProgramText) → r ≡ Got p rest → rest ≡ [] →
+    Lawful (programs h d) (λ x. x) run ts r → (l : Program) × (program l ≡ p) × IsShallow h d p × Spells ts l
 got_is h d run ts rest p (Bad Unexpected s) e none law = cc
 got_is h d run ts rest p (Bad TooDeep s) e none law = cc
 got_is h d run ts rest p (Got a s) e none (l, pl, inn, u, at, sp, loc) =
@@ -102,11 +113,11 @@ got_is h d run ts rest p (Got a s) e none (l, pl, inn, u, at, sp, loc) =
     (l, kept, subst (IsShallow h d) kept (shallow h d l inn), sp [] ∙ sym (rw nil at at))
 
 -- what is read is a program within the limits, with these tokens
-pub found : (h d : ℕ) (ts rest : List Lexeme) (p : List tree.Item) → reading_program h d ts ≡ Got p rest → (l : List Item) × (program l ≡ p) × IsShallow h d p × Spells ts l
-found h d ts rest p e = got_is h d (reading_program h d) ts rest p (reading_program h d ts) e (program_rest h d (length ts) ts rest p (omega arith) e) ((program_good h d).law ts)
+pub found : (h d : ℕ) (ts rest : List Lexeme) (p : tree.ProgramText) → reading_program h d ts ≡ Got p rest → (l : Program) × (program l ≡ p) × IsShallow h d p × Spells ts l
+found h d ts rest p e = got_is h d (reading_program h d) ts rest p (reading_program h d ts) e (program_rest h d ts rest p e) ((program_good h d).law ts)
 
 -- each program within the limits is read
-pub only : (h d : ℕ) (ts : List Lexeme) (p : List Item) → IsShallow h d (program p) → Spells ts p → reading_program h d ts ≡ Got (program p) []
+pub only : (h d : ℕ) (ts : List Lexeme) (p : Program) → IsShallow h d (program p) → Spells ts p → reading_program h d ts ≡ Got (program p) []
 only h d ts p s sp = rw (← sp) (again_program h d p s)
 
 pub unexpected : (h d : ℕ) (ts rest : List Lexeme) → reading_program h d ts ≡ Bad Unexpected rest → (before : List Lexeme) × (ts ≡ before ++ rest) × IsUnexpected h d before rest
@@ -116,10 +127,10 @@ pub deep : (h d : ℕ) (ts rest : List Lexeme) → reading_program h d ts ≡ Ba
 deep h d ts rest e = deep_is h d ts rest (reading_program h d ts) e ((program_good h d).law ts)
 
 -- tokens are spelled by at most one program
-pub unique : (ts : List Lexeme) (p q : List Item) → IsProgram (program p) → IsProgram (program q) → Spells ts p → Spells ts q → program p ≡ program q
+pub unique : (ts : List Lexeme) (p q : Program) → IsProgram (program p) → IsProgram (program q) → Spells ts p → Spells ts q → program p ≡ program q
 unique ts p q formed_p formed_q sp sq =
-    let h = max (greatest item_height (program p)) (greatest item_height (program q)) in
-    let d = max (greatest item_nesting (program p)) (greatest item_nesting (program q)) in
+    let h = max (greatest item_height (program p).items) (greatest item_height (program q).items) in
+    let d = max (greatest item_nesting (program p).items) (greatest item_nesting (program q).items) in
     let a = only h d ts p (record { formed = formed_p; height = omega arith; nesting = omega arith }) sp in
     let b = only h d ts q (record { formed = formed_q; height = omega arith; nesting = omega arith }) sq in
     cc

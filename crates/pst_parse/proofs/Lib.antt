@@ -9,6 +9,7 @@ pub mod Again
 pub mod Many
 pub mod StatementLaw
 pub mod DeclarationLaw
+pub mod ProgramLaw
 pub mod StatementAgain
 pub mod DeclarationAgain
 pub mod Faults

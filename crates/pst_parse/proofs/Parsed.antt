@@ -8,7 +8,7 @@ use Rattle.pst_lex.specs.declared.types.Tokens.{Tokens}
 use Rattle.pst_tree.specs.Syntax as tree
 use Rattle.pst_parse.specs.Lexemes.{Lexeme, lexeme, lexemes}
 use Rattle.pst_parse.specs.Forms.{IsShallow}
-use Rattle.pst_parse.specs.Spelling.{Item, program}
+use Rattle.pst_parse.specs.Spelling.{Program, program}
 use Rattle.pst_parse.specs.Grammar.{Spells, IsUnexpected, IsTooDeep, IsFirstFaultOn, line_at}
 use Rattle.pst_parse.specs.Reader.{Got, Bad, Fault, Unexpected, TooDeep}
 use Rattle.pst_parse.specs.Declarations.{reading_program}
@@ -54,8 +54,8 @@ pub deep_short : (h d : ℕ) (list s : List Token) → reading_program h d (lexe
 deep_short h d list s e = let (u, at, is) = deep h d (lexemes list) (lexemes s) e in place_short list s u at
 
 -- what was read is that program
-pub same_program : (h d : ℕ) (ts rest : List Lexeme) (q : List tree.Item) (p : List Item) → reading_program h d ts ≡ Got q rest → IsShallow h d (program p) → Spells ts p → q ≡ program p
+pub same_program : (h d : ℕ) (ts rest : List Lexeme) (q : tree.ProgramText) (p : Program) → reading_program h d ts ≡ Got q rest → IsShallow h d (program p) → Spells ts p → q ≡ program p
 same_program h d ts rest q p e shallow sp = let o = only h d ts p shallow sp in cc
 
-pub no_fault : {X : Type 0} (h d : ℕ) (ts rest : List Lexeme) (k : Fault) (p : List Item) → reading_program h d ts ≡ Bad k rest → IsShallow h d (program p) → Spells ts p → X
+pub no_fault : {X : Type 0} (h d : ℕ) (ts rest : List Lexeme) (k : Fault) (p : Program) → reading_program h d ts ≡ Bad k rest → IsShallow h d (program p) → Spells ts p → X
 no_fault h d ts rest k p e shallow sp = absurd (let o = only h d ts p shallow sp in cc)

@@ -22,30 +22,30 @@ use Rattle.pst_parse.specs.View.{Lacks, stated_of}
 use Rattle.pst_parse.proofs.Again.{test_true, test_false}
 
 -- a statement by its first token
-statement_is : (h d : ℕ) (ts : List Lexeme) → reading_statement h d ts ≡ statement (inner h d) h d ts
+statement_is : (j h d : ℕ) (ts : List Lexeme) → reading_statement j h d ts ≡ statement j (inner j h d) h d ts
 unfolding reading_statement
-statement_is h zero ts = refl
-statement_is h (suc c) ts = refl
+statement_is j h zero ts = refl
+statement_is j h (suc c) ts = refl
 
-pub statement-none : (h d : ℕ) (ts : List Lexeme) → ts ≡ [] → reading_statement h d ts ≡ Bad Unexpected ts
-statement-none h d ts e = rw e (statement_is h d [])
+pub statement-none : (j h d : ℕ) (ts : List Lexeme) → ts ≡ [] → reading_statement j h d ts ≡ Bad Unexpected ts
+statement-none j h d ts e = rw e (statement_is j h d [])
 
-pub statement-name : (h d : ℕ) (x : Label) (ts : List Lexeme) → reading_statement h d (Name x ∷ ts) ≡ on_line x.line (assigned h x.name ts)
-statement-name h d x ts = statement_is h d (Name x ∷ ts)
+pub statement-name : (j h d : ℕ) (x : Label) (ts : List Lexeme) → reading_statement j h d (Name x ∷ ts) ≡ on_line x.line (assigned j h x.name ts)
+statement-name j h d x ts = statement_is j h d (Name x ∷ ts)
 
-pub statement-leading : (h d : ℕ) (l : Lead) (line : ℕ) (ts : List Lexeme) → reading_statement h d (Leading l line ∷ ts) ≡ on_line line (led (inner h d) h d l (Leading l line ∷ ts) ts)
-statement-leading h d l line ts = statement_is h d (Leading l line ∷ ts)
+pub statement-leading : (j h d : ℕ) (l : Lead) (line : ℕ) (ts : List Lexeme) → reading_statement j h d (Leading l line ∷ ts) ≡ on_line line (led j (inner j h d) h d l (Leading l line ∷ ts) ts)
+statement-leading j h d l line ts = statement_is j h d (Leading l line ∷ ts)
 
-pub statement-other : (h d : ℕ) (l : lexed.Lexeme) (ts : List Lexeme) → ((line : ℕ) (x : _) → l ≡ seen.Name line x → ⊥) → ((k : Lead) (line : ℕ) → l ≡ seen.Leading k line → ⊥) →
-    reading_statement h d (as_read l ∷ ts) ≡ Bad Unexpected (as_read l ∷ ts)
-statement-other h d (seen.Name line x) ts never nor = absurd (never line x refl)
-statement-other h d (seen.Leading k line) ts never nor = absurd (nor k line refl)
-statement-other h d l ts never nor = statement_is h d (as_read l ∷ ts)
+pub statement-other : (j h d : ℕ) (l : lexed.Lexeme) (ts : List Lexeme) → ((line : ℕ) (x : _) → l ≡ seen.Name line x → ⊥) → ((k : Lead) (line : ℕ) → l ≡ seen.Leading k line → ⊥) →
+    reading_statement j h d (as_read l ∷ ts) ≡ Bad Unexpected (as_read l ∷ ts)
+statement-other j h d (seen.Name line x) ts never nor = absurd (never line x refl)
+statement-other j h d (seen.Leading k line) ts never nor = absurd (nor k line refl)
+statement-other j h d l ts never nor = statement_is j h d (as_read l ∷ ts)
 
 -- a block one level deeper
-inner_is : (h d : ℕ) → 0 < d → inner h d ≡ reading_block h (d - 1)
-inner_is h zero pos = absurd (omega arith)
-inner_is h (suc c) pos = let e : suc c - 1 ≡ c = omega arith in rw e refl
+inner_is : (j h d : ℕ) → 0 < d → inner j h d ≡ reading_block j h (d - 1)
+inner_is j h zero pos = absurd (omega arith)
+inner_is j h (suc c) pos = let e : suc c - 1 ≡ c = omega arith in rw e refl
 
 pub within_in : {A : Type 0} (h b : ℕ) (place : List Lexeme) (r : Read A) → h < b → within h b place r ≡ r
 within_in h b place r lt = rw (test_true (suc h) b lt) refl
@@ -54,17 +54,17 @@ pub within_deep : {A : Type 0} (h b : ℕ) (place : List Lexeme) (r : Read A) �
 within_deep h b place r le = rw (test_false (suc h) b (omega arith)) refl
 
 -- what stands inside is one level deeper
-pub led-if : (h d : ℕ) (place ts : List Lexeme) →
-    led (inner h d) h d lead.If place ts ≡ and_then (within 0 d place (read h 0 ts)) (λ e rest. and_then (braced (reading_block h (d - 1)) rest) (choice (reading_block h (d - 1)) e))
-led-if h zero place ts = refl
-led-if h (suc c) place ts =
-    rw (test_true 1 (suc c) (omega arith)) (ap (λ i. and_then (read h 0 ts) (λ e rest. and_then (braced i rest) (choice i e))) (inner_is h (suc c) (omega arith)))
+pub led-if : (j h d : ℕ) (place ts : List Lexeme) →
+    led j (inner j h d) h d lead.If place ts ≡ and_then (within 0 d place (read j h 0 ts)) (λ e rest. and_then (braced (reading_block j h (d - 1)) rest) (choice (reading_block j h (d - 1)) e))
+led-if j h zero place ts = refl
+led-if j h (suc c) place ts =
+    rw (test_true 1 (suc c) (omega arith)) (ap (λ i. and_then (read j h 0 ts) (λ e rest. and_then (braced i rest) (choice i e))) (inner_is j h (suc c) (omega arith)))
 
-pub led-while : (h d : ℕ) (place ts : List Lexeme) →
-    led (inner h d) h d lead.While place ts ≡ and_then (within 0 d place (read h 0 ts)) (λ e rest. and_then (braced (reading_block h (d - 1)) rest) (λ b. Got (tree.While e b)))
-led-while h zero place ts = refl
-led-while h (suc c) place ts =
-    rw (test_true 1 (suc c) (omega arith)) (ap (λ i. and_then (read h 0 ts) (λ e rest. and_then (braced i rest) (λ b. Got (tree.While e b)))) (inner_is h (suc c) (omega arith)))
+pub led-while : (j h d : ℕ) (place ts : List Lexeme) →
+    led j (inner j h d) h d lead.While place ts ≡ and_then (within 0 d place (read j h 0 ts)) (λ e rest. and_then (braced (reading_block j h (d - 1)) rest) (λ b. Got (tree.While e b)))
+led-while j h zero place ts = refl
+led-while j h (suc c) place ts =
+    rw (test_true 1 (suc c) (omega arith)) (ap (λ i. and_then (read j h 0 ts) (λ e rest. and_then (braced i rest) (λ b. Got (tree.While e b)))) (inner_is j h (suc c) (omega arith)))
 
 pub choice_none : (i : List Lexeme → Read Phrases) (e : Expr) (b : Phrases) (ts : List Lexeme) → Lacks sign.Else ts → choice i e b ts ≡ Got (tree.If e b) ts
 choice_none i e b [] none = refl

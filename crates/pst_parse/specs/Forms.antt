@@ -1,9 +1,9 @@
 -- Which trees are of the grammar, within limits of depth.
-use Rattle.std.specs.Prelude.{ℕ, ◌≤◌, ◌<◌, List, [], ◌∷◌, Some, None}
+use Rattle.std.specs.Prelude.{◌≡◌, ℕ, ℤ, ◌≤◌, ◌<◌, ◌⊎◌, List, [], ◌∷◌, Option, Some, None}
 use Rattle.pst_base.specs.declared.names.Op.{Op}
 use Rattle.pst_base.specs.declared.names.Op.TheVariants.{Add, Sub, Mul, Div, Rem, Equal, NotEqual, Less, LessEqual, Greater, GreaterEqual, And, Or}
 use Rattle.pst_tree.specs.Depth.{greatest, item_height, item_nesting}
-use Rattle.pst_tree.specs.Syntax.{Expr, Number, Null, Name, Parens, Field, Negate, Not, Binary, Phrase, New, Call, Write, Print, If, Either, While, Return, Phrases, Empty, Then, Item, Record, Root, Procedure}
+use Rattle.pst_tree.specs.Syntax.{Expr, Number, Null, Name, Parens, Field, Indexed, Negate, Not, Binary, Phrase, New, Call, Write, Print, If, Either, While, Return, Phrases, Empty, Then, FieldText, Val, Ptr, Item, Record, Root, Procedure, ProgramText}
 
 -- how tightly an operator binds: or, and, comparisons, sums, terms
 abbrev pub level : Op → ℕ
@@ -44,26 +44,29 @@ rank Null = 8
 rank (Name x) = 8
 rank (Parens e) = 8
 rank (Field e x) = 7
+rank (Indexed e x i) = 7
 rank (Negate e) = 6
 rank (Not e) = 2
 rank (Binary op l r) = level op
 
--- each operand's form fits its place
-abbrev pub IsFormed : Expr → Type 0
-IsFormed (Number n) = Unit {0}
-IsFormed Null = Unit {0}
-IsFormed (Name x) = Unit {0}
-IsFormed (Parens e) = IsFormed e
-IsFormed (Field e x) = (7 ≤ rank e) × IsFormed e
-IsFormed (Negate e) = (6 ≤ rank e) × IsFormed e
-IsFormed (Not e) = (2 ≤ rank e) × IsFormed e
-IsFormed (Binary op l r) = (loosest_left op ≤ rank l) × (level op < rank r) × IsFormed l × IsFormed r
+-- each operand's form fits its place, and an index stands in language 2 alone
+abbrev pub IsFormed : (l : ℕ) → Expr → Type 0
+IsFormed l (Number n) = Unit {0}
+IsFormed l Null = Unit {0}
+IsFormed l (Name x) = Unit {0}
+IsFormed l (Parens e) = IsFormed l e
+IsFormed l (Field e x) = (7 ≤ rank e) × IsFormed l e
+IsFormed l (Indexed e x i) = (l ≡ 2) × (7 ≤ rank e) × IsFormed l e × IsFormed l i
+IsFormed l (Negate e) = (6 ≤ rank e) × IsFormed l e
+IsFormed l (Not e) = (2 ≤ rank e) × IsFormed l e
+IsFormed l (Binary op x y) = (loosest_left op ≤ rank x) × (level op < rank y) × IsFormed l x × IsFormed l y
 
--- a name, or a field of a place
-abbrev pub IsPlace : Expr → Type 0
-IsPlace (Name x) = Unit {0}
-IsPlace (Field e x) = IsPlace e
-IsPlace e = ⊥
+-- a name, or a field or an element of a place
+abbrev pub IsPlace : (l : ℕ) → Expr → Type 0
+IsPlace l (Name x) = Unit {0}
+IsPlace l (Field e x) = IsPlace l e
+IsPlace l (Indexed e x i) = (l ≡ 2) × IsPlace l e × IsFormed l i
+IsPlace l e = ⊥
 
 -- each of a list is so
 abbrev pub Each : {A : Type 0} → (A → Type 0) → List A → Type 0
@@ -71,32 +74,45 @@ Each P [] = Unit {0}
 Each P (a ∷ l) = P a × Each P l
 
 abbrev mutual
-  pub IsFormedPhrase : Phrase → Type 0
-  IsFormedPhrase (New x ty) = Unit {0}
-  IsFormedPhrase (Call x p es) = Each IsFormed es
-  IsFormedPhrase (Write place e) = IsPlace place × IsFormed e
-  IsFormedPhrase (Print e) = IsFormed e
-  IsFormedPhrase (If e b) = IsFormed e × AreFormed b
-  IsFormedPhrase (Either e b c) = IsFormed e × AreFormed b × AreFormed c
-  IsFormedPhrase (While e b) = IsFormed e × AreFormed b
-  IsFormedPhrase (Return None) = Unit {0}
-  IsFormedPhrase (Return (Some e)) = IsFormed e
+  pub IsFormedPhrase : (l : ℕ) → Phrase → Type 0
+  IsFormedPhrase l (New x ty) = Unit {0}
+  IsFormedPhrase l (Call x p es) = Each (IsFormed l) es
+  IsFormedPhrase l (Write place e) = IsPlace l place × IsFormed l e
+  IsFormedPhrase l (Print e) = IsFormed l e
+  IsFormedPhrase l (If e b) = IsFormed l e × AreFormed l b
+  IsFormedPhrase l (Either e b c) = IsFormed l e × AreFormed l b × AreFormed l c
+  IsFormedPhrase l (While e b) = IsFormed l e × AreFormed l b
+  IsFormedPhrase l (Return None) = Unit {0}
+  IsFormedPhrase l (Return (Some e)) = IsFormed l e
 
-  pub AreFormed : Phrases → Type 0
-  AreFormed Empty = Unit {0}
-  AreFormed (Then line s b) = IsFormedPhrase s × AreFormed b
+  pub AreFormed : (l : ℕ) → Phrases → Type 0
+  AreFormed l Empty = Unit {0}
+  AreFormed l (Then line s b) = IsFormedPhrase l s × AreFormed l b
 
-abbrev pub IsFormedItem : Item → Type 0
-IsFormedItem (Record line x limit fields) = Unit {0}
-IsFormedItem (Root line x kind) = Unit {0}
-IsFormedItem (Procedure p) = AreFormed p.body
+-- a number of elements stands in language 2 alone
+abbrev pub IsCount : (l : ℕ) → Option ℤ → Type 0
+IsCount l None = Unit {0}
+IsCount l (Some n) = l ≡ 2
 
--- a program of the grammar, the limits of depth set aside
-abbrev pub IsProgram : List Item → Type 0
-IsProgram p = Each IsFormedItem p
+abbrev pub IsFormedField : (l : ℕ) → FieldText → Type 0
+IsFormedField l (Val line x elements) = IsCount l elements
+IsFormedField l (Ptr line x target elements) = IsCount l elements
+
+abbrev pub IsFormedItem : (l : ℕ) → Item → Type 0
+IsFormedItem l (Record line x limit fields) = Each (IsFormedField l) fields
+IsFormedItem l (Root line x kind) = Unit {0}
+IsFormedItem l (Procedure p) = AreFormed l p.body
+
+-- there are two languages
+abbrev pub IsLanguage : ℕ → Type 0
+IsLanguage l = (l ≡ 1) ⊎ (l ≡ 2)
+
+-- a program of the grammar of its language, the limits of depth set aside
+abbrev pub IsProgram : ProgramText → Type 0
+IsProgram p = IsLanguage p.language × Each (IsFormedItem p.language) p.items
 
 -- A program that keeps the limits: no expression or place is higher than h, and no more than d blocks stand in one another below a procedure's body.
-pub record IsShallow (h d : ℕ) (p : List Item) : Type 0 where
+pub record IsShallow (h d : ℕ) (p : ProgramText) : Type 0 where
   pub formed : IsProgram p
-  pub height : greatest item_height p ≤ h
-  pub nesting : greatest item_nesting p ≤ d
+  pub height : greatest item_height p.items ≤ h
+  pub nesting : greatest item_nesting p.items ≤ d

@@ -1,5 +1,5 @@
 -- The tokens of a program. A name in a program's text has a line, as has each keyword that begins something; the tree that is kept has fewer.
-use Rattle.std.specs.Prelude.{ℕ, ℤ, Bool, true, false, List, [], ◌∷◌, map, Option, Some, None}
+use Rattle.std.specs.Prelude.{ℕ, ℤ, pos, Bool, true, false, List, [], ◌∷◌, map, Option, Some, None, codes}
 use Rattle.std.specs.Option.{option_map}
 use Rattle.pst_base.specs.declared.names.Op.{Op}
 use Rattle.pst_base.specs.declared.names.Op.TheVariants as op
@@ -18,6 +18,7 @@ pub data Expr : Type 0 where
   Name : Label → Expr
   Parens : Expr → Expr
   Field : Expr → Label → Expr
+  Indexed : (object : Expr) (x : Label) (index : Expr) → Expr
   Negate : Expr → Expr
   Not : Expr → Expr
   Binary : Op → Expr → Expr → Expr
@@ -29,6 +30,7 @@ expr Null = tree.Null
 expr (Name x) = tree.Name x.name
 expr (Parens e) = tree.Parens (expr e)
 expr (Field e x) = tree.Field (expr e) x.name
+expr (Indexed e x i) = tree.Indexed (expr e) x.name (expr i)
 expr (Negate e) = tree.Negate (expr e)
 expr (Not e) = tree.Not (expr e)
 expr (Binary op l r) = tree.Binary op (expr l) (expr r)
@@ -40,6 +42,7 @@ spelled Null rest = Plain sign.Null ∷ rest
 spelled (Name x) rest = token.Name x ∷ rest
 spelled (Parens e) rest = Plain sign.OpenParen ∷ spelled e (Plain sign.CloseParen ∷ rest)
 spelled (Field e x) rest = spelled e (Plain sign.Dot ∷ token.Name x ∷ rest)
+spelled (Indexed e x i) rest = spelled e (Plain sign.Dot ∷ token.Name x ∷ Plain sign.OpenParen ∷ spelled i (Plain sign.CloseParen ∷ rest))
 spelled (Negate e) rest = Operator op.Sub ∷ spelled e rest
 spelled (Not e) rest = Plain sign.Not ∷ spelled e rest
 spelled (Binary op l r) rest = spelled l (Operator op ∷ spelled r rest)
@@ -78,6 +81,7 @@ mutual
 abbrev pub place_line : Expr → ℕ
 place_line (Name x) = x.line
 place_line (Field e x) = place_line e
+place_line (Indexed e x i) = place_line e
 place_line e = 0
 
 -- the line of a statement is that of its first token
@@ -148,18 +152,23 @@ abbrev pub spelled_type : TypeText → List Lexeme → List Lexeme
 spelled_type Int rest = Plain sign.Int ∷ rest
 spelled_type (Named x) rest = token.Name x ∷ rest
 
+-- the number of elements of a field, where it is an array
+abbrev pub spelled_count : Option ℤ → List Lexeme → List Lexeme
+spelled_count None rest = rest
+spelled_count (Some n) rest = Operator op.Mul ∷ token.Number n ∷ rest
+
 -- a field of a record type
 pub data FieldText : Type 0 where
-  Val : (line : ℕ) (x : Label) → FieldText
-  Ptr : (line : ℕ) (x target : Label) → FieldText
+  Val : (line : ℕ) (x : Label) (elements : Option ℤ) → FieldText
+  Ptr : (line : ℕ) (x target : Label) (elements : Option ℤ) → FieldText
 
 abbrev pub field : FieldText → tree.FieldText
-field (Val line x) = tree.Val line x.name
-field (Ptr line x target) = tree.Ptr line x.name target.name
+field (Val line x n) = tree.Val line x.name n
+field (Ptr line x target n) = tree.Ptr line x.name target.name n
 
 abbrev pub spelled_field : FieldText → List Lexeme → List Lexeme
-spelled_field (Val line x) rest = Leading lead.Val line ∷ token.Name x ∷ Plain sign.Colon ∷ Plain sign.Int ∷ Plain sign.Semicolon ∷ rest
-spelled_field (Ptr line x target) rest = Leading lead.Ptr line ∷ token.Name x ∷ Plain sign.Colon ∷ token.Name target ∷ Plain sign.Semicolon ∷ rest
+spelled_field (Val line x n) rest = Leading lead.Val line ∷ token.Name x ∷ Plain sign.Colon ∷ Plain sign.Int ∷ spelled_count n (Plain sign.Semicolon ∷ rest)
+spelled_field (Ptr line x target n) rest = Leading lead.Ptr line ∷ token.Name x ∷ Plain sign.Colon ∷ token.Name target ∷ spelled_count n (Plain sign.Semicolon ∷ rest)
 
 -- a parameter
 pub record Parameter : Type 0 where
@@ -220,9 +229,30 @@ spelled_item (Procedure line query x parameters result locals body) rest =
     Leading (head query) line ∷ token.Name x ∷ Plain sign.OpenParen ∷ listed spelled_parameter parameters
     (spelled_result result (Plain sign.OpenBrace ∷ each spelled_local locals (spelled_block body (Plain sign.CloseBrace ∷ rest))))
 
--- the program that is kept
-abbrev pub program : List Item → List tree.Item
-program p = map item p
+-- what a program begins with: nothing in language 1, and `language 2` in language 2, where the word stands on a line
+pub data Opening : Type 0 where
+  First : Opening
+  Second : (line : ℕ) → Opening
 
-abbrev pub spelled_program : List Item → List Lexeme → List Lexeme
-spelled_program p rest = each spelled_item p rest
+abbrev pub language : Opening → ℕ
+language First = 1
+language (Second line) = 2
+
+-- the word that a program of language 2 begins with, which is no keyword
+abbrev pub language_word : List ℕ
+language_word = codes "language"
+
+abbrev pub spelled_opening : Opening → List Lexeme → List Lexeme
+spelled_opening First rest = rest
+spelled_opening (Second line) rest = token.Name (record { line = line; name = language_word }) ∷ token.Number (pos 2) ∷ rest
+
+pub record Program : Type 0 where
+  pub opening : Opening
+  pub items : List Item
+
+-- the program that is kept
+abbrev pub program : Program → tree.ProgramText
+program p = record { language = language p.opening; items = map item p.items }
+
+abbrev pub spelled_program : Program → List Lexeme → List Lexeme
+spelled_program p rest = spelled_opening p.opening (each spelled_item p.items rest)

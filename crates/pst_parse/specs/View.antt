@@ -1,5 +1,5 @@
 -- What the code's answers say of a reading.
-use Rattle.std.specs.Prelude.{◌≡◌, ℕ, Bool, false, List, [], ◌∷◌, map, Option, Result, Ok, Err}
+use Rattle.std.specs.Prelude.{◌≡◌, ℕ, Bool, true, false, bytes_eq, List, [], ◌∷◌, map, Option, Result, Ok, Err}
 use Rattle.std.specs.Option.{option_map}
 use Rattle.std.specs.Borrow.{Bor}
 use Rattle.pst_lex.specs.declared.types.Token.{Token}
@@ -8,13 +8,15 @@ use Rattle.pst_tree.specs.declared.statement.Statement.{Statement}
 use Rattle.pst_tree.specs.declared.declaration.Declarations.{Declarations}
 use Rattle.pst_tree.specs.declared.declaration.Field.{Field}
 use Rattle.pst_tree.specs.declared.declaration.Local.{Local}
+use Rattle.pst_tree.specs.declared.declaration.Tree.{Tree}
 use Rattle.pst_tree.specs.declared.declaration.TypeName.{TypeName}
 use Rattle.pst_tree.specs.Syntax as tree
-use Rattle.pst_tree.specs.View.{expr_of, phrase_of, field_of, local_of, item_of, type_word_of}
+use Rattle.pst_tree.specs.View.{expr_of, phrase_of, field_of, local_of, item_of, text_of, type_word_of}
 use Rattle.pst_parse.specs.declared.stop.Stop.{Stop}
 use Rattle.pst_parse.specs.declared.stop.Stop.TheVariants as stop
 use Rattle.pst_parse.specs.declared.lexeme.Sign.{Sign}
-use Rattle.pst_parse.specs.Lexemes.{Lexeme, lexemes}
+use Rattle.pst_parse.specs.Lexemes.{Lexeme, Name, lexemes}
+use Rattle.pst_parse.specs.Spelling.{language_word}
 use Rattle.pst_tree.specs.Depth.{height}
 use Rattle.pst_parse.specs.Reader.{Read, Got, Bad, Unexpected, TooDeep, is}
 
@@ -55,6 +57,18 @@ abbrev pub begins : (Lexeme → Bool) → List Lexeme → Bool
 begins starts [] = false
 begins starts (t ∷ ts) = starts t
 
+-- the word that a program of language 2 begins with stands there
+abbrev pub BeginsWithWord : (tokens rest : List Lexeme) → Type 0
+BeginsWithWord [] rest = ⊥
+BeginsWithWord (Name x ∷ ts) rest = (bytes_eq x.name language_word ≡ true) × (ts ≡ rest)
+BeginsWithWord (t ∷ ts) rest = ⊥
+
+-- it does not stand there
+abbrev pub BeginsOtherwise : List Lexeme → Type 0
+BeginsOtherwise [] = Unit {0}
+BeginsOtherwise (Name x ∷ ts) = bytes_eq x.name language_word ≡ false
+BeginsOtherwise (t ∷ ts) = Unit {0}
+
 -- a statement with its line
 abbrev pub stated_of : Statement → ℕ × tree.Phrase
 stated_of s = (s.line, phrase_of s.form)
@@ -68,7 +82,12 @@ locals_of ls = map local_of ls
 abbrev pub result_of : Option TypeName → Option tree.TypeWord
 result_of k = option_map type_word_of k
 
--- the declarations of a whole program, up to the end
-abbrev pub GivesAll : Result Declarations Stop → Read (List tree.Item) → Type 0
-GivesAll (Ok ds) read = read ≡ Got (map item_of ds.items.items) []
+-- the declarations of a program of the language l, up to the end
+abbrev pub GivesDeclarations : (l : ℕ) → Result Declarations Stop → Read tree.ProgramText → Type 0
+GivesDeclarations l (Ok ds) read = read ≡ Got (record { language = l; items = map item_of ds.items.items }) []
+GivesDeclarations l (Err e) read = Stops e read
+
+-- a whole program, up to the end
+abbrev pub GivesAll : Result Tree Stop → Read tree.ProgramText → Type 0
+GivesAll (Ok t) read = read ≡ Got (text_of t) []
 GivesAll (Err e) read = Stops e read

@@ -1,58 +1,99 @@
-//! Reading declarations.
+//! Reading declarations, in a language, 1 or 2, and whole programs.
 
 ghost use Rattle.std.specs.Prelude.{◌≡◌, ◌≤◌, ◌<◌, length, map, IfOk, MatchOption, Option};
 ghost use Rattle.std.specs.Option.{option_map};
-ghost use Rattle.pst_tree.specs.View.{field_of, local_of, item_of, type_word_of, items_of};
+ghost use Rattle.pst_tree.specs.View.{field_of, local_of, item_of, type_word_of};
 ghost use Rattle.pst_parse.specs.Lexemes.{lexemes};
 ghost use Rattle.pst_parse.specs.Reader.{listed, many};
 ghost use Rattle.pst_parse.specs.Declarations as read;
-ghost use Rattle.pst_parse.specs.View.{Gives, GivesAll, begins, fields_of, locals_of, result_of};
+ghost use Rattle.pst_parse.specs.View.{Gives, GivesRest, GivesDeclarations, GivesAll, BeginsWithWord, BeginsOtherwise, itself, begins, fields_of, locals_of, result_of};
 
 use crate::lexeme::{Lead, Lexeme, Sign, peek};
 use crate::statement::block;
 use crate::stop::Stop;
 use crate::token::{after, expect, name, number, type_name};
-use pst_base::Text;
+use pst_base::Op;
 use pst_lex::Token;
-use pst_tree::{Declaration, Declarations, Field, Fields, Local, Locals, TypeName};
+use pst_tree::{Declaration, Declarations, Field, Fields, Local, Locals, Tree, TypeName};
 use std::alloc::Global;
 
+/// The number of elements behind the type of a field, where one stands there. Language 1 has none.
+fn count<'a>(language: u8, tokens: &'a [Token]) -> Result<(Option<i64>, &'a [Token]), Stop<'a>>
+    ensures given { Gives itself result (read.count language (lexemes tokens.now)) }
+    ensures shorter { IfOk result (λ x. length x.1.now ≤ length tokens.now) }
+{
+    if language != 2 {
+        return Ok((None, tokens));
+    }
+    match peek(tokens) {
+        Some((Lexeme::Operator(op), rest)) => match op {
+            Op::Mul => {
+                let (elements, rest) = number(rest)?;
+                Ok((Some(elements), rest))
+            }
+            _ => Ok((None, tokens)),
+        },
+        _ => Ok((None, tokens)),
+    }
+}
+
 /// What stands behind `val`.
-fn value_field<'a>(tokens: &'a [Token], line: u32) -> Result<(Field, &'a [Token]), Stop<'a>>
-    ensures given { Gives field_of result (read.value_field line (lexemes tokens.now)) }
+fn value_field<'a>(
+    language: u8,
+    tokens: &'a [Token],
+    line: u32,
+) -> Result<(Field, &'a [Token]), Stop<'a>>
+    ensures given { Gives field_of result (read.value_field language line (lexemes tokens.now)) }
     ensures shorter { IfOk result (λ x. length x.1.now < length tokens.now) }
 {
     let (label, rest) = name(tokens)?;
     let rest = expect(rest, Sign::Colon)?;
     let rest = expect(rest, Sign::Int)?;
+    let (elements, rest) = count(language, rest)?;
     let rest = expect(rest, Sign::Semicolon)?;
     let name = label.name;
-    Ok((Field::Val { line, name }, rest))
+    let field = Field::Val {
+        line,
+        name,
+        elements,
+    };
+    Ok((field, rest))
 }
 
 /// What stands behind `ptr`.
-fn pointer_field<'a>(tokens: &'a [Token], line: u32) -> Result<(Field, &'a [Token]), Stop<'a>>
-    ensures given { Gives field_of result (read.pointer_field line (lexemes tokens.now)) }
+fn pointer_field<'a>(
+    language: u8,
+    tokens: &'a [Token],
+    line: u32,
+) -> Result<(Field, &'a [Token]), Stop<'a>>
+    ensures given { Gives field_of result (read.pointer_field language line (lexemes tokens.now)) }
     ensures shorter { IfOk result (λ x. length x.1.now < length tokens.now) }
 {
     let (label, rest) = name(tokens)?;
     let rest = expect(rest, Sign::Colon)?;
     let (target, rest) = name(rest)?;
+    let (elements, rest) = count(language, rest)?;
     let rest = expect(rest, Sign::Semicolon)?;
     let name = label.name;
     let target = target.name;
-    Ok((Field::Ptr { line, name, target }, rest))
+    let field = Field::Ptr {
+        line,
+        name,
+        target,
+        elements,
+    };
+    Ok((field, rest))
 }
 
 /// A field of a record type.
-fn field<'a>(tokens: &'a [Token]) -> Result<(Field, &'a [Token]), Stop<'a>>
-    ensures given { Gives field_of result (read.field (lexemes tokens.now)) }
+fn field<'a>(language: u8, tokens: &'a [Token]) -> Result<(Field, &'a [Token]), Stop<'a>>
+    ensures given { Gives field_of result (read.field language (lexemes tokens.now)) }
     ensures shorter { IfOk result (λ x. length x.1.now < length tokens.now) }
 {
     match peek(tokens) {
         Some((Lexeme::Leading(lead, line), rest)) => match lead {
-            Lead::Val => value_field(rest, line),
-            Lead::Ptr => pointer_field(rest, line),
+            Lead::Val => value_field(language, rest, line),
+            Lead::Ptr => pointer_field(language, rest, line),
             _ => Err(Stop::Unexpected(tokens)),
         },
         _ => Err(Stop::Unexpected(tokens)),
@@ -73,14 +114,18 @@ fn is_field(tokens: &[Token]) -> bool
 }
 
 /// As many fields as stand there, one after another.
-fn fields<'a>(alloc: Global, tokens: &'a [Token]) -> Result<(Fields, &'a [Token]), Stop<'a>>
-    ensures given { Gives fields_of result (many read.starts_field read.field (lexemes tokens.now)) }
+fn fields<'a>(
+    alloc: Global,
+    language: u8,
+    tokens: &'a [Token],
+) -> Result<(Fields, &'a [Token]), Stop<'a>>
+    ensures given { Gives fields_of result (many read.starts_field (read.field language) (lexemes tokens.now)) }
     ensures shorter { IfOk result (λ x. length x.1.now ≤ length tokens.now) }
 {
     let mut items = Vec::new(alloc);
     let mut rest = tokens;
     while is_field(rest) {
-        let (field, behind) = field(rest)?;
+        let (field, behind) = field(language, rest)?;
         items.push(field)?;
         rest = behind;
     }
@@ -200,16 +245,17 @@ fn locals<'a>(alloc: Global, tokens: &'a [Token]) -> Result<(Locals, &'a [Token]
 /// What stands behind `record`.
 fn record_type<'a>(
     alloc: Global,
+    language: u8,
     tokens: &'a [Token],
     line: u32,
 ) -> Result<(Declaration, &'a [Token]), Stop<'a>>
-    ensures given { Gives item_of result (read.record_type line (lexemes tokens.now)) }
+    ensures given { Gives item_of result (read.record_type language line (lexemes tokens.now)) }
     ensures shorter { IfOk result (λ x. length x.1.now < length tokens.now) }
 {
     let (label, rest) = name(tokens)?;
     let (limit, rest) = number(rest)?;
     let rest = expect(rest, Sign::OpenBrace)?;
-    let (fields, rest) = fields(alloc, rest)?;
+    let (fields, rest) = fields(alloc, language, rest)?;
     let rest = expect(rest, Sign::CloseBrace)?;
     let name = label.name;
     let declaration = Declaration::Record {
@@ -236,13 +282,14 @@ fn root<'a>(tokens: &'a [Token], line: u32) -> Result<(Declaration, &'a [Token])
 /// What stands behind `proc` or `query`.
 fn procedure<'a>(
     alloc: Global,
+    language: u8,
     tokens: &'a [Token],
     line: u32,
     query: bool,
     height: u8,
     nesting: u8,
 ) -> Result<(Declaration, &'a [Token]), Stop<'a>>
-    ensures given { Gives item_of result (read.procedure height nesting line query (lexemes tokens.now)) }
+    ensures given { Gives item_of result (read.procedure language height nesting line query (lexemes tokens.now)) }
     ensures shorter { IfOk result (λ x. length x.1.now < length tokens.now) }
 {
     let (label, rest) = name(tokens)?;
@@ -251,7 +298,7 @@ fn procedure<'a>(
     let (kind, rest) = result_type(rest)?;
     let rest = expect(rest, Sign::OpenBrace)?;
     let (locals, rest) = locals(alloc, rest)?;
-    let (body, rest) = block(alloc, rest, height, nesting)?;
+    let (body, rest) = block(alloc, language, rest, height, nesting)?;
     let rest = expect(rest, Sign::CloseBrace)?;
     let name = label.name;
     let declaration = Declaration::Procedure {
@@ -269,19 +316,20 @@ fn procedure<'a>(
 /// A declaration.
 fn declaration<'a>(
     alloc: Global,
+    language: u8,
     tokens: &'a [Token],
     height: u8,
     nesting: u8,
 ) -> Result<(Declaration, &'a [Token]), Stop<'a>>
-    ensures given { Gives item_of result (read.item height nesting (lexemes tokens.now)) }
+    ensures given { Gives item_of result (read.item language height nesting (lexemes tokens.now)) }
     ensures shorter { IfOk result (λ x. length x.1.now < length tokens.now) }
 {
     match peek(tokens) {
         Some((Lexeme::Leading(lead, line), rest)) => match lead {
-            Lead::Record => record_type(alloc, rest, line),
+            Lead::Record => record_type(alloc, language, rest, line),
             Lead::Root => root(rest, line),
-            Lead::Proc => procedure(alloc, rest, line, false, height, nesting),
-            Lead::Query => procedure(alloc, rest, line, true, height, nesting),
+            Lead::Proc => procedure(alloc, language, rest, line, false, height, nesting),
+            Lead::Query => procedure(alloc, language, rest, line, true, height, nesting),
             _ => Err(Stop::Unexpected(tokens)),
         },
         _ => Err(Stop::Unexpected(tokens)),
@@ -298,21 +346,78 @@ fn is_token(tokens: &[Token]) -> bool
     }
 }
 
-/// The declarations of a program, up to the end.
-pub fn declarations<'a>(
+/// The declarations of a program of a language, up to the end.
+fn declarations<'a>(
     alloc: Global,
+    language: u8,
     tokens: &'a [Token],
     height: u8,
     nesting: u8,
 ) -> Result<Declarations, Stop<'a>>
-    ensures { GivesAll result (read.reading_program height nesting (lexemes tokens.now)) }
+    ensures { GivesDeclarations language result (read.declarations language height nesting (lexemes tokens.now)) }
 {
     let mut items = Vec::new(alloc);
     let mut rest = tokens;
     while is_token(rest) {
-        let (declaration, behind) = declaration(alloc, rest, height, nesting)?;
+        let (declaration, behind) = declaration(alloc, language, rest, height, nesting)?;
         items.push(declaration)?;
         rest = behind;
     }
     Ok(Declarations { items })
+}
+
+/// The tokens behind the word that a program of language 2 begins with, if it stands there.
+fn behind_word<'a>(tokens: &'a [Token]) -> Option<&'a [Token]>
+    ensures { MatchOption result (BeginsOtherwise (lexemes tokens.now)) (λ rest. BeginsWithWord (lexemes tokens.now) (lexemes rest.now)) }
+{
+    match peek(tokens) {
+        Some((Lexeme::Name(_, name), rest)) => {
+            if name.as_slice() != b"language".as_slice() {
+                return None;
+            }
+            Some(rest)
+        }
+        _ => None,
+    }
+}
+
+/// The tokens behind the number 2, which has to come.
+fn behind_two<'a>(tokens: &'a [Token]) -> Result<&'a [Token], Stop<'a>>
+    ensures { GivesRest result (read.two (lexemes tokens.now)) }
+{
+    match peek(tokens) {
+        Some((Lexeme::Number(value), rest)) => {
+            if value != 2 {
+                return Err(Stop::Unexpected(tokens));
+            }
+            Ok(rest)
+        }
+        _ => Err(Stop::Unexpected(tokens)),
+    }
+}
+
+/// A whole program, up to the end: of language 2 where it begins with the name `language`, and of language 1 elsewhere.
+pub fn program<'a>(
+    alloc: Global,
+    tokens: &'a [Token],
+    height: u8,
+    nesting: u8,
+) -> Result<Tree, Stop<'a>>
+    ensures { GivesAll result (read.reading_program height nesting (lexemes tokens.now)) }
+{
+    let Some(rest) = behind_word(tokens) else {
+        let language = 1;
+        let declarations = declarations(alloc, language, tokens, height, nesting)?;
+        return Ok(Tree {
+            language,
+            declarations,
+        });
+    };
+    let rest = behind_two(rest)?;
+    let language = 2;
+    let declarations = declarations(alloc, language, rest, height, nesting)?;
+    Ok(Tree {
+        language,
+        declarations,
+    })
 }

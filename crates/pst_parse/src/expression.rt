@@ -5,13 +5,13 @@ ghost use Rattle.pst_tree.specs.View.{expr_of};
 ghost use Rattle.pst_parse.specs.Lexemes.{lexemes, Plain, Operator};
 ghost use Rattle.pst_tree.specs.Depth.{height as height_of};
 ghost use Rattle.pst_parse.specs.Forms.{level, loosest_left, rank};
-ghost use Rattle.pst_parse.specs.Reading.{read, going, goes_on};
+ghost use Rattle.pst_parse.specs.Reading.{read, going, goes_on, deeper, selected as selecting};
 ghost use Rattle.pst_parse.specs.View.{GivesTree};
 
 use crate::lexeme::{Lexeme, Sign, peek};
 use crate::stop::Stop;
-use crate::token::{expect, name};
-use pst_base::Op;
+use crate::token::{after, expect, name};
+use pst_base::{Op, Text};
 use pst_lex::Token;
 use pst_tree::Expression;
 use std::alloc::Global;
@@ -56,7 +56,7 @@ fn rank_of(e: &Expression) -> u8
     match e {
         Expression::Not(_) => 2,
         Expression::Negate(_) => 6,
-        Expression::Field { .. } => 7,
+        Expression::Field { .. } | Expression::Indexed { .. } => 7,
         Expression::Binary { op, .. } => level_of(*op),
         Expression::Number(_) | Expression::Null | Expression::Name(_) | Expression::Parens(_) => 8,
     }
@@ -69,18 +69,19 @@ fn takes(n: u8, e: &Expression, op: Op) -> bool
     n <= level_of(op) && loosest_left_of(op) <= rank_of(e)
 }
 
-/// An operand of rank `n` and of a height up to `budget`, by precedence climbing: the operand, its height, and the
-/// tokens after it.
+/// An operand of rank `n` and of a height up to `budget`, in a language, 1 or 2, by precedence climbing: the operand, its
+/// height, and the tokens after it.
 #[cycle(expression)]
 #[tactic(auto, using(crate::proofs::Equations::equations))]
 pub fn operand<'a>(
     alloc: Global,
+    language: u8,
     tokens: &'a [Token],
     n: u8,
     budget: u8,
 ) -> Result<(Expression, u8, &'a [Token]), Stop<'a>>
     requires { n ≤ 6 }
-    ensures given { GivesTree result (read budget n (lexemes tokens.now)) }
+    ensures given { GivesTree result (read language budget n (lexemes tokens.now)) }
     ensures low { IfOk result (λ x. x.1 ≤ budget) }
     ensures shorter { IfOk result (λ x. length x.2.now < length tokens.now) }
 {
@@ -88,19 +89,27 @@ pub fn operand<'a>(
         return Err(Stop::Unexpected(tokens));
     };
     match first {
-        Lexeme::Number(value) => more(alloc, Expression::Number(value), 0, rest, n, budget),
+        Lexeme::Number(value) => more(
+            alloc,
+            language,
+            Expression::Number(value),
+            0,
+            rest,
+            n,
+            budget,
+        ),
         Lexeme::Name(_, name) => {
             let name = Expression::Name(name.copy()?);
-            more(alloc, name, 0, rest, n, budget)
+            more(alloc, language, name, 0, rest, n, budget)
         }
         Lexeme::Operator(op) => match op {
-            Op::Sub => negated(alloc, tokens, rest, n, budget),
+            Op::Sub => negated(alloc, language, tokens, rest, n, budget),
             _ => Err(Stop::Unexpected(tokens)),
         },
         Lexeme::Plain(sign) => match sign {
-            Sign::Null => more(alloc, Expression::Null, 0, rest, n, budget),
-            Sign::OpenParen => parens(alloc, tokens, rest, n, budget),
-            Sign::Not => inverted(alloc, tokens, rest, n, budget),
+            Sign::Null => more(alloc, language, Expression::Null, 0, rest, n, budget),
+            Sign::OpenParen => parens(alloc, language, tokens, rest, n, budget),
+            Sign::Not => inverted(alloc, language, tokens, rest, n, budget),
             _ => Err(Stop::Unexpected(tokens)),
         },
         _ => Err(Stop::Unexpected(tokens)),
@@ -112,6 +121,7 @@ pub fn operand<'a>(
 #[tactic(auto, using(crate::proofs::Equations::equations))]
 fn parens<'a>(
     alloc: Global,
+    language: u8,
     tokens: &'a [Token],
     rest: &'a [Token],
     n: u8,
@@ -120,17 +130,17 @@ fn parens<'a>(
     requires small { n ≤ 6 }
     requires begins { lexemes tokens.now ≡ Plain Sign.OpenParen ∷ lexemes rest.now }
     requires behind { length rest.now < length tokens.now }
-    ensures given { GivesTree result (read budget n (lexemes tokens.now)) }
+    ensures given { GivesTree result (read language budget n (lexemes tokens.now)) }
     ensures low { IfOk result (λ x. x.1 ≤ budget) }
     ensures shorter { IfOk result (λ x. length x.2.now < length tokens.now) }
 {
     if budget == 0 {
         return Err(Stop::TooDeep(tokens));
     }
-    let (e, height, rest) = operand(alloc, rest, 0, budget - 1)?;
+    let (e, height, rest) = operand(alloc, language, rest, 0, budget - 1)?;
     let rest = expect(rest, Sign::CloseParen)?;
     let e = Expression::Parens(Box::new(alloc, e)?);
-    more(alloc, e, height + 1, rest, n, budget)
+    more(alloc, language, e, height + 1, rest, n, budget)
 }
 
 /// An operand that begins with `-`.
@@ -138,6 +148,7 @@ fn parens<'a>(
 #[tactic(auto, using(crate::proofs::Equations::equations))]
 fn negated<'a>(
     alloc: Global,
+    language: u8,
     tokens: &'a [Token],
     rest: &'a [Token],
     n: u8,
@@ -146,16 +157,16 @@ fn negated<'a>(
     requires small { n ≤ 6 }
     requires begins { lexemes tokens.now ≡ Operator Op.Sub ∷ lexemes rest.now }
     requires behind { length rest.now < length tokens.now }
-    ensures given { GivesTree result (read budget n (lexemes tokens.now)) }
+    ensures given { GivesTree result (read language budget n (lexemes tokens.now)) }
     ensures low { IfOk result (λ x. x.1 ≤ budget) }
     ensures shorter { IfOk result (λ x. length x.2.now < length tokens.now) }
 {
     if budget == 0 {
         return Err(Stop::TooDeep(tokens));
     }
-    let (e, height, rest) = operand(alloc, rest, 6, budget - 1)?;
+    let (e, height, rest) = operand(alloc, language, rest, 6, budget - 1)?;
     let e = Expression::Negate(Box::new(alloc, e)?);
-    more(alloc, e, height + 1, rest, n, budget)
+    more(alloc, language, e, height + 1, rest, n, budget)
 }
 
 /// An operand that begins with `not`.
@@ -163,6 +174,7 @@ fn negated<'a>(
 #[tactic(auto, using(crate::proofs::Equations::equations))]
 fn inverted<'a>(
     alloc: Global,
+    language: u8,
     tokens: &'a [Token],
     rest: &'a [Token],
     n: u8,
@@ -171,7 +183,7 @@ fn inverted<'a>(
     requires small { n ≤ 6 }
     requires begins { lexemes tokens.now ≡ Plain Sign.Not ∷ lexemes rest.now }
     requires behind { length rest.now < length tokens.now }
-    ensures given { GivesTree result (read budget n (lexemes tokens.now)) }
+    ensures given { GivesTree result (read language budget n (lexemes tokens.now)) }
     ensures low { IfOk result (λ x. x.1 ≤ budget) }
     ensures shorter { IfOk result (λ x. length x.2.now < length tokens.now) }
 {
@@ -181,9 +193,9 @@ fn inverted<'a>(
     if budget == 0 {
         return Err(Stop::TooDeep(tokens));
     }
-    let (e, height, rest) = operand(alloc, rest, 2, budget - 1)?;
+    let (e, height, rest) = operand(alloc, language, rest, 2, budget - 1)?;
     let e = Expression::Not(Box::new(alloc, e)?);
-    more(alloc, e, height + 1, rest, n, budget)
+    more(alloc, language, e, height + 1, rest, n, budget)
 }
 
 /// What goes on after an expression of a height, as far as it stays an operand of rank `n`.
@@ -191,6 +203,7 @@ fn inverted<'a>(
 #[tactic(auto, using(crate::proofs::Equations::equations))]
 pub fn more<'a>(
     alloc: Global,
+    language: u8,
     e: Expression,
     height: u8,
     tokens: &'a [Token],
@@ -200,7 +213,7 @@ pub fn more<'a>(
     requires small { n ≤ 7 }
     requires measured { height ≡ height_of (expr_of e) }
     requires low { height ≤ budget }
-    ensures given { GivesTree result (going budget n (expr_of e) (lexemes tokens.now)) }
+    ensures given { GivesTree result (going language budget n (expr_of e) (lexemes tokens.now)) }
     ensures low { IfOk result (λ x. x.1 ≤ budget) }
     ensures shorter { IfOk result (λ x. length x.2.now ≤ length tokens.now) }
 {
@@ -212,14 +225,14 @@ pub fn more<'a>(
             if !takes(n, &e, op) {
                 return Ok((e, height, tokens));
             }
-            joined(alloc, e, height, op, tokens, rest, n, budget)
+            joined(alloc, language, e, height, op, tokens, rest, n, budget)
         }
         Lexeme::Plain(sign) => match sign {
             Sign::Dot => {
                 if rank_of(&e) < 7 {
                     return Ok((e, height, tokens));
                 }
-                field(alloc, e, height, tokens, rest, n, budget)
+                field(alloc, language, e, height, tokens, rest, n, budget)
             }
             _ => Ok((e, height, tokens)),
         },
@@ -232,6 +245,7 @@ pub fn more<'a>(
 #[tactic(auto, using(crate::proofs::Equations::equations))]
 fn joined<'a>(
     alloc: Global,
+    language: u8,
     e: Expression,
     height: u8,
     op: Op,
@@ -246,18 +260,26 @@ fn joined<'a>(
     requires begins { lexemes tokens.now ≡ Operator op ∷ lexemes rest.now }
     requires behind { length rest.now < length tokens.now }
     requires taken { IsTrue (goes_on n (expr_of e) op) }
-    ensures given { GivesTree result (going budget n (expr_of e) (lexemes tokens.now)) }
+    ensures given { GivesTree result (going language budget n (expr_of e) (lexemes tokens.now)) }
     ensures low { IfOk result (λ x. x.1 ≤ budget) }
     ensures shorter { IfOk result (λ x. length x.2.now ≤ length tokens.now) }
 {
     if height >= budget {
         return Err(Stop::TooDeep(tokens));
     }
-    let (right, right_height, rest) = operand(alloc, rest, level_of(op) + 1, budget - 1)?;
+    let (right, right_height, rest) = operand(alloc, language, rest, level_of(op) + 1, budget - 1)?;
     let left = Box::new(alloc, e)?;
     let right = Box::new(alloc, right)?;
     let whole = Expression::Binary { op, left, right };
-    more(alloc, whole, height.max(right_height) + 1, rest, n, budget)
+    more(
+        alloc,
+        language,
+        whole,
+        height.max(right_height) + 1,
+        rest,
+        n,
+        budget,
+    )
 }
 
 /// What goes on after an expression and a dot.
@@ -265,6 +287,7 @@ fn joined<'a>(
 #[tactic(auto, using(crate::proofs::Equations::equations))]
 fn field<'a>(
     alloc: Global,
+    language: u8,
     e: Expression,
     height: u8,
     tokens: &'a [Token],
@@ -278,7 +301,7 @@ fn field<'a>(
     requires begins { lexemes tokens.now ≡ Plain Sign.Dot ∷ lexemes rest.now }
     requires behind { length rest.now < length tokens.now }
     requires taken { 7 ≤ rank (expr_of e) }
-    ensures given { GivesTree result (going budget n (expr_of e) (lexemes tokens.now)) }
+    ensures given { GivesTree result (going language budget n (expr_of e) (lexemes tokens.now)) }
     ensures low { IfOk result (λ x. x.1 ≤ budget) }
     ensures shorter { IfOk result (λ x. length x.2.now ≤ length tokens.now) }
 {
@@ -286,12 +309,51 @@ fn field<'a>(
         return Err(Stop::TooDeep(tokens));
     }
     let (label, rest) = name(rest)?;
+    selected(alloc, language, e, height, label.name, rest, n, budget)
+}
+
+/// What goes on after an expression, a dot and a name: in language 2 an index may stand there.
+#[cycle(expression)]
+#[tactic(auto, using(crate::proofs::Equations::equations))]
+fn selected<'a>(
+    alloc: Global,
+    language: u8,
+    e: Expression,
+    height: u8,
+    name: Text,
+    tokens: &'a [Token],
+    n: u8,
+    budget: u8,
+) -> Result<(Expression, u8, &'a [Token]), Stop<'a>>
+    requires small { n ≤ 7 }
+    requires measured { height ≡ height_of (expr_of e) }
+    requires low { height < budget }
+    ensures given { GivesTree result (selecting language (deeper language budget) (expr_of e) name (λ a. going language budget n a) (lexemes tokens.now)) }
+    ensures low { IfOk result (λ x. x.1 ≤ budget) }
+    ensures shorter { IfOk result (λ x. length x.2.now ≤ length tokens.now) }
+{
     let object = Box::new(alloc, e)?;
-    let name = label.name;
+    if language != 2 {
+        let whole = Expression::Field { object, name };
+        return more(alloc, language, whole, height + 1, tokens, n, budget);
+    }
+    let Some(inside) = after(tokens, Sign::OpenParen) else {
+        let whole = Expression::Field { object, name };
+        return more(alloc, language, whole, height + 1, tokens, n, budget);
+    };
+    let (index, index_height, rest) = operand(alloc, language, inside, 0, budget - 1)?;
+    let rest = expect(rest, Sign::CloseParen)?;
+    let index = Box::new(alloc, index)?;
+    let whole = Expression::Indexed {
+        object,
+        name,
+        index,
+    };
     more(
         alloc,
-        Expression::Field { object, name },
-        height + 1,
+        language,
+        whole,
+        height.max(index_height) + 1,
         rest,
         n,
         budget,

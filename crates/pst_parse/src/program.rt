@@ -3,7 +3,7 @@
 ghost use Rattle.std.specs.Prelude.{◌≡◌, ◌≤◌, ◌-◌, length, drop};
 ghost use Rattle.pst_parse.specs.Grammar.{line_at, Found, FindsOnly, FaultsUnexpected, FaultsTooDeep};
 
-use crate::declaration::declarations;
+use crate::declaration::program;
 use crate::stop::Stop;
 use pst_lex::Tokens;
 use pst_tree::Tree;
@@ -42,11 +42,13 @@ fn line_from(tokens: &Tokens, left: usize) -> u32
     }
 }
 
-/// The program that the tokens are, with its parentheses kept, its chains grouped to the left, and the line of each
+/// The program that the tokens are, of language 2 where they begin with the name `language` and the number 2, and of
+/// language 1 elsewhere: with its parentheses kept, its chains grouped to the left, and the line of each
 /// declaration, field, parameter, local and statement.
 ///
 /// An expression, and the place before a `=`, may have depth 64: a number, `null` or a name has depth 1, parentheses,
-/// `-`, `not` and `.` add 1, and an operator adds 1 to its deeper side. Blocks may stand 16 deep, the body of a
+/// `-`, `not` and `.` add 1, an operator adds 1 to its deeper side, and an access with an index adds 1 to the deeper of
+/// the object and the index. Blocks may stand 16 deep, the body of a
 /// procedure counted. It reads by recursive descent with one token of lookahead, in time linear in the number of
 /// tokens, and never goes on behind a token that no program has there, so that the first fault is found where it
 /// stands.
@@ -61,8 +63,8 @@ pub fn parse(alloc: Global, tokens: &Tokens) -> Result<Tree, ParseFault>
     ensures unexpected { FaultsUnexpected 63 15 result tokens.now }
     ensures deep { FaultsTooDeep 63 15 result tokens.now }
 {
-    match declarations(alloc, tokens.list.as_slice(), HEIGHT, NESTING) {
-        Ok(declarations) => Ok(Tree { declarations }),
+    match program(alloc, tokens.list.as_slice(), HEIGHT, NESTING) {
+        Ok(tree) => Ok(tree),
         Err(Stop::Unexpected(rest)) => {
             let line = line_from(tokens, rest.len());
             Err(ParseFault::Unexpected { line })

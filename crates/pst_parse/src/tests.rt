@@ -3,7 +3,7 @@
 use super::{ParseFault, parse};
 use pst_base::Op;
 use pst_lex::{LexFault, tokens};
-use pst_tree::{Declaration, Expression, Form, Tree};
+use pst_tree::{Declaration, Expression, Field, Form, Tree};
 use std::alloc::{AllocError, Global};
 use std::test::Fail;
 
@@ -11,7 +11,7 @@ use std::test::Fail;
 const SMALL: usize = 100_000;
 
 /// Texts, and the line of the token at which no program goes on.
-const UNEXPECTED: [(&[u8], u32); 30] = [
+const UNEXPECTED: [(&[u8], u32); 42] = [
     (b"query q( { }", 1),
     (b"proc p() {\n", 2),
     (b"proc\np\n(\n)\n{\nx\n)", 7),
@@ -42,10 +42,37 @@ const UNEXPECTED: [(&[u8], u32); 30] = [
     (b"proc p(a: int,\n) { }", 2),
     (b"proc p():\n{ }", 2),
     (b"root a: int;\nprint 1;", 2),
+    (b"language\n3 root a: int;", 2),
+    (b"language\nroot a: int;", 2),
+    (b"language # of arrays\n", 2),
+    (b"languages\n2", 1),
+    (b"root a: int;\nlanguage\n2", 2),
+    (b"query q() { print a.f\n(1); }", 2),
+    (b"proc p() { a.f\n(1) = 2; }", 2),
+    (b"record N 2 { val key: int\n* 4; }", 2),
+    (b"language 2 record N 2 { val key: int *\n; }", 2),
+    (b"language 2 root a: int\n* 4;", 2),
+    (b"language 2 query q() { print a\n(1); }", 2),
+    (b"language 2 query q() { print a.f(1)\n(2); }", 2),
+];
+
+/// Texts of whole programs, and their languages.
+const READ: [(&[u8], u8); 5] = [
+    (b"", 1),
+    (b"language 2", 2),
+    (b"# one\nlanguage # two\n2\nroot a: int;", 2),
+    (
+        b"record N 2 { val language: int; } query q() { print a.language; }",
+        1,
+    ),
+    (
+        b"language 2 record N 2 { ptr language: N; } query q() { print a.language.language; }",
+        2,
+    ),
 ];
 
 /// Texts of a head, a piece so many times and a tail, and the line of the token that forces a depth above the limits.
-const DEEP: [(&str, &str, u8, &str, Option<u32>); 20] = [
+const DEEP: [(&str, &str, u8, &str, Option<u32>); 26] = [
     ("query q() { print ", "(", 63, "1", None),
     ("query q() {\nprint\n", "(\n", 64, "1", Some(66)),
     ("query q() {\nprint\n", "(\n", 70, "1", Some(66)),
@@ -60,6 +87,36 @@ const DEEP: [(&str, &str, u8, &str, Option<u32>); 20] = [
     ("query q() {\nprint a", "\nand a", 64, "; }", Some(66)),
     ("proc p() {\na", "\n.x", 63, "= 1; }", None),
     ("proc p() {\na", "\n.x", 64, "= 1; }", Some(66)),
+    ("language 2 query q() {\nprint\n", "a.x(\n", 63, "1", None),
+    (
+        "language 2 query q() {\nprint\n",
+        "a.x(\n",
+        64,
+        "1",
+        Some(66),
+    ),
+    ("language 2 proc p() {\na", "\n.x(1)", 63, "= 1; }", None),
+    (
+        "language 2 proc p() {\na",
+        "\n.x(1)",
+        64,
+        "= 1; }",
+        Some(66),
+    ),
+    (
+        "language 2 proc p() {\na.x(\n",
+        "-\n",
+        62,
+        "1) = 1; }",
+        None,
+    ),
+    (
+        "language 2 proc p() {\na.x(\n",
+        "-\n",
+        63,
+        "1) = 1; }",
+        Some(65),
+    ),
     ("proc p() {", "\nif a {", 15, "", None),
     ("proc p() {", "\nif a {", 16, "", Some(17)),
     ("proc p() {", "\nif a {", 17, "", Some(17)),
@@ -206,6 +263,78 @@ fn is_left_chain(form: &Form) -> bool {
             },
         ) => match (&**left, &**right) {
             (Expression::Binary { op: Op::Sub, .. }, Expression::Number(3)) => true,
+            _ => false,
+        },
+        _ => false,
+    }
+}
+
+/// The language of a program that is read, and 0 where it is not.
+fn language_of(alloc: Global, text: &[u8]) -> Result<u8, LexFault> {
+    if text.len() >= SMALL {
+        return Ok(0);
+    }
+    let tokens = tokens(alloc, text)?;
+    match parse(alloc, &tokens) {
+        Ok(tree) => Ok(tree.language),
+        Err(_) => Ok(0),
+    }
+}
+
+#[test]
+fn language_stands_in_the_first_two_tokens(rt: HostRuntime) -> Result<(), Fail> {
+    for (number, (text, language)) in READ.iter().enumerate() {
+        let found = language_of(rt.alloc(), text)?;
+        assert_eq!(rt; found, *language, "text {number}");
+    }
+    Ok(())
+}
+
+/// The numbers of elements of the fields, in order.
+fn counts(alloc: Global, tree: &Tree) -> Result<Vec<Option<i64>>, AllocError> {
+    let mut counts = Vec::new(alloc);
+    for declaration in tree.declarations.items.as_slice() {
+        if let Declaration::Record { fields, .. } = declaration {
+            for field in fields.as_slice() {
+                let elements = match field {
+                    Field::Val { elements, .. } => *elements,
+                    Field::Ptr { elements, .. } => *elements,
+                };
+                counts.push(elements)?;
+            }
+        }
+    }
+    Ok(counts)
+}
+
+#[test]
+fn arrays_are_read(rt: HostRuntime) -> Result<(), Fail> {
+    let text = b"language 2
+record K 3 { val key: int * 4; ptr kid: K * 16; ptr next: K; }
+proc p() { top.kid(i + 1).key(0) = top.next.key(i); }";
+    let tree = parse(rt.alloc(), &tokens(rt.alloc(), text)?)?;
+    let counts = counts(rt.alloc(), &tree)?;
+    assert_eq!(rt; counts.as_slice(), [Some(4), Some(16), None].as_slice());
+    let mut found = false;
+    for declaration in tree.declarations.items.as_slice() {
+        if let Declaration::Procedure { body, .. } = declaration {
+            for statement in body.items.as_slice() {
+                found = is_element_write(&statement.form);
+            }
+        }
+    }
+    assert!(rt; found);
+    Ok(())
+}
+
+/// Whether the element 0 of an element is written, with an element of a field.
+fn is_element_write(form: &Form) -> bool {
+    match form {
+        Form::Write {
+            place: Expression::Indexed { object, index, .. },
+            value: Expression::Indexed { object: source, .. },
+        } => match (&**object, &**index, &**source) {
+            (Expression::Indexed { .. }, Expression::Number(0), Expression::Field { .. }) => true,
             _ => false,
         },
         _ => false,

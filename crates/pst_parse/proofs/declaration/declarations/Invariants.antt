@@ -9,7 +9,7 @@ use Rattle.pst_parse.proofs.declaration.declarations.Given as goal
 
 abbrev pub invariant-loop-rest : goal.invariant-loop-rest
 invariant-loop-rest l =
-    (length l.rest ≤ length l.fn.tokens) × (behind (map item_of l.items.items) (many any (item l.fn.height l.fn.nesting) (lexemes l.rest)) ≡ many any (item l.fn.height l.fn.nesting) (lexemes l.fn.tokens))
+    (length l.rest ≤ length l.fn.tokens) × (behind (map item_of l.items.items) (many any (item l.fn.language l.fn.height l.fn.nesting) (lexemes l.rest)) ≡ many any (item l.fn.language l.fn.height l.fn.nesting) (lexemes l.fn.tokens))
 
 abbrev pub decreases-loop-rest : goal.decreases-loop-rest
 decreases-loop-rest l = length l.rest

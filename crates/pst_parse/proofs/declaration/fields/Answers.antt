@@ -9,14 +9,14 @@ use Rattle.pst_parse.proofs.declaration.fields.Goals as goal
 pub returns-in_err-field-clause-given : goal.returns-in_err-field-clause-given
 returns-in_err-field-clause-given c =
     let p = err_from_is_err_and c.from_residual.result c.from_residual.ensures.1 in
-    rw (p.1, p.2) (loop_bad starts_field field field_of _ _ _ _ field_short c.loop-rest-test.ensures c.in_err-field.ensures.given c.loop-rest.invariant.1)
+    rw (p.1, p.2) (loop_bad starts_field (field c.args.language) field_of _ _ _ _ (field_short c.args.language) c.loop-rest-test.ensures c.in_err-field.ensures.given c.loop-rest.invariant.1)
 
 pub loop-rest-preserved : goal.loop-rest-preserved
 loop-rest-preserved c = (
   omega (arith, c.in_ok-field.ensures.shorter, c.loop-rest.invariant.0),
-  loop_more starts_field field field_of _ _ c.in_ok-field.field _ _ _ field_short c.in_ok-push.ensures.items c.loop-rest-test.ensures c.in_ok-field.ensures.given c.loop-rest.invariant.1,
+  loop_more starts_field (field c.args.language) field_of _ _ c.in_ok-field.field _ _ _ (field_short c.args.language) c.in_ok-push.ensures.items c.loop-rest-test.ensures c.in_ok-field.ensures.given c.loop-rest.invariant.1,
 )
 
 pub returns-clause-given : goal.returns-clause-given
 returns-clause-given c =
-    rw c.from_vec.ensures (loop_done starts_field field field_of c.loop-rest.items.items _ _ c.loop-rest-test.ensures c.loop-rest.invariant.1)
+    rw c.from_vec.ensures (loop_done starts_field (field c.args.language) field_of c.loop-rest.items.items _ _ c.loop-rest-test.ensures c.loop-rest.invariant.1)

@@ -9,7 +9,7 @@ use Rattle.pst_parse.proofs.declaration.fields.Given as goal
 
 abbrev pub invariant-loop-rest : goal.invariant-loop-rest
 invariant-loop-rest l =
-    (length l.rest ≤ length l.fn.tokens) × (behind (map field_of l.items.items) (many starts_field field (lexemes l.rest)) ≡ many starts_field field (lexemes l.fn.tokens))
+    (length l.rest ≤ length l.fn.tokens) × (behind (map field_of l.items.items) (many starts_field (field l.fn.language) (lexemes l.rest)) ≡ many starts_field (field l.fn.language) (lexemes l.fn.tokens))
 
 abbrev pub decreases-loop-rest : goal.decreases-loop-rest
 decreases-loop-rest l = length l.rest

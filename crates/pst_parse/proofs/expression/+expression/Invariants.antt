@@ -21,3 +21,6 @@ decreases-joined l = 2 * length l.tokens.now
 
 abbrev pub decreases-field : goal.decreases-field
 decreases-field l = 2 * length l.tokens.now
+
+abbrev pub decreases-selected : goal.decreases-selected
+decreases-selected l = 2 * length l.tokens.now + 2

@@ -1,5 +1,5 @@
 use Rattle.std.specs.Prelude.{[]}
-use Rattle.pst_tree.specs.View.{items_of}
+use Rattle.pst_tree.specs.View.{text_of}
 use Rattle.pst_parse.specs.Lexemes.{lexemes}
 use Rattle.pst_parse.specs.Reader.{Unexpected, TooDeep}
 use Rattle.pst_parse.proofs.Faults.{found}
@@ -13,10 +13,10 @@ pub line_from-line-requires-in-Err-TooDeep : goal.line_from-line-requires-in-Err
 line_from-line-requires-in-Err-TooDeep c = deep_short 63 15 _ _ (rw (← c.as_slice.ensures) (rw c.in-Err-TooDeep.field-0-is at c.in-Err-TooDeep.ensures))
 
 pub returns-in-Ok-clause-found : goal.returns-in-Ok-clause-found
-returns-in-Ok-clause-found c = found 63 15 (lexemes c.args.tokens.now.list) [] (items_of (record { declarations = c.in-Ok.declarations })) (rw (← c.as_slice.ensures) c.in-Ok.ensures)
+returns-in-Ok-clause-found c = found 63 15 (lexemes c.args.tokens.now.list) [] (text_of c.in-Ok.tree) (rw (← c.as_slice.ensures) c.in-Ok.ensures)
 
 pub returns-in-Ok-clause-only : goal.returns-in-Ok-clause-only
-returns-in-Ok-clause-only c = λ p shallow spells. same_program 63 15 (lexemes c.args.tokens.now.list) [] (items_of (record { declarations = c.in-Ok.declarations })) p (rw (← c.as_slice.ensures) c.in-Ok.ensures) shallow spells
+returns-in-Ok-clause-only c = λ p shallow spells. same_program 63 15 (lexemes c.args.tokens.now.list) [] (text_of c.in-Ok.tree) p (rw (← c.as_slice.ensures) c.in-Ok.ensures) shallow spells
 
 pub returns-in-Err-Unexpected-clause-only : goal.returns-in-Err-Unexpected-clause-only
 returns-in-Err-Unexpected-clause-only c = λ p shallow spells.

@@ -9,7 +9,7 @@ use Rattle.pst_parse.proofs.statement.arguments.Given as goal
 
 abbrev pub invariant-loop-next : goal.invariant-loop-next
 invariant-loop-next l =
-    (length l.rest < length l.fn.tokens) × (closing (read l.fn.height 0) (map expr_of l.items.items) (lexemes l.rest) ≡ arguments l.fn.height (lexemes l.fn.tokens))
+    (length l.rest < length l.fn.tokens) × (closing (read l.fn.language l.fn.height 0) (map expr_of l.items.items) (lexemes l.rest) ≡ arguments l.fn.language l.fn.height (lexemes l.fn.tokens))
 
 abbrev pub decreases-loop-next : goal.decreases-loop-next
 decreases-loop-next l = length l.rest
