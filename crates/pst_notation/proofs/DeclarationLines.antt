@@ -1,5 +1,5 @@
 -- Tokens that are those of a program, lines apart, are those of a program with other lines.
-use Rattle.std.specs.Prelude.{◌≡◌, ℕ, Bool, true, false, List, [], ◌∷◌, map, Option, Some, None}
+use Rattle.std.specs.Prelude.{◌≡◌, ℕ, ℤ, pos, Bool, true, false, List, [], ◌∷◌, map, Option, Some, None}
 use Rattle.std.specs.Option.{option_map}
 use Rattle.std.proofs.Common.{refl, sym, ap, ◌∙◌}
 use Rattle.pst_lex.specs.declared.words.Mark.TheVariants as mark
@@ -11,7 +11,7 @@ use Rattle.pst_parse.specs.declared.lexeme.Sign.TheVariants as sign
 use Rattle.pst_parse.specs.declared.lexeme.Lead.TheVariants as lead
 use Rattle.pst_parse.specs.Lexemes as token
 use Rattle.pst_parse.specs.Lexemes.{Lexeme, Plain, Leading}
-use Rattle.pst_parse.specs.Spelling.{TypeText, Int, Named, type_word, spelled_type, FieldText, Val, Ptr, field, spelled_field, Parameter, parameter, spelled_parameter, Local, local, spelled_local, spelled_result, head, Block, phrases, spelled_block, Item, Record, Root, Procedure, item, spelled_item, each, listed, program, spelled_program}
+use Rattle.pst_parse.specs.Spelling.{TypeText, Int, Named, type_word, spelled_type, spelled_count, FieldText, Val, Ptr, field, spelled_field, Parameter, parameter, spelled_parameter, Local, local, spelled_local, spelled_result, head, Block, phrases, spelled_block, Item, Record, Root, Procedure, item, spelled_item, each, listed, Opening, First, Second, language, language_word, spelled_opening, Program, program, spelled_program}
 use Rattle.pst_notation.specs.Lines.{block_lineless, field_lineless, local_lineless, item_lineless, lineless}
 use Rattle.pst_notation.specs.Tokens.{words_of, program_words, lead_mark}
 use Rattle.pst_notation.proofs.Fronts.{front, Relined, lexeme_at}
@@ -42,24 +42,41 @@ result_relined (Some t) ts us h =
     let a = kind_relined t ts us h in
     record { part = Some a.part; rest = a.rest; same = ap (λ (k : tree.TypeWord). Some k) a.same; spells = a.spells; words = a.words }
 
+-- the number of elements of an array, whose tokens have no lines
+record CountedFront (n : Option ℤ) (ts us : List Lexeme) : Type 0 where
+  rest : List Lexeme
+  spells : spelled_count n rest ≡ us
+  words : words_of rest ≡ words_of ts
+
+count_relined : (n : Option ℤ) (ts us : List Lexeme) → words_of us ≡ words_of (spelled_count n ts) → CountedFront n ts us
+count_relined None ts us h = record { rest = us; spells = refl; words = h }
+count_relined (Some v) ts us h =
+    let a = front (Fixed mark.Star) (word.Number v ∷ words_of ts) us h in
+    let b = front (word.Number v) (words_of ts) a.rest a.words in
+    record { rest = b.rest; spells = cc; words = b.words }
+
 abbrev bare_field : FieldText → tree.FieldText
 bare_field f = field_lineless (field f)
 
 field_relined : (f : FieldText) (ts us : List Lexeme) → words_of us ≡ words_of (spelled_field f ts) → Relined (λ g. bare_field g ≡ bare_field f) spelled_field ts us
-field_relined (Val line x) ts us h =
-    let a = front (Fixed mark.Val) (word.Name x.name ∷ Fixed mark.Colon ∷ Fixed mark.Int ∷ Fixed mark.Semicolon ∷ words_of ts) us h in
-    let b = front (word.Name x.name) (Fixed mark.Colon ∷ Fixed mark.Int ∷ Fixed mark.Semicolon ∷ words_of ts) a.rest a.words in
-    let c = front (Fixed mark.Colon) (Fixed mark.Int ∷ Fixed mark.Semicolon ∷ words_of ts) b.rest b.words in
-    let d = front (Fixed mark.Int) (Fixed mark.Semicolon ∷ words_of ts) c.rest c.words in
-    let e = front (Fixed mark.Semicolon) (words_of ts) d.rest d.words in
-    record { part = Val a.line (record { line = b.line; name = x.name }); rest = e.rest; same = refl; spells = cc; words = e.words }
-field_relined (Ptr line x target) ts us h =
-    let a = front (Fixed mark.Ptr) (word.Name x.name ∷ Fixed mark.Colon ∷ word.Name target.name ∷ Fixed mark.Semicolon ∷ words_of ts) us h in
-    let b = front (word.Name x.name) (Fixed mark.Colon ∷ word.Name target.name ∷ Fixed mark.Semicolon ∷ words_of ts) a.rest a.words in
-    let c = front (Fixed mark.Colon) (word.Name target.name ∷ Fixed mark.Semicolon ∷ words_of ts) b.rest b.words in
-    let d = front (word.Name target.name) (Fixed mark.Semicolon ∷ words_of ts) c.rest c.words in
-    let e = front (Fixed mark.Semicolon) (words_of ts) d.rest d.words in
-    record { part = Ptr a.line (record { line = b.line; name = x.name }) (record { line = d.line; name = target.name }); rest = e.rest; same = refl; spells = cc; words = e.words }
+field_relined (Val line x n) ts us h =
+    let tail = words_of (spelled_count n (Plain sign.Semicolon ∷ ts)) in
+    let a = front (Fixed mark.Val) (word.Name x.name ∷ Fixed mark.Colon ∷ Fixed mark.Int ∷ tail) us h in
+    let b = front (word.Name x.name) (Fixed mark.Colon ∷ Fixed mark.Int ∷ tail) a.rest a.words in
+    let c = front (Fixed mark.Colon) (Fixed mark.Int ∷ tail) b.rest b.words in
+    let d = front (Fixed mark.Int) tail c.rest c.words in
+    let e = count_relined n (Plain sign.Semicolon ∷ ts) d.rest d.words in
+    let f = front (Fixed mark.Semicolon) (words_of ts) e.rest e.words in
+    record { part = Val a.line (record { line = b.line; name = x.name }) n; rest = f.rest; same = refl; spells = cc; words = f.words }
+field_relined (Ptr line x target n) ts us h =
+    let tail = words_of (spelled_count n (Plain sign.Semicolon ∷ ts)) in
+    let a = front (Fixed mark.Ptr) (word.Name x.name ∷ Fixed mark.Colon ∷ word.Name target.name ∷ tail) us h in
+    let b = front (word.Name x.name) (Fixed mark.Colon ∷ word.Name target.name ∷ tail) a.rest a.words in
+    let c = front (Fixed mark.Colon) (word.Name target.name ∷ tail) b.rest b.words in
+    let d = front (word.Name target.name) tail c.rest c.words in
+    let e = count_relined n (Plain sign.Semicolon ∷ ts) d.rest d.words in
+    let f = front (Fixed mark.Semicolon) (words_of ts) e.rest e.words in
+    record { part = Ptr a.line (record { line = b.line; name = x.name }) (record { line = d.line; name = target.name }) n; rest = f.rest; same = refl; spells = cc; words = f.words }
 
 bare : List ℕ → tree.TypeWord → tree.LocalText
 bare x kind = record { line = 0; name = x; kind = kind }
@@ -253,22 +270,32 @@ item_relined (Procedure line query x parameters result locals body) ts us h =
     procedure_spells line query x parameters result locals body us a b c e f g =
         ap (λ (r : List Lexeme). Leading (head query) line ∷ token.Name x ∷ r) g ∙ ap (λ (r : List Lexeme). Leading (head query) line ∷ r) (sym f) ∙ sym e
 
--- a program with the lines of tokens that are its, lines apart
-pub record RelinedProgram (p : List Item) (us : List Lexeme) : Type 0 where
-  pub items : List Item
-  pub same : lineless (program items) ≡ lineless (program p)
-  pub spells : spelled_program items [] ≡ us
+opening_relined : (o : Opening) (ts us : List Lexeme) → words_of us ≡ words_of (spelled_opening o ts) → Relined (λ q. language q ≡ language o) spelled_opening ts us
+opening_relined First ts us h = record { part = First; rest = us; same = refl; spells = refl; words = h }
+opening_relined (Second line) ts us h =
+    let a = front (word.Name language_word) (word.Number (pos 2) ∷ words_of ts) us h in
+    let b = front (word.Number (pos 2)) (words_of ts) a.rest a.words in
+    record { part = Second a.line; rest = b.rest; same = refl; spells = cc; words = b.words }
 
-pub program_relined : (p : List Item) (us : List Lexeme) → words_of us ≡ program_words p → RelinedProgram p us
-program_relined p us h = all_of (each_relined bare_item spelled_item item_relined p [] us h)
+-- a program with the lines of tokens that are its, lines apart
+pub record RelinedProgram (p : Program) (us : List Lexeme) : Type 0 where
+  pub whole : Program
+  pub same : lineless (program whole) ≡ lineless (program p)
+  pub spells : spelled_program whole [] ≡ us
+
+pub program_relined : (p : Program) (us : List Lexeme) → words_of us ≡ program_words p → RelinedProgram p us
+program_relined p us h =
+    let a = opening_relined p.opening (each spelled_item p.items []) us h in
+    let b = each_relined bare_item spelled_item item_relined p.items [] a.rest a.words in
+    record {
+      whole = record { opening = a.part; items = b.part };
+      same = text_same _ _ _ _ a.same (map_twice item_lineless item b.part ∙ b.same ∙ sym (map_twice item_lineless item p.items));
+      spells = ap (λ (r : List Lexeme). spelled_opening a.part (each spelled_item b.part r)) (sym (none b.rest b.words)) ∙ ap (spelled_opening a.part) b.spells ∙ a.spells;
+    }
   where
     none : (ts : List Lexeme) → words_of ts ≡ [] → ts ≡ []
     none [] e = refl
     none (t ∷ ts) e = cc
 
-    all_of : Relined (λ m. map bare_item m ≡ map bare_item p) (each spelled_item) [] us → RelinedProgram p us
-    all_of r = record {
-      items = r.part;
-      same = map_twice item_lineless item r.part ∙ r.same ∙ sym (map_twice item_lineless item p);
-      spells = ap (each spelled_item r.part) (sym (none r.rest r.words)) ∙ r.spells;
-    }
+    text_same : (k l : ℕ) (xs ys : List tree.Item) → k ≡ l → xs ≡ ys → ◌≡◌ {A = tree.ProgramText} (record { language = k; items = xs }) (record { language = l; items = ys })
+    text_same k l xs ys e f = rw (e, f) refl

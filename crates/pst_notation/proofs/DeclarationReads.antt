@@ -1,9 +1,10 @@
 -- The canonical text of a program has its tokens.
-use Rattle.std.specs.Prelude.{ℕ, Bool, true, false, List, [], ◌∷◌, ◌++◌, map, codes, Option, Some, None}
+use Rattle.std.specs.Prelude.{ℕ, ℤ, pos, Bool, true, false, List, [], ◌∷◌, ◌++◌, map, codes, Option, Some, None}
 use Rattle.std.specs.Option.{option_map}
 use Rattle.std.specs.List.{flat_map}
-use Rattle.std.specs.Fmt.{signed_decimal}
+use Rattle.std.specs.Fmt.{digits, signed_decimal}
 use Rattle.std.proofs.Common.{refl, append_assoc, append-nil}
+use Rattle.pst_base.specs.declared.names.Op.TheVariants as op
 use Rattle.pst_lex.specs.declared.words.Mark.TheVariants as mark
 use Rattle.pst_lex.specs.Bytes.{EndsWord}
 use Rattle.pst_lex.specs.Lexing.{AreWords, LexedAs}
@@ -12,10 +13,10 @@ use Rattle.pst_parse.specs.declared.lexeme.Sign.TheVariants as sign
 use Rattle.pst_parse.specs.declared.lexeme.Lead.TheVariants as lead
 use Rattle.pst_parse.specs.Lexemes.{Lexeme, Name, Plain, Leading}
 use Rattle.pst_parse.specs.Spelling.{listed as spelled_list}
-use Rattle.pst_parse.specs.Spelling.{TypeText, Int, Named, type_word, spelled_type, FieldText, Val, Ptr, field, spelled_field, Parameter, parameter, spelled_parameter, Local, local, spelled_local, spelled_result, head, Item, Record, Root, Procedure, item, spelled_item, each, program, spelled_program}
-use Rattle.pst_notation.specs.Canonical.{line, listed, type_text, typed_text, field_text, parameter_text, local_text, gives_text, sort_text, item_text, canonical}
+use Rattle.pst_parse.specs.Spelling.{TypeText, Int, Named, type_word, spelled_type, spelled_count, FieldText, Val, Ptr, field, spelled_field, Parameter, parameter, spelled_parameter, Local, local, spelled_local, spelled_result, head, Item, Record, Root, Procedure, item, spelled_item, each, Opening, First, Second, language, language_word, spelled_opening, Program, program}
+use Rattle.pst_notation.specs.Canonical.{line, listed, type_text, typed_text, elements_text, field_text, parameter_text, local_text, gives_text, sort_text, item_text, language_text, canonical}
 use Rattle.pst_notation.specs.Tokens.{program_words}
-use Rattle.pst_notation.proofs.Pieces.{Reads, written, space, feed, on_line, name, number, fixed, open_ends}
+use Rattle.pst_notation.proofs.Pieces.{Reads, written, space, feed, on_line, name, number, fixed, open_ends, operator}
 use Rattle.pst_notation.proofs.ExpressionReads.{listed_read}
 use Rattle.pst_notation.proofs.StatementReads.{block_reads, close_reads}
 
@@ -31,13 +32,26 @@ typed_reads : (x : Label) (t : TypeText) {rest : List ℕ} {ts : List Lexeme} �
     Reads (typed_text x.name (type_word t) ++ rest) (Name x ∷ Plain sign.Colon ∷ spelled_type t ts)
 typed_reads x t ends r = written (name x refl (kind_reads t ends r)) (simp append_assoc)
 
+-- the number of elements of an array
+count_reads : (n : Option ℤ) {rest : List ℕ} {ts : List Lexeme} → EndsWord rest → Reads rest ts → Reads (elements_text n ++ rest) (spelled_count n ts)
+count_reads None ends r = r
+count_reads (Some v) ends r = space (operator op.Mul (space (number v ends r)))
+
+count_ends : (n : Option ℤ) (rest : List ℕ) → EndsWord rest → EndsWord (elements_text n ++ rest)
+count_ends None rest ends = ends
+count_ends (Some v) rest ends = refl
+
+-- what stands behind the type of a field
+field_end_reads : (n : Option ℤ) {rest : List ℕ} {ts : List Lexeme} → Reads rest ts → Reads (elements_text n ++ (59 ∷ 32 ∷ rest)) (spelled_count n (Plain sign.Semicolon ∷ ts))
+field_end_reads n r = count_reads n refl (fixed (Plain sign.Semicolon) mark.Semicolon refl refl (space r))
+
 field_reads : (f : FieldText) {rest : List ℕ} {ts : List Lexeme} → Reads rest ts → Reads (field_text (field f) ++ rest) (spelled_field f ts)
-field_reads (Val at x) r =
-    written (fixed (Leading lead.Val at) mark.Val refl refl (space (name x refl (fixed (Plain sign.Colon) mark.Colon refl refl (space (fixed (Plain sign.Int) mark.Int refl refl
-    (fixed (Plain sign.Semicolon) mark.Semicolon refl refl (space r)))))))) (simp append_assoc)
-field_reads (Ptr at x target) r =
-    written (fixed (Leading lead.Ptr at) mark.Ptr refl refl (space (name x refl (fixed (Plain sign.Colon) mark.Colon refl refl (space (name target refl
-    (fixed (Plain sign.Semicolon) mark.Semicolon refl refl (space r)))))))) (simp append_assoc)
+field_reads (Val at x n) {rest} r =
+    written (fixed (Leading lead.Val at) mark.Val refl refl (space (name x refl (fixed (Plain sign.Colon) mark.Colon refl refl (space (fixed (Plain sign.Int) mark.Int refl (count_ends n (59 ∷ 32 ∷ rest) refl)
+    (field_end_reads n r))))))) (simp append_assoc)
+field_reads (Ptr at x target n) {rest} r =
+    written (fixed (Leading lead.Ptr at) mark.Ptr refl refl (space (name x refl (fixed (Plain sign.Colon) mark.Colon refl refl (space (name target (count_ends n (59 ∷ 32 ∷ rest) refl)
+    (field_end_reads n r))))))) (simp append_assoc)
 
 local_reads : (l : Local) {rest : List ℕ} {ts : List Lexeme} → Reads rest ts → Reads (local_text (local l) ++ rest) (spelled_local l ts)
 local_reads l {rest} r =
@@ -79,9 +93,15 @@ item_reads (Root at x kind) {rest} r =
 item_reads (Procedure at query x parameters result locals body) r =
     written (head_reads at query x parameters result (each_reads local local_text spelled_local (λ l rest ts r. local_reads l r) locals _ _ (block_reads 2 body (close_reads 0 r)))) (simp append_assoc)
 
-items_read : (p : List Item) → Reads (flat_map item_text (program p)) (spelled_program p [])
+items_read : (p : List Item) → Reads (flat_map item_text (map item p)) (each spelled_item p [])
 items_read p = written (each_reads item item_text spelled_item (λ i rest ts r. item_reads i r) p [] [] (record { lexed = λ a. (false, refl) })) (simp append-nil)
 
-pub program_lexed : (p : List Item) → AreWords (program_words p) → LexedAs (canonical (program p)) (program_words p)
+-- the first line of a program of language 2
+opening_reads : (o : Opening) {rest : List ℕ} {ts : List Lexeme} → Reads rest ts → Reads (language_text (language o) ++ rest) (spelled_opening o ts)
+unfolding digits
+opening_reads First r = r
+opening_reads (Second line) r = name (record { line = line; name = language_word }) refl (space (number (pos 2) refl (feed r)))
+
+pub program_lexed : (p : Program) → AreWords (program_words p) → LexedAs (canonical (program p)) (program_words p)
 unfolding canonical
-program_lexed p are = (items_read p).lexed are
+program_lexed p are = (opening_reads p.opening (items_read p.items)).lexed are

@@ -8,7 +8,7 @@ use Rattle.pst_tree.specs.Syntax as tree
 use Rattle.pst_parse.specs.declared.lexeme.Sign.TheVariants as sign
 use Rattle.pst_parse.specs.Lexemes as token
 use Rattle.pst_parse.specs.Lexemes.{Lexeme, Operator, Plain, Leading}
-use Rattle.pst_parse.specs.Spelling.{Expr, Number, Null, Name, Parens, Field, Negate, Not, Binary, expr, spelled, each, after_comma, listed}
+use Rattle.pst_parse.specs.Spelling.{Expr, Number, Null, Name, Parens, Field, Indexed, Negate, Not, Binary, expr, spelled, each, after_comma, listed}
 use Rattle.pst_notation.specs.Tokens.{words_of, op_mark}
 use Rattle.pst_notation.proofs.Fronts.{front, Relined, lexeme_at}
 use Rattle.pst_base.specs.declared.names.Op.{Op}
@@ -38,6 +38,15 @@ expr_relined (Field e x) ts us h =
     let b = front (Fixed mark.Dot) (word.Name x.name ∷ words_of ts) a.rest a.words in
     let c = front (word.Name x.name) (words_of ts) b.rest b.words in
     record { part = Field a.part (record { line = c.line; name = x.name }); rest = c.rest; same = ap (λ (f : tree.Expr). tree.Field f x.name) a.same; spells = cc; words = c.words }
+expr_relined (Indexed e x i) ts us h =
+    let tail = words_of (spelled i (Plain sign.CloseParen ∷ ts)) in
+    let a = expr_relined e (Plain sign.Dot ∷ token.Name x ∷ Plain sign.OpenParen ∷ spelled i (Plain sign.CloseParen ∷ ts)) us h in
+    let b = front (Fixed mark.Dot) (word.Name x.name ∷ Fixed mark.OpenParen ∷ tail) a.rest a.words in
+    let c = front (word.Name x.name) (Fixed mark.OpenParen ∷ tail) b.rest b.words in
+    let d = front (Fixed mark.OpenParen) tail c.rest c.words in
+    let f = expr_relined i (Plain sign.CloseParen ∷ ts) d.rest d.words in
+    let g = front (Fixed mark.CloseParen) (words_of ts) f.rest f.words in
+    record { part = Indexed a.part (record { line = c.line; name = x.name }) f.part; rest = g.rest; same = cc; spells = cc; words = g.words }
 expr_relined (Negate e) ts us h =
     let a = front (Fixed mark.Minus) (words_of (spelled e ts)) us h in
     let b = expr_relined e ts a.rest a.words in

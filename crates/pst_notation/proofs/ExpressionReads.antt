@@ -7,7 +7,7 @@ use Rattle.pst_lex.specs.declared.words.Mark.TheVariants as mark
 use Rattle.pst_lex.specs.Bytes.{EndsWord}
 use Rattle.pst_parse.specs.declared.lexeme.Sign.TheVariants as sign
 use Rattle.pst_parse.specs.Lexemes.{Lexeme, Operator, Plain}
-use Rattle.pst_parse.specs.Spelling.{Expr, Number, Null, Name, Parens, Field, Negate, Not, Binary, expr, spelled, each, after_comma, listed}
+use Rattle.pst_parse.specs.Spelling.{Expr, Number, Null, Name, Parens, Field, Indexed, Negate, Not, Binary, expr, spelled, each, after_comma, listed}
 use Rattle.pst_notation.specs.Canonical as canonical
 use Rattle.pst_notation.specs.Canonical.{expr_text, behind_comma}
 use Rattle.pst_notation.proofs.Pieces.{Reads, written, space, name, number, fixed, open_ends, close_ends, minus_ends, dot_ends, operator}
@@ -19,6 +19,9 @@ expr_reads (Name x) ends r = name x ends r
 expr_reads (Parens e) {rest} ends r =
     written (fixed (Plain sign.OpenParen) mark.OpenParen refl (open_ends _) (expr_reads e refl (fixed (Plain sign.CloseParen) mark.CloseParen refl (close_ends rest) r))) (simp append_assoc)
 expr_reads (Field e x) ends r = written (expr_reads e refl (fixed (Plain sign.Dot) mark.Dot refl (dot_ends _) (name x ends r))) (simp append_assoc)
+expr_reads (Indexed e x i) {rest} ends r =
+    written (expr_reads e refl (fixed (Plain sign.Dot) mark.Dot refl (dot_ends _) (name x refl (fixed (Plain sign.OpenParen) mark.OpenParen refl (open_ends _)
+    (expr_reads i refl (fixed (Plain sign.CloseParen) mark.CloseParen refl (close_ends rest) r)))))) (simp append_assoc)
 expr_reads (Negate e) ends r = fixed (Operator op.Sub) mark.Minus refl (minus_ends _) (expr_reads e ends r)
 expr_reads (Not e) ends r = fixed (Plain sign.Not) mark.Not refl refl (space (expr_reads e ends r))
 expr_reads (Binary o left right) ends r = written (expr_reads left refl (space (operator o (space (expr_reads right ends r))))) (simp append_assoc)

@@ -12,10 +12,10 @@ use Rattle.pst_lex.specs.Lexing.{AreWords, LexedAs, Lexes, Faults}
 use Rattle.pst_lex.specs.Lexing as lexing
 use Rattle.pst_lex.proofs.Unique.{its_words, no_fault, are_words}
 use Rattle.pst_tree.specs.declared.declaration.Tree.{Tree}
-use Rattle.pst_tree.specs.View.{items_of}
+use Rattle.pst_tree.specs.View.{text_of}
 use Rattle.pst_tree.specs.Syntax as tree
 use Rattle.pst_parse.specs.Lexemes.{lexeme_in, lexemes, marked_if}
-use Rattle.pst_parse.specs.Spelling.{Item, program}
+use Rattle.pst_parse.specs.Spelling.{Program, program}
 use Rattle.pst_parse.specs.Grammar.{Spells}
 use Rattle.pst_parse.proofs.Faults.{unique}
 use Rattle.pst_notation.specs.Canonical.{canonical}
@@ -43,44 +43,44 @@ seen_words : (ts : List Token) → words_of (lexemes ts) ≡ lexing.words_of ts
 seen_words [] = refl
 seen_words (t ∷ ts) = rw (kind_word t.line t.kind, seen_words ts) refl
 
-pub has_its_tokens : (items : List tree.Item) → HasItsTokens items
-has_its_tokens items p e written = subst (λ (l : List tree.Item). LexedAs (canonical l) (program_words p)) e (program_lexed p written)
+pub has_its_tokens : (whole : tree.ProgramText) → HasItsTokens whole
+has_its_tokens whole p e written = subst (λ (l : tree.ProgramText). LexedAs (canonical l) (program_words p)) e (program_lexed p written)
 
-pub has_no_fault : (items : List tree.Item) → HasNoFault items
-has_no_fault items p f e written faults = no_fault (canonical items) (program_words p) f (has_its_tokens items p e written) faults
+pub has_no_fault : (whole : tree.ProgramText) → HasNoFault whole
+has_no_fault whole p f e written faults = no_fault (canonical whole) (program_words p) f (has_its_tokens whole p e written) faults
 
-pub reads_back : (items : List tree.Item) → ReadsBack items
-reads_back items h d p e written shallow ts end lexes =
-    let same : program_words p ≡ lexing.words_of ts = (its_words (canonical items) ts end lexes).1 (program_words p) (has_its_tokens items p e written) in
+pub reads_back : (whole : tree.ProgramText) → ReadsBack whole
+reads_back whole h d p e written shallow ts end lexes =
+    let same : program_words p ≡ lexing.words_of ts = (its_words (canonical whole) ts end lexes).1 (program_words p) (has_its_tokens whole p e written) in
     let r = program_relined p (lexemes ts) (seen_words ts ∙ sym same) in
-    let apart : lineless (program r.items) ≡ lineless items = r.same ∙ ap lineless e in
-    (r.items, shallow_same h d items (program r.items) apart shallow, r.spells, apart)
+    let apart : lineless (program r.whole) ≡ lineless whole = r.same ∙ ap lineless e in
+    (r.whole, shallow_same h d whole (program r.whole) apart shallow, r.spells, apart)
 
-pub reads_as_no_other : (items : List tree.Item) → ReadsAsNoOther items
-reads_as_no_other items p e written formed ts end lexes q formed_q spells =
-    let same : program_words p ≡ lexing.words_of ts = (its_words (canonical items) ts end lexes).1 (program_words p) (has_its_tokens items p e written) in
+pub reads_as_no_other : (whole : tree.ProgramText) → ReadsAsNoOther whole
+reads_as_no_other whole p e written formed ts end lexes q formed_q spells =
+    let same : program_words p ≡ lexing.words_of ts = (its_words (canonical whole) ts end lexes).1 (program_words p) (has_its_tokens whole p e written) in
     let r = program_relined p (lexemes ts) (seen_words ts ∙ sym same) in
-    let apart : lineless (program r.items) ≡ lineless items = r.same ∙ ap lineless e in
-    let one : program q ≡ program r.items = unique (lexemes ts) q r.items formed_q (program_same items (program r.items) apart formed) spells r.spells in
+    let apart : lineless (program r.whole) ≡ lineless whole = r.same ∙ ap lineless e in
+    let one : program q ≡ program r.whole = unique (lexemes ts) q r.whole formed_q (program_same whole (program r.whole) apart formed) spells r.spells in
     ap lineless one ∙ apart
 
-pub drops_lines : (items : List tree.Item) → DropsLines items
-drops_lines items other e = sym (canonical_lineless other) ∙ ap canonical e ∙ canonical_lineless items
+pub drops_lines : (whole : tree.ProgramText) → DropsLines whole
+drops_lines whole other e = sym (canonical_lineless other) ∙ ap canonical e ∙ canonical_lineless whole
 
-spelled_words : (tokens : List Token) (p : List Item) → Spells (lexemes tokens) p → program_words p ≡ lexing.words_of tokens
+spelled_words : (tokens : List Token) (p : Program) → Spells (lexemes tokens) p → program_words p ≡ lexing.words_of tokens
 spelled_words tokens p spells = ap words_of spells ∙ seen_words tokens
 
 -- the tree that a text was read as has names that are names, and numbers that are numbers
-written : (text : List ℕ) (tokens : List Token) (end : ℕ) (p : List Item) → Lexes text tokens end → Spells (lexemes tokens) p → IsWritten p
+written : (text : List ℕ) (tokens : List Token) (end : ℕ) (p : Program) → Lexes text tokens end → Spells (lexemes tokens) p → IsWritten p
 written text tokens end p lexes spells =
     subst AreWords (sym (spelled_words tokens p spells)) (are_words text (lexing.words_of tokens) (its_words text tokens end lexes).0)
 
 pub keeps_tokens : (text : List ℕ) (tokens : Tokens) (tree : Tree) → KeepsTokens text tokens tree
 keeps_tokens text tokens tree h d (lexes, (p, e, shallow, spells)) =
-    subst (λ (ws : List Word). LexedAs (canonical (items_of tree)) ws) (spelled_words tokens.list p spells)
-    (has_its_tokens (items_of tree) p e (written text tokens.list tokens.end p lexes spells))
+    subst (λ (ws : List Word). LexedAs (canonical (text_of tree)) ws) (spelled_words tokens.list p spells)
+    (has_its_tokens (text_of tree) p e (written text tokens.list tokens.end p lexes spells))
 
 pub keeps_tree : (text : List ℕ) (tokens : Tokens) (tree : Tree) → KeepsTree text tokens tree
 keeps_tree text tokens tree h d (lexes, (p, e, shallow, spells)) ts end is =
     let is_written = written text tokens.list tokens.end p lexes spells in
-    (reads_back (items_of tree) h d p e is_written shallow ts end is, reads_as_no_other (items_of tree) p e is_written shallow.formed ts end is)
+    (reads_back (text_of tree) h d p e is_written shallow ts end is, reads_as_no_other (text_of tree) p e is_written shallow.formed ts end is)

@@ -3,8 +3,8 @@ use Rattle.std.specs.Prelude.{◌≡◌, ℕ, ◌+◌, List, [], ◌∷◌, ◌+
 use Rattle.std.specs.List.{flat_map}
 use Rattle.std.specs.Fmt.{signed_decimal}
 use Rattle.std.proofs.Common.{refl, ap}
-use Rattle.pst_tree.specs.Syntax.{Phrase, New, Call, Write, Print, If, Either, While, Return, Phrases, Empty, Then, FieldText, Val, Ptr, Item, Record, Root, Procedure}
-use Rattle.pst_notation.specs.Canonical.{line, listed, behind_comma, expr_text, phrase_text, phrases_text, field_text, parameter_text, local_text, item_text, canonical}
+use Rattle.pst_tree.specs.Syntax.{Phrase, New, Call, Write, Print, If, Either, While, Return, Phrases, Empty, Then, FieldText, Val, Ptr, Item, Record, Root, Procedure, ProgramText}
+use Rattle.pst_notation.specs.Canonical.{line, listed, behind_comma, expr_text, phrase_text, phrases_text, field_text, parameter_text, local_text, item_text, language_text, canonical}
 use Rattle.pst_notation.specs.Lines.{phrase_lineless, block_lineless, field_lineless, local_lineless, item_lineless, lineless}
 
 mutual
@@ -32,8 +32,8 @@ listed_same f text same [] = refl
 listed_same f text same (a ∷ l) = rw (same a, each_same f (behind_comma text) (λ b. ap (λ (t : List ℕ). codes ", " ++ t) (same b)) l) refl
 
 field_same : (f : FieldText) → field_text (field_lineless f) ≡ field_text f
-field_same (Val at x) = refl
-field_same (Ptr at x target) = refl
+field_same (Val at x n) = refl
+field_same (Ptr at x target n) = refl
 
 item_same : (i : Item) → item_text (item_lineless i) ≡ item_text i
 item_same (Record at x limit fields) =
@@ -42,6 +42,6 @@ item_same (Root at x kind) = refl
 item_same (Procedure p) =
     rw (listed_same local_lineless parameter_text (λ l. refl) p.parameters, each_same local_lineless local_text (λ l. refl) p.locals, block_same 2 p.body) refl
 
-pub canonical_lineless : (p : List Item) → canonical (lineless p) ≡ canonical p
+pub canonical_lineless : (p : ProgramText) → canonical (lineless p) ≡ canonical p
 unfolding canonical
-canonical_lineless p = each_same item_lineless item_text item_same p
+canonical_lineless p = ap (λ (t : List ℕ). language_text p.language ++ t) (each_same item_lineless item_text item_same p.items)

@@ -1,10 +1,10 @@
 -- The canonical text of a program: one way to write each.
-use Rattle.std.specs.Prelude.{ℕ, ℤ, ◌+◌, Bool, true, false, List, [], ◌∷◌, ◌++◌, replicate, codes, Option, Some, None}
+use Rattle.std.specs.Prelude.{ℕ, ℤ, ◌+◌, nat_eq, Bool, true, false, if◌then◌else◌, List, [], ◌∷◌, ◌++◌, replicate, codes, Option, Some, None}
 use Rattle.std.specs.List.{flat_map}
 use Rattle.std.specs.Fmt.{signed_decimal}
 use Rattle.pst_base.specs.declared.names.Op.{Op}
 use Rattle.pst_base.specs.declared.names.Op.TheVariants.{Add, Sub, Mul, Div, Rem, Equal, NotEqual, Less, LessEqual, Greater, GreaterEqual, And, Or}
-use Rattle.pst_tree.specs.Syntax.{Expr, Number, Null, Name, Parens, Field, Negate, Not, Binary, Phrase, New, Call, Write, Print, If, Either, While, Return, Phrases, Empty, Then, TypeWord, Int, Named, FieldText, Val, Ptr, LocalText, ProcedureText, Item, Record, Root, Procedure}
+use Rattle.pst_tree.specs.Syntax.{Expr, Number, Null, Name, Parens, Field, Indexed, Negate, Not, Binary, Phrase, New, Call, Write, Print, If, Either, While, Return, Phrases, Empty, Then, TypeWord, Int, Named, FieldText, Val, Ptr, LocalText, ProcedureText, Item, Record, Root, Procedure, ProgramText}
 
 -- ---- expressions
 
@@ -30,6 +30,7 @@ expr_text Null = codes "null"
 expr_text (Name x) = x
 expr_text (Parens e) = codes "(" ++ expr_text e ++ codes ")"
 expr_text (Field e x) = expr_text e ++ codes "." ++ x
+expr_text (Indexed e x i) = expr_text e ++ codes "." ++ x ++ codes "(" ++ expr_text i ++ codes ")"
 expr_text (Negate e) = codes "-" ++ expr_text e
 expr_text (Not e) = codes "not " ++ expr_text e
 expr_text (Binary op l r) = expr_text l ++ codes " " ++ op_text op ++ codes " " ++ expr_text r
@@ -90,10 +91,15 @@ type_text (Named t) = t
 abbrev pub typed_text : List ℕ → TypeWord → List ℕ
 typed_text x kind = x ++ codes ": " ++ type_text kind
 
+-- the number of elements of an array, behind the type of its field
+abbrev pub elements_text : Option ℤ → List ℕ
+elements_text None = []
+elements_text (Some n) = codes " * " ++ signed_decimal n
+
 -- a field, on the line of its record type, with a space behind it
 abbrev pub field_text : FieldText → List ℕ
-field_text (Val _ x) = codes "val " ++ x ++ codes ": int; "
-field_text (Ptr _ x t) = codes "ptr " ++ x ++ codes ": " ++ t ++ codes "; "
+field_text (Val _ x n) = codes "val " ++ x ++ codes ": int" ++ elements_text n ++ codes "; "
+field_text (Ptr _ x t n) = codes "ptr " ++ x ++ codes ": " ++ t ++ elements_text n ++ codes "; "
 
 abbrev pub parameter_text : LocalText → List ℕ
 parameter_text p = typed_text p.name p.kind
@@ -127,6 +133,10 @@ item_text (Record _ x limit fields) = record_text x limit fields
 item_text (Root _ x kind) = line 0 (codes "root " ++ typed_text x kind ++ codes ";")
 item_text (Procedure p) = procedure_text p
 
+-- the first line of a program of language 2; one of language 1 begins with its declarations
+abbrev pub language_text : ℕ → List ℕ
+language_text l = if nat_eq l 2 then line 0 (codes "language 2") else []
+
 -- the canonical text of a program
-unfoldable pub canonical : List Item → List ℕ
-canonical items = flat_map item_text items
+unfoldable pub canonical : ProgramText → List ℕ
+canonical p = language_text p.language ++ flat_map item_text p.items

@@ -1,6 +1,6 @@
 -- A program without its lines.
-use Rattle.std.specs.Prelude.{List, map}
-use Rattle.pst_tree.specs.Syntax.{Phrase, If, Either, While, Phrases, Empty, Then, FieldText, Val, Ptr, LocalText, Item, Record, Root, Procedure}
+use Rattle.std.specs.Prelude.{map}
+use Rattle.pst_tree.specs.Syntax.{Phrase, If, Either, While, Phrases, Empty, Then, FieldText, Val, Ptr, LocalText, Item, Record, Root, Procedure, ProgramText}
 
 -- each line is made 0
 abbrev mutual
@@ -15,8 +15,8 @@ abbrev mutual
   block_lineless (Then line s b) = Then 0 (phrase_lineless s) (block_lineless b)
 
 abbrev pub field_lineless : FieldText → FieldText
-field_lineless (Val line x) = Val 0 x
-field_lineless (Ptr line x target) = Ptr 0 x target
+field_lineless (Val line x n) = Val 0 x n
+field_lineless (Ptr line x target n) = Ptr 0 x target n
 
 abbrev pub local_lineless : LocalText → LocalText
 local_lineless l = record { line = 0; name = l.name; kind = l.kind }
@@ -35,5 +35,5 @@ item_lineless (Procedure p) = Procedure record {
 }
 
 -- a program without its lines
-abbrev pub lineless : List Item → List Item
-lineless p = map item_lineless p
+abbrev pub lineless : ProgramText → ProgramText
+lineless p = record { language = p.language; items = map item_lineless p.items }

@@ -11,7 +11,7 @@ use Rattle.pst_parse.specs.declared.lexeme.Sign.TheVariants as sign
 use Rattle.pst_parse.specs.declared.lexeme.Lead.{Lead}
 use Rattle.pst_parse.specs.declared.lexeme.Lead.TheVariants as lead
 use Rattle.pst_parse.specs.Lexemes.{Lexeme, Name, Number, Operator, Plain, Leading, Unknown}
-use Rattle.pst_parse.specs.Spelling.{Item, spelled_program}
+use Rattle.pst_parse.specs.Spelling.{Program, spelled_program}
 
 abbrev pub op_mark : Op → Mark
 op_mark op.Add = mark.Plus
@@ -71,5 +71,5 @@ abbrev pub words_of : List Lexeme → List Word
 words_of ts = map word_of ts
 
 -- the tokens of a program, lines apart
-abbrev pub program_words : List Item → List Word
+abbrev pub program_words : Program → List Word
 program_words p = words_of (spelled_program p [])

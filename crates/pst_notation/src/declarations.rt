@@ -3,8 +3,8 @@
 ghost use Rattle.std.specs.Prelude.{◌≡◌, ◌++◌, OnOk, IfOk, map, codes};
 ghost use Rattle.std.specs.Option.{option_map};
 ghost use Rattle.std.specs.List.{flat_map};
-ghost use Rattle.pst_tree.specs.View.{type_word_of, field_of, local_of, item_of, items_of, phrases_of};
-ghost use Rattle.pst_notation.specs.Canonical.{line, type_text, typed_text, field_text, parameter_text, local_text, gives_text, sort_text, head_text, record_text, item_text, canonical, listed, behind_comma, phrases_text};
+ghost use Rattle.pst_tree.specs.View.{type_word_of, field_of, local_of, item_of, text_of, phrases_of};
+ghost use Rattle.pst_notation.specs.Canonical.{line, type_text, typed_text, elements_text, field_text, parameter_text, local_text, gives_text, sort_text, head_text, record_text, item_text, language_text, canonical, listed, behind_comma, phrases_text};
 
 use crate::expressions::put_number;
 use crate::statements::{put_block, put_line};
@@ -31,26 +31,43 @@ fn put_typed(out: &mut Vec<u8>, name: &Text, kind: &TypeName) -> Result<(), NoMe
     put_type(out, kind)
 }
 
+/// Puts what stands behind the type of a field: the number of elements of an array, and the end of the field.
+fn put_field_end(out: &mut Vec<u8>, elements: Option<i64>) -> Result<(), NoMemory>
+    ensures { OnOk result (out.new.items ≡ out.old.items ++ (elements_text elements ++ codes "; ")) }
+{
+    if let Some(number) = elements {
+        out.extend_from_slice(b" * ")?;
+        put_number(out, number)?;
+    }
+    out.extend_from_slice(b"; ")
+}
+
 /// Puts a field.
 fn put_field(out: &mut Vec<u8>, field: &Field) -> Result<(), NoMemory>
     ensures { OnOk result (out.new.items ≡ out.old.items ++ field_text (field_of field.now)) }
 {
     match field {
-        Field::Val { line: _, name } => {
+        Field::Val {
+            line: _,
+            name,
+            elements,
+        } => {
             out.extend_from_slice(b"val ")?;
             out.extend_from_slice(name.as_slice())?;
-            out.extend_from_slice(b": int; ")
+            out.extend_from_slice(b": int")?;
+            put_field_end(out, *elements)
         }
         Field::Ptr {
             line: _,
             name,
             target,
+            elements,
         } => {
             out.extend_from_slice(b"ptr ")?;
             out.extend_from_slice(name.as_slice())?;
             out.extend_from_slice(b": ")?;
             out.extend_from_slice(target.as_slice())?;
-            out.extend_from_slice(b"; ")
+            put_field_end(out, *elements)
         }
     }
 }
@@ -227,13 +244,25 @@ fn put_declaration(out: &mut Vec<u8>, declaration: &Declaration) -> Result<(), N
     }
 }
 
-/// The canonical text of a program: each statement on a line, blocks indented by two spaces, one space where one is
-/// needed. Comments are not kept.
+/// Puts the line that a program of language 2 begins with.
+fn put_language(out: &mut Vec<u8>, language: u8) -> Result<(), NoMemory>
+    ensures { OnOk result (out.new.items ≡ out.old.items ++ language_text language) }
+{
+    if language == 2 {
+        out.extend_from_slice(b"language 2\n")
+    } else {
+        Ok(())
+    }
+}
+
+/// The canonical text of a program: the line `language 2` if it is of that language, each statement on a line, blocks
+/// indented by two spaces, one space where one is needed. Comments are not kept.
 #[tactic(auto, unfolding(crate::specs::Canonical::canonical))]
 pub fn print_program(alloc: Global, tree: &Tree) -> Result<Text, NoMemory>
-    ensures { IfOk result (λ text. text ≡ canonical (items_of tree.now)) }
+    ensures { IfOk result (λ text. text ≡ canonical (text_of tree.now)) }
 {
     let mut out = Vec::new(alloc);
+    put_language(&mut out, tree.language)?;
     for declaration in &tree.declarations.items {
         put_declaration(&mut out, declaration)?;
     }

@@ -56,6 +56,18 @@ pub fn put_expression(out: &mut Vec<u8>, e: &Expression) -> Result<(), NoMemory>
             out.extend_from_slice(b".")?;
             out.extend_from_slice(name.as_slice())?;
         }
+        Expression::Indexed {
+            object,
+            name,
+            index,
+        } => {
+            put_expression(out, object)?;
+            out.extend_from_slice(b".")?;
+            out.extend_from_slice(name.as_slice())?;
+            out.extend_from_slice(b"(")?;
+            put_expression(out, index)?;
+            out.extend_from_slice(b")")?;
+        }
         Expression::Negate(operand) => {
             out.extend_from_slice(b"-")?;
             put_expression(out, operand)?;

@@ -1,6 +1,6 @@
 //! Laws of the canonical text. No function here does anything: what it ensures is the law.
 
-ghost use Rattle.pst_tree.specs.View.{items_of};
+ghost use Rattle.pst_tree.specs.View.{text_of};
 ghost use Rattle.pst_notation.specs.Laws.{HasItsTokens, HasNoFault, ReadsBack, ReadsAsNoOther, DropsLines, KeepsTokens, KeepsTree};
 
 use pst_lex::Tokens;
@@ -10,11 +10,11 @@ use pst_tree::Tree;
 /// apart, and no fault, and is read as the tree, lines apart, and as no other. It does not depend on lines, so that
 /// printing what was read from it gives it again.
 pub fn canonical_text_reads_as_its_tree(tree: &Tree)
-    ensures tokens { HasItsTokens (items_of tree.now) }
-    ensures no_fault { HasNoFault (items_of tree.now) }
-    ensures program { ReadsBack (items_of tree.now) }
-    ensures no_other { ReadsAsNoOther (items_of tree.now) }
-    ensures no_lines { DropsLines (items_of tree.now) }
+    ensures tokens { HasItsTokens (text_of tree.now) }
+    ensures no_fault { HasNoFault (text_of tree.now) }
+    ensures program { ReadsBack (text_of tree.now) }
+    ensures no_other { ReadsAsNoOther (text_of tree.now) }
+    ensures no_lines { DropsLines (text_of tree.now) }
 {
     let _ = tree;
 }

@@ -14,7 +14,7 @@ use std::test::Fail;
 const SMALL: usize = 100_000;
 
 /// Programs, and their canonical texts.
-const PROGRAMS: [(&[u8], &[u8]); 6] = [
+const PROGRAMS: [(&[u8], &[u8]); 8] = [
     (b" # nothing\n", b""),
     (
         b"record N 2{val key:int;ptr next:N;}root first:N;query q(){print first.key+1;}",
@@ -35,6 +35,11 @@ const PROGRAMS: [(&[u8], &[u8]); 6] = [
     (
         b"query below(p: T) {\n  if p != null {\n    call below(p.left);\n    print p.key;\n    call below(p.right);\n  }\n}\n",
         b"query below(p: T) {\n  if p != null {\n    call below(p.left);\n    print p.key;\n    call below(p.right);\n  }\n}\n",
+    ),
+    (b"language # of arrays\n 2", b"language 2\n"),
+    (
+        b"language 2 record K 2{val n:int*2;ptr kid:K*4;val key:int;}root top:K;proc hang(i:int){top.kid(i+1).n ( 0 )=- top . kid(3).key;}",
+        b"language 2\nrecord K 2 { val n: int * 2; ptr kid: K * 4; val key: int; }\nroot top: K;\nproc hang(i: int) {\n  top.kid(i + 1).n(0) = -top.kid(3).key;\n}\n",
     ),
 ];
 
@@ -74,6 +79,7 @@ fn procedure_of(alloc: Global, statement: Statement) -> Result<Tree, NoMemory> {
         },
     };
     Ok(Tree {
+        language: 1,
         declarations: Declarations {
             items: vec![in alloc; procedure]?,
         },
