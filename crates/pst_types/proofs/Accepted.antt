@@ -1,10 +1,11 @@
 -- What is accepted is well typed.
-use Rattle.std.proofs.Common.{◌≡◌, ℕ, ◌+◌, ◌<◌, ◌≤◌, true, List, [], ◌∷◌, map, length, take, All, Option, Some, None, slice_get, get_or, unwrap_or, Result, Ok, Err, refl, sym, ap, subst, ◌∙◌, arith, suc, zero, length-append}
+use Rattle.std.proofs.Common.{◌≡◌, ℕ, ◌+◌, ◌<◌, ◌≤◌, true, List, [], ◌∷◌, map, length, take, All, replicate, ◌++◌, Option, Some, None, slice_get, get_or, unwrap_or, Result, Ok, Err, refl, sym, ap, subst, ◌∙◌, arith, suc, zero, length-append}
 use Rattle.std.specs.Option.{option_map}
 use Rattle.std.proofs.lemmas.Option.{slice_get_within}
 use Rattle.std.proofs.lemmas.List.{length-map}
 use Rattle.pst_base.specs.declared.names.TypeNo.{TypeNo}
 use Rattle.pst_base.specs.declared.shape.TypeShape.{TypeShape}
+use Rattle.pst_base.specs.declared.shape.TheConstants.{MOST_ROOTS, MOST_LIMIT, MOST_ELEMENTS}
 use Rattle.pst_base.specs.Shape as shape
 use Rattle.pst_tree.specs.Syntax as tree
 use Rattle.pst_tree.specs.Depth as depth
@@ -14,9 +15,9 @@ use Rattle.pst_program.specs.Procedures.{NamesDiffer}
 use Rattle.pst_types.specs.declared.fault.TypeFault.{TypeFault}
 use Rattle.pst_types.specs.declared.fault.TypeFault.TheVariants as fault
 use Rattle.pst_types.specs.Answers.{through}
-use Rattle.pst_types.specs.Names.{Member, Members, Scope, nothing_declared, Local, Setting, RecordType, Signature, named, kind_of, is_known}
+use Rattle.pst_types.specs.Names.{Member, Members, Scope, nothing_declared, Local, Setting, RecordType, Signature, named, elements_of, number_of, kind_of, is_known}
 use Rattle.pst_types.specs.Statements.{block}
-use Rattle.pst_types.specs.Declarations.{noted, with_target, targets_of, shape_of, variable, is_result_known, procedure, NamedProgram, declared, root_alone, checked}
+use Rattle.pst_types.specs.Declarations.{noted, with_targets, targets_of, shape_of, variable, is_result_known, procedure, NamedProgram, declared, root_alone, checked}
 use Rattle.std.specs.Prelude.{IfOk}
 use Rattle.pst_tree.specs.Depth.{IsShallow}
 use Rattle.pst_program.specs.View.{routines_of}
@@ -64,36 +65,42 @@ is_sound scope p g = record {
   types_have = λ t r e. has_shape scope p.shape g.shapes r g.is (entry_named scope 1 scope.types g.shapes t r g.entries e);
   root_is = root_type_is scope p.shape g.shapes g.is;
   root_laid = g.laid;
-  root_few = g.few_roots;
+  root_few = omega (arith, g.one_each, g.few_roots);
   root_known = g.known;
 }
 
--- one field before others
-one_target : (scope : Scope) (types : List TypeShape) (kind : tree.TypeWord) (rest : List TypeNo) → Sound scope types → is_known scope kind ≡ true → ((k : ℕ) (d : TypeNo) → k < length rest → shape.IsTarget types (get_or rest k d)) →
-    (k : ℕ) (d : TypeNo) → k < length (with_target scope kind rest) → shape.IsTarget types (get_or (with_target scope kind rest) k d)
-one_target scope types tree.Int rest sound known go k d below = go k d below
-one_target scope types (tree.Named t) rest sound known go zero d below = known_target scope types t sound known
-one_target scope types (tree.Named t) rest sound known go (suc k) d below = let inside : k < length rest = omega arith in go k d inside
+-- one type, so many times, before others
+repeated : (types : List TypeShape) (ty : TypeNo) (n : ℕ) (rest : List TypeNo) → shape.IsTarget types ty → ((k : ℕ) (d : TypeNo) → k < length rest → shape.IsTarget types (get_or rest k d)) →
+    (k : ℕ) (d : TypeNo) → k < length (replicate n ty ++ rest) → shape.IsTarget types (get_or (replicate n ty ++ rest) k d)
+repeated types ty zero rest here go k d below = go k d below
+repeated types ty (suc n) rest here go zero d below = here
+repeated types ty (suc n) rest here go (suc k) d below = let inside : k < length (replicate n ty ++ rest) = omega arith in repeated types ty n rest here go k d inside
 
--- the types of pointer fields are entries of the shape
+-- the elements of one field before others
+field_targets : (scope : Scope) (types : List TypeShape) (kind : tree.TypeWord) (n : ℕ) (rest : List TypeNo) → Sound scope types → is_known scope kind ≡ true → ((k : ℕ) (d : TypeNo) → k < length rest → shape.IsTarget types (get_or rest k d)) →
+    (k : ℕ) (d : TypeNo) → k < length (with_targets scope kind n rest) → shape.IsTarget types (get_or (with_targets scope kind n rest) k d)
+field_targets scope types tree.Int n rest sound known go k d below = go k d below
+field_targets scope types (tree.Named t) n rest sound known go k d below = repeated types (number_of scope t) n rest (known_target scope types t sound known) go k d below
+
+-- the types of pointer elements are entries of the shape
 targets_fit : (scope : Scope) (types : List TypeShape) (ms : List (List ℕ × Member)) → Sound scope types → AllKnown scope ms → (k : ℕ) (d : TypeNo) → k < length (targets_of scope ms) → shape.IsTarget types (get_or (targets_of scope ms) k d)
 targets_fit scope types [] sound known k d below = absurd (omega arith)
-targets_fit scope types (m ∷ ms) sound known k d below = one_target scope types m.1.kind (targets_of scope ms) sound known.0 (targets_fit scope types ms sound known.1) k d below
+targets_fit scope types (m ∷ ms) sound known k d below = field_targets scope types m.1.kind (elements_of m.1.elements) (targets_of scope ms) sound known.0 (targets_fit scope types ms sound known.1) k d below
 
 record FieldsFit (types : List TypeShape) (s : TypeShape) (most : ℕ) : Type 0 where
-  pub count : shape.field_count s ≤ most
+  pub count : shape.element_count s ≤ most
   pub targets : All (shape.IsTarget types) s.targets
 
-fields_fit : (scope : Scope) (types : List TypeShape) (limit most : ℕ) (m : Members) → Sound scope types → IsLaid scope m → AllKnown scope m.list → length m.list ≤ most → FieldsFit types (shape_of scope limit m) most
+fields_fit : (scope : Scope) (types : List TypeShape) (limit most : ℕ) (m : Members) → Sound scope types → IsLaid scope m → AllKnown scope m.list → m.values + m.pointers ≤ most → FieldsFit types (shape_of scope limit m) most
 fields_fit scope types limit most m sound laid known few = record {
-  count = omega (arith, laid.count, laid.pointers, few);
+  count = omega (arith, laid.pointers, few);
   targets = targets_fit scope types m.list sound known;
 }
 
 -- what holds of each entry of the shape but the root's
 record Fine (types : List TypeShape) (s : TypeShape) : Type 0 where
-  pub limit : (1 ≤ s.limit) × (s.limit ≤ 16)
-  pub fields : FieldsFit types s 16
+  pub limit : (1 ≤ s.limit) × (s.limit ≤ MOST_LIMIT)
+  pub fields : FieldsFit types s MOST_ELEMENTS
 
 fine_entry : (scope : Scope) (p : NamedProgram) (g : Together scope scope p) (ty : TypeNo) → 0 < ty.0 → ty.0 < length p.shape → Fine p.shape (shape.type_at p.shape ty)
 fine_entry scope p g ty positive below = by_number ty.0 refl
@@ -107,12 +114,14 @@ fine_entry scope p g ty positive below = by_number ty.0 refl
         let type_here = entry_type (shape_of scope 1 scope.roots) g.shapes p.shape ty i e.1.0 g.is is e.1.1.0 ∙ e.1.1.1.is in
         let fine : Fine p.shape (shape_of scope e.1.1.1.limit e.0.members) = record {
           limit = (e.1.1.1.least, e.1.1.1.most);
-          fields = fields_fit scope p.shape e.1.1.1.limit 16 e.0.members (is_sound scope p g) e.1.1.1.laid e.1.1.1.known e.1.1.1.few;
+          fields = fields_fit scope p.shape e.1.1.1.limit MOST_ELEMENTS e.0.members (is_sound scope p g) e.1.1.1.laid e.1.1.1.known e.1.1.1.few;
         } in
         subst (λ (s : TypeShape). Fine p.shape s) (sym type_here) fine
 
-root_fits : (scope : Scope) (p : NamedProgram) (g : Together scope scope p) → FieldsFit p.shape (shape.type_at p.shape shape.root_type) 32
-root_fits scope p g = subst (λ (s : TypeShape). FieldsFit p.shape s 32) (sym (root_type_is scope p.shape g.shapes g.is)) (fields_fit scope p.shape 1 32 scope.roots (is_sound scope p g) g.laid g.known g.few_roots)
+root_fits : (scope : Scope) (p : NamedProgram) (g : Together scope scope p) → FieldsFit p.shape (shape.type_at p.shape shape.root_type) MOST_ROOTS
+root_fits scope p g =
+    let sound = is_sound scope p g in
+    subst (λ (s : TypeShape). FieldsFit p.shape s MOST_ROOTS) (sym (root_type_is scope p.shape g.shapes g.is)) (fields_fit scope p.shape 1 MOST_ROOTS scope.roots sound g.laid g.known sound.root_few)
 
 all_fit : (scope : Scope) (p : NamedProgram) (g : Together scope scope p) (ty : TypeNo) → ty.0 < length p.shape → All (shape.IsTarget p.shape) (shape.type_at p.shape ty).targets
 all_fit scope p g ty below = by_number ty.0 refl
@@ -134,14 +143,14 @@ is_valid scope p g =
       root_limit = ap (λ (s : TypeShape). s.limit) (root_type_is scope p.shape g.shapes g.is);
       root_fields = (root_fits scope p g).count;
       limits = λ ty positive below. (fine_entry scope p g ty positive below).limit;
-      fields = λ ty positive below. (fine_entry scope p g ty positive below).fields.count;
+      elements = λ ty positive below. (fine_entry scope p g ty positive below).fields.count;
       targets = all_fit scope p g;
     }
 
 -- ---- procedures
 
 -- a procedure that was judged
-record Made (scope : Scope) (text : tree.ProcedureText) (q : program.Procedure) : Type 0 where
+pub record Made (scope : Scope) (text : tree.ProcedureText) (q : program.Procedure) : Type 0 where
   pub parameters : List (List ℕ × Local)
   pub variables : List (List ℕ × Local)
   pub body : program.Actions
@@ -151,7 +160,7 @@ record Made (scope : Scope) (text : tree.ProcedureText) (q : program.Procedure) 
   pub judged : block (record { scope = scope; query = text.query; result = text.result; locals = variables }) text.body ≡ Ok body
   pub is : q ≡ record { name = text.name; query = text.query; arguments = length parameters; result = option_map (kind_of scope) text.result; kinds = map (λ (v : List ℕ × Local). kind_of scope v.1.kind) variables; body = body }
 
-made : (scope : Scope) (text : tree.ProcedureText) (q : program.Procedure) → procedure scope text ≡ Ok q → Made scope text q
+pub made : (scope : Scope) (text : tree.ProcedureText) (q : program.Procedure) → procedure scope text ≡ Ok q → Made scope text q
 made scope text q e =
     let ps = first_passed (through (variable scope 8) [] text.parameters) _ q e in
     let known = passed (is_result_known scope text.result) (fault.Unknown text.line) _ q ps.1.1 in

@@ -9,11 +9,11 @@ use Rattle.pst_program.specs.Syntax as program
 use Rattle.pst_program.specs.Typed as typed
 use Rattle.pst_program.specs.Procedures.{MayWrite}
 use Rattle.pst_types.specs.declared.fault.TypeFault.TheVariants.{Mismatch}
-use Rattle.pst_types.specs.Names.{Scope, Setting, Signature, Variable, IsLocal, IsRoot, named, kind_of, is_known, field_named, variable}
-use Rattle.pst_types.specs.Expressions.{Int, Truth, same_sort, sort_of, object, judged, fitted, of_sort}
-use Rattle.pst_types.specs.Statements.{assigned, stored, written, made, arguments, received, called, returned, statement, block}
+use Rattle.pst_types.specs.Names.{Scope, Setting, Signature, Variable, IsLocal, IsRoot, named, kind_of, is_known, variable}
+use Rattle.pst_types.specs.Expressions.{Int, Truth, same_sort, sort_of, object, plain_field, array_field, judged, fitted, of_sort}
+use Rattle.pst_types.specs.Statements.{assigned, stored, element_stored, written, made, arguments, received, called, returned, statement, block}
 use Rattle.pst_types.proofs.Few.{passed, first_passed, same_ok}
-use Rattle.pst_types.proofs.Sorts.{Sound, found_passed, of_ok, number_is, sort_for_kind, same_sort_is, LocalsHave, GoodVariable, good_object, good_variable, good_field, good_judged, good_fitted, good_of_sort}
+use Rattle.pst_types.proofs.Sorts.{Sound, found_passed, of_ok, number_is, sort_for_kind, same_sort_is, LocalsHave, GoodVariable, good_object, good_variable, good_plain, good_array, good_judged, good_fitted, good_of_sort}
 
 -- each parameter is of a declared type
 abbrev pub KnownEach : Scope → List tree.LocalText → Type 0
@@ -81,15 +81,32 @@ module _ (r : program.Routines) (p : program.Procedure) (setting : Setting) (sta
   good_stored line o f e a is =
       let j = first_passed (judged setting line o) _ a is in
       let b = first_passed (object line j.0) _ a j.1.1 in
-      let s = found_passed (field_named setting.scope b.0.type f) _ _ a b.1.1 in
+      let s = first_passed (plain_field setting line b.0.type f) _ a b.1.1 in
       let w = passed (not setting.query) _ _ a s.1.1 in
       let q = first_passed (fitted setting line s.0.kind e) _ a w.1 in
       let g = good_object r.shape setting p.kinds line j.0 b.0 (good_judged r.shape setting p.kinds stands.sound stands.have line o j.0 j.1.0) b.1.0 in
-      let at = good_field r.shape setting p.kinds stands.sound b.0.type f s.0 s.1.0 in
+      let at = good_plain r.shape setting p.kinds stands.sound line b.0.type f s.0 s.1.0 in
       of_ok (λ (x : program.Action). typed.IsTypedAction r p x) (program.Store b.0.pointer s.0.slot q.0) a (
         may_write w.0,
         fits_is _ _ (kind_of setting.scope s.0.kind) (ap (λ x. typed.field_of r.shape x s.0.slot) g.is ∙ at.0)
             (good_fitted r.shape setting p.kinds stands.sound stands.have line s.0.kind e q.0 at.1 q.1.0),
+      ) q.1.1
+
+  good_element_stored : (line : ℕ) (o : tree.Expr) (f : List ℕ) (i e : tree.Expr) (a : program.Action) → element_stored setting line o f i e ≡ Ok a → typed.IsTypedAction r p a
+  good_element_stored line o f i e a is =
+      let j = first_passed (judged setting line o) _ a is in
+      let b = first_passed (object line j.0) _ a j.1.1 in
+      let s = first_passed (array_field setting line b.0.type f) _ a b.1.1 in
+      let w = passed (not setting.query) _ _ a s.1.1 in
+      let k = first_passed (of_sort setting line Int i) _ a w.1 in
+      let q = first_passed (fitted setting line s.0.kind e) _ a k.1.1 in
+      let g = good_object r.shape setting p.kinds line j.0 b.0 (good_judged r.shape setting p.kinds stands.sound stands.have line o j.0 j.1.0) b.1.0 in
+      let at = good_array r.shape setting p.kinds stands.sound line b.0.type f s.0 s.1.0 in
+      of_ok (λ (x : program.Action). typed.IsTypedAction r p x) (program.StoreIndexed b.0.pointer s.0.slot s.0.elements k.0 q.0) a (
+        may_write w.0,
+        good_of_sort r.shape setting p.kinds stands.sound stands.have line Int i k.0 k.1.0,
+        fits_is _ _ (kind_of setting.scope s.0.kind) (ap (λ x. typed.array_of r.shape x s.0.slot s.0.elements) g.is ∙ at.is)
+            (good_fitted r.shape setting p.kinds stands.sound stands.have line s.0.kind e q.0 at.known q.1.0),
       ) q.1.1
 
   good_written : (line : ℕ) (to e : tree.Expr) (a : program.Action) → written setting line to e ≡ Ok a → typed.IsTypedAction r p a
@@ -97,6 +114,7 @@ module _ (r : program.Routines) (p : program.Procedure) (setting : Setting) (sta
       let v = found_passed (variable setting x) _ _ a is in
       good_assigned line v.0 e a (good_variable r.shape setting p.kinds stands.sound x v.0 stands.have v.1.0) v.1.1
   good_written line (tree.Field o f) e a is = good_stored line o f e a is
+  good_written line (tree.Indexed o f i) e a is = good_element_stored line o f i e a is
   good_written line (tree.Number n) e a is = cc
   good_written line tree.Null e a is = cc
   good_written line (tree.Parens b) e a is = cc

@@ -7,9 +7,9 @@ use Rattle.pst_tree.specs.Syntax as tree
 use Rattle.pst_tree.specs.Depth.{height, greatest, phrase_height, phrases_height, phrase_nesting, phrases_nesting}
 use Rattle.pst_program.specs.Syntax as program
 use Rattle.pst_program.specs.Typed as typed
-use Rattle.pst_types.specs.Names.{Setting, Signature, Variable, IsLocal, IsRoot, named, number_of, field_named, variable}
-use Rattle.pst_types.specs.Expressions.{Sort, Int, Truth, Pointer, same_sort, sort_of, Judged, Bare, Known, in_parens, null_of, operand, Object, object, named_value, loaded, operation, null_beside, can_equal, equality, combined, judged, fits, fitted, of_sort}
-use Rattle.pst_types.specs.Statements.{assigned, stored, written, made, arguments, received, called, returned, statement, block}
+use Rattle.pst_types.specs.Names.{Setting, Signature, Variable, IsLocal, IsRoot, named, number_of, variable}
+use Rattle.pst_types.specs.Expressions.{Sort, Int, Truth, Pointer, same_sort, sort_of, Judged, Bare, Known, in_parens, null_of, operand, Object, object, Array, plain_field, array_field, named_value, loaded, at_index, element_loaded, operation, null_beside, can_equal, equality, combined, judged, fits, fitted, of_sort}
+use Rattle.pst_types.specs.Statements.{assigned, stored, element_stored, written, made, arguments, received, called, returned, statement, block}
 use Rattle.pst_types.proofs.Few.{passed, first_passed}
 use Rattle.pst_types.proofs.Sorts.{found_passed, of_ok}
 
@@ -33,6 +33,7 @@ module _ (setting : Setting) where
   null_depth ty tree.Null = omega arith
   null_depth ty (tree.Name x) = omega arith
   null_depth ty (tree.Field e f) = omega arith
+  null_depth ty (tree.Indexed e f i) = omega arith
   null_depth ty (tree.Negate e) = omega arith
   null_depth ty (tree.Not e) = omega arith
   null_depth ty (tree.Binary op a b) = omega arith
@@ -91,6 +92,12 @@ module _ (setting : Setting) where
   combined_depth line And a b l r j wl wr e = operation_depth line (height a) (height b) And Truth Truth l r j wl wr e
   combined_depth line Or a b l r j wl wr e = operation_depth line (height a) (height b) Or Truth Truth l r j wl wr e
 
+  element_depth : (line m n : ℕ) (o : Object) (a : Array) (i j : Judged) → typed.depth o.pointer ≤ m + 1 → Within n i → element_loaded setting line o a i ≡ Ok j → Within (suc (max m n)) j
+  element_depth line m n o a i j d w e =
+      let v = first_passed (operand line Int i) _ j e in
+      let k = operand_depth line n Int i v.0 w v.1.0 in
+      of_ok (λ (x : Judged). Within (suc (max m n)) x) (at_index setting o a v.0) j (omega arith) v.1.1
+
   judged_depth : (line : ℕ) (e : tree.Expr) (j : Judged) → judged setting line e ≡ Ok j → Within (height e) j
   judged_depth line (tree.Number n) j e = of_ok (λ (x : Judged). Within 0 x) (Known (program.Number n) Int) j (omega arith) e
   judged_depth line tree.Null j e = of_ok (λ (x : Judged). Within 0 x) Bare j tt e
@@ -103,9 +110,16 @@ module _ (setting : Setting) where
   judged_depth line (tree.Field inner f) j e =
       let p = first_passed (judged setting line inner) _ j e in
       let o = first_passed (object line p.0) _ j p.1.1 in
-      let s = found_passed (field_named setting.scope o.0.type f) _ _ j o.1.1 in
+      let s = first_passed (plain_field setting line o.0.type f) _ j o.1.1 in
       let d = object_depth line (height inner) p.0 o.0 (judged_depth line inner p.0 p.1.0) o.1.0 in
       of_ok (λ (y : Judged). Within (suc (height inner)) y) (loaded setting o.0 s.0) j (omega arith) s.1.1
+  judged_depth line (tree.Indexed inner f index) j e =
+      let p = first_passed (judged setting line inner) _ j e in
+      let o = first_passed (object line p.0) _ j p.1.1 in
+      let a = first_passed (array_field setting line o.0.type f) _ j o.1.1 in
+      let i = first_passed (judged setting line index) _ j a.1.1 in
+      let d = object_depth line (height inner) p.0 o.0 (judged_depth line inner p.0 p.1.0) o.1.0 in
+      element_depth line (height inner) (height index) o.0 a.0 i.0 j d (judged_depth line index i.0 i.1.0) i.1.1
   judged_depth line (tree.Negate inner) j e =
       let p = first_passed (judged setting line inner) _ j e in
       let v = first_passed (operand line Int p.0) _ j p.1.1 in
@@ -157,12 +171,25 @@ module _ (setting : Setting) where
   stored_depth line o f e a is =
       let j = first_passed (judged setting line o) _ a is in
       let b = first_passed (object line j.0) _ a j.1.1 in
-      let s = found_passed (field_named setting.scope b.0.type f) _ _ a b.1.1 in
+      let s = first_passed (plain_field setting line b.0.type f) _ a b.1.1 in
       let w = passed (not setting.query) _ _ a s.1.1 in
       let q = first_passed (fitted setting line s.0.kind e) _ a w.1 in
       let d = object_depth line (height o) j.0 b.0 (judged_depth line o j.0 j.1.0) b.1.0 in
       let c = fitted_depth line s.0.kind e q.0 q.1.0 in
       of_ok (λ (x : program.Action). Shallow (max (suc (height o)) (height e)) 0 x) (program.Store b.0.pointer s.0.slot q.0) a (record { depth = omega arith; nesting = omega arith }) q.1.1
+
+  element_stored_depth : (line : ℕ) (o : tree.Expr) (f : List ℕ) (i e : tree.Expr) (a : program.Action) → element_stored setting line o f i e ≡ Ok a → Shallow (max (suc (max (height o) (height i))) (height e)) 0 a
+  element_stored_depth line o f i e a is =
+      let j = first_passed (judged setting line o) _ a is in
+      let b = first_passed (object line j.0) _ a j.1.1 in
+      let s = first_passed (array_field setting line b.0.type f) _ a b.1.1 in
+      let w = passed (not setting.query) _ _ a s.1.1 in
+      let k = first_passed (of_sort setting line Int i) _ a w.1 in
+      let q = first_passed (fitted setting line s.0.kind e) _ a k.1.1 in
+      let d = object_depth line (height o) j.0 b.0 (judged_depth line o j.0 j.1.0) b.1.0 in
+      let h = of_sort_depth line Int i k.0 k.1.0 in
+      let c = fitted_depth line s.0.kind e q.0 q.1.0 in
+      of_ok (λ (x : program.Action). Shallow (max (suc (max (height o) (height i))) (height e)) 0 x) (program.StoreIndexed b.0.pointer s.0.slot s.0.elements k.0 q.0) a (record { depth = omega arith; nesting = omega arith }) q.1.1
 
   higher : (m n k : ℕ) (a : program.Action) → m ≤ n → Shallow m k a → Shallow n k a
   higher m n k a up s = let d = s.depth in record { depth = omega arith; nesting = s.nesting }
@@ -172,6 +199,7 @@ module _ (setting : Setting) where
       let v = found_passed (variable setting x) _ _ a is in
       higher (height e) (max 0 (height e)) 0 a (omega arith) (assigned_depth line v.0 e a v.1.1)
   written_depth line (tree.Field o f) e a is = stored_depth line o f e a is
+  written_depth line (tree.Indexed o f i) e a is = element_stored_depth line o f i e a is
   written_depth line (tree.Number n) e a is = cc
   written_depth line tree.Null e a is = cc
   written_depth line (tree.Parens b) e a is = cc

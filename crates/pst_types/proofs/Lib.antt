@@ -12,3 +12,4 @@ pub mod Deep
 pub mod Locals
 pub mod Whole
 pub mod Accepted
+pub mod Plain

@@ -1,5 +1,5 @@
 -- Expressions that are accepted are well typed.
-use Rattle.std.proofs.Common.{◌≡◌, ℕ, ◌<◌, ◌≤◌, Bool, true, false, ◌&&◌, is_some, nat_lt, nat_eq, List, length, Option, Some, None, slice_get, Result, Ok, unwrap_or, refl, sym, ap, subst, ◌∙◌, arith, eq-eqb}
+use Rattle.std.proofs.Common.{◌≡◌, ℕ, ◌+◌, ◌<◌, ◌≤◌, true, not, ◌&&◌, is_some, nat_lt, List, length, Option, Some, None, slice_get, Result, Ok, unwrap_or, refl, sym, ap, subst, ◌∙◌, arith}
 use Rattle.std.specs.Option.{option_map, option_and_then, option_eq}
 use Rattle.std.proofs.lemmas.Bool.{lt-ltb}
 use Rattle.std.proofs.lemmas.Slice.Eq.{bytes_eq-Decides}
@@ -9,6 +9,7 @@ use Rattle.pst_base.specs.declared.names.TypeNo.{TypeNo}
 use Rattle.pst_base.specs.declared.names.Kind.{Kind}
 use Rattle.pst_base.specs.declared.names.Kind.TheVariants as kinds
 use Rattle.pst_base.specs.declared.shape.TypeShape.{TypeShape}
+use Rattle.pst_base.specs.declared.shape.TheConstants.{MOST_ROOTS}
 use Rattle.pst_base.specs.Shape as shape
 use Rattle.pst_tree.specs.Syntax as tree
 use Rattle.pst_program.specs.Syntax as program
@@ -18,9 +19,9 @@ use Rattle.pst_types.specs.declared.fault.TypeFault.{TypeFault}
 use Rattle.pst_types.specs.Answers.{found}
 use Rattle.pst_types.specs.Names.{Scope, Slot, Local, Setting, RecordType, Variable, IsLocal, IsRoot, named, is_named, slot_in, number_of, kind_of, is_known, field_named, local_or, variable}
 use Rattle.pst_types.specs.Declarations.{shape_of}
-use Rattle.pst_types.specs.Expressions.{Sort, Int, Truth, Pointer, same_sort, sort_of, Judged, Bare, Known, in_parens, null_of, operand, Object, object, named_value, loaded, operation, null_beside, can_equal, equality, combined, judged, fits, fitted, of_sort}
+use Rattle.pst_types.specs.Expressions.{Sort, Int, Truth, Pointer, same_sort, sort_of, Judged, Bare, Known, in_parens, null_of, operand, Object, object, Array, plain_field, array_field, named_value, loaded, field_loaded, at_index, element_loaded, operation, null_beside, can_equal, equality, combined, judged, fits, fitted, of_sort}
 use Rattle.pst_types.proofs.Few.{passed, first_passed, same_ok}
-use Rattle.pst_types.proofs.Laid.{IsLaid, AllKnown, slot_fits, slot_known}
+use Rattle.pst_types.proofs.Laid.{IsLaid, HasFew, AllKnown, same_kind_refl, slot_fits, array_fits, slot_known}
 
 -- ---- checks that were passed
 
@@ -39,10 +40,6 @@ bound_some g (Some a) b e = (a, (refl, e))
 pub of_ok : {A : Type 0} (P : A → Type 0) (a b : A) → P a → ◌≡◌ {A = Result A TypeFault} (Ok a) (Ok b) → P b
 of_ok P a b p e = subst P (same_ok a b e) p
 
-pub both_true : (a b : Bool) → (a && b) ≡ true → (a ≡ true) × (b ≡ true)
-both_true true b e = (refl, e)
-both_true false b e = cc
-
 -- ---- the declared names and the shape
 
 -- a record type is an entry of the shape, with its fields
@@ -52,14 +49,14 @@ pub record HasShape (scope : Scope) (types : List TypeShape) (r : RecordType) : 
   pub limit : ℕ
   pub is : shape.type_at types r.number ≡ shape_of scope limit r.members
   pub laid : IsLaid scope r.members
-  pub few : length r.members.list ≤ 16
+  pub few : HasFew r.members
   pub known : AllKnown scope r.members.list
 
 pub record Sound (scope : Scope) (types : List TypeShape) : Type 0 where
   pub types_have : (t : List ℕ) (r : RecordType) → named t scope.types ≡ Some r → HasShape scope types r
   pub root_is : shape.type_at types shape.root_type ≡ shape_of scope 1 scope.roots
   pub root_laid : IsLaid scope scope.roots
-  pub root_few : length scope.roots.list ≤ 32
+  pub root_few : scope.roots.values + scope.roots.pointers ≤ MOST_ROOTS
   pub root_known : AllKnown scope scope.roots.list
 
 pub number_is : (scope : Scope) (t : List ℕ) (r : RecordType) → named t scope.types ≡ Some r → number_of scope t ≡ r.number
@@ -75,13 +72,6 @@ both_below : (n m : ℕ) → 0 < n → n < m → (nat_lt 0 n && nat_lt n m) ≡ 
 both_below n m p q = ap (λ b. b && nat_lt n m) (lt-ltb 0 n p) ∙ lt-ltb n m q
 
 -- ---- kinds
-
-nat_same : (n : ℕ) → nat_eq n n ≡ true
-nat_same n = eq-eqb n n refl
-
-pub same_kind_refl : (k : Kind) → typed.same_kind k k ≡ true
-same_kind_refl kinds.Int = refl
-same_kind_refl (kinds.Pointer ty) = nat_same ty.0
 
 -- what a sort is, where types have numbers
 abbrev pub sort_for : Scope → Sort → typed.Sort
@@ -159,6 +149,7 @@ module _ (types : List TypeShape) (setting : Setting) (ks : List Kind) where
   good_null ty tree.Null t = ap (λ b. typed.given b (typed.Of (kinds.Pointer ty))) t
   good_null ty (tree.Name x) t = ap (λ b. typed.given b (typed.Of (kinds.Pointer ty))) t
   good_null ty (tree.Field e f) t = ap (λ b. typed.given b (typed.Of (kinds.Pointer ty))) t
+  good_null ty (tree.Indexed e f i) t = ap (λ b. typed.given b (typed.Of (kinds.Pointer ty))) t
   good_null ty (tree.Negate e) t = ap (λ b. typed.given b (typed.Of (kinds.Pointer ty))) t
   good_null ty (tree.Not e) t = ap (λ b. typed.given b (typed.Of (kinds.Pointer ty))) t
   good_null ty (tree.Binary op a b) t = ap (λ b. typed.given b (typed.Of (kinds.Pointer ty))) t
@@ -187,30 +178,68 @@ module _ (types : List TypeShape) (setting : Setting) (ks : List Kind) where
         by_parts (Some l) r is_l is_r e = let same : IsLocal l ≡ v = cc in subst (λ (w : Variable). GoodVariable w) same (have x l is_l)
         by_parts None (Some s) is_l is_r e =
             let same : IsRoot s ≡ v = cc in
-            let few : length setting.scope.roots.list < 100 = omega (arith, sound.root_few) in
+            let few : HasFew setting.scope.roots = omega (arith, sound.root_few) in
             let at : typed.root_kind types s.slot ≡ Some (kind_of setting.scope s.kind) = ap (λ t. shape.field_kind t s.slot) sound.root_is ∙ slot_fits setting.scope setting.scope.roots 1 x s sound.root_laid few is_r in
             subst (λ (w : Variable). GoodVariable w) same (at, slot_known setting.scope setting.scope.roots x s sound.root_known is_r)
         by_parts None None is_l is_r e = cc
 
     -- a field of a declared type
-    pub good_field : (t f : List ℕ) (s : Slot) → field_named setting.scope t f ≡ Some s → (shape.field_kind (shape.type_at types (number_of setting.scope t)) s.slot ≡ Some (kind_of setting.scope s.kind)) × (is_known setting.scope s.kind ≡ true)
+    good_field : (t f : List ℕ) (s : Slot) → field_named setting.scope t f ≡ Some s → (shape.field_kind (shape.type_at types (number_of setting.scope t)) s.slot ≡ Some (kind_of setting.scope s.kind)) × (is_known setting.scope s.kind ≡ true)
     good_field t f s e =
         let p = bound_some (λ (r : RecordType). slot_in r.members f) (named t setting.scope.types) s e in
-        let h = sound.types_have t p.0 p.1.0 in
-        let few : length p.0.members.list < 100 = omega (arith, h.few) in (
-          ap (λ n. shape.field_kind (shape.type_at types n) s.slot) (number_is setting.scope t p.0 p.1.0) ∙ ap (λ u. shape.field_kind u s.slot) h.is ∙ slot_fits setting.scope p.0.members h.limit f s h.laid few p.1.1,
+        let h = sound.types_have t p.0 p.1.0 in (
+          ap (λ n. shape.field_kind (shape.type_at types n) s.slot) (number_is setting.scope t p.0 p.1.0) ∙ ap (λ u. shape.field_kind u s.slot) h.is ∙ slot_fits setting.scope p.0.members h.limit f s h.laid h.few p.1.1,
           slot_known setting.scope p.0.members f s h.known p.1.1,
         )
 
-    good_loaded : (o : Object) (f : List ℕ) (s : Slot) → GoodObject o → field_named setting.scope o.type f ≡ Some s → GoodJudged (loaded setting o s)
-    good_loaded o f s g e =
-        let k = kind_of setting.scope s.kind in
-        let q = good_field o.type f s e in
+    pub good_plain : (line : ℕ) (t f : List ℕ) (s : Slot) → plain_field setting line t f ≡ Ok s → (shape.field_kind (shape.type_at types (number_of setting.scope t)) s.slot ≡ Some (kind_of setting.scope s.kind)) × (is_known setting.scope s.kind ≡ true)
+    good_plain line t f s e =
+        let p = found_passed (field_named setting.scope t f) _ _ s e in
+        let q = passed (not (is_some p.0.elements)) _ _ s p.1.1 in
+        good_field t f s (p.1.0 ∙ ap Some (same_ok p.0 s q.1))
+
+    -- an array of a declared type
+    pub record GoodArray (t : List ℕ) (a : Array) : Type 0 where
+      pub is : typed.array_kind (shape.type_at types (number_of setting.scope t)) a.slot a.elements ≡ Some (kind_of setting.scope a.kind)
+      pub known : is_known setting.scope a.kind ≡ true
+
+    array_here : (t f : List ℕ) (s : Slot) (n : ℕ) → field_named setting.scope t f ≡ Some s → s.elements ≡ Some n → GoodArray t (record { slot = s.slot; elements = n; kind = s.kind })
+    array_here t f s n e many =
+        let p = bound_some (λ (r : RecordType). slot_in r.members f) (named t setting.scope.types) s e in
+        let h = sound.types_have t p.0 p.1.0 in
         record {
-          is = ap (λ x. typed.given (option_eq typed.same_kind (typed.field_of types x s.slot) (Some k)) (typed.Of k)) g.is
-              ∙ ap (λ x. typed.given (option_eq typed.same_kind x (Some k)) (typed.Of k)) q.0 ∙ ap (λ b. typed.given b (typed.Of k)) (same_kind_refl k) ∙ ap Some (sym (sort_for_kind setting.scope s.kind));
-          known = known_sort setting.scope s.kind q.1;
+          is = ap (λ i. typed.array_kind (shape.type_at types i) s.slot n) (number_is setting.scope t p.0 p.1.0) ∙ ap (λ u. typed.array_kind u s.slot n) h.is ∙ array_fits setting.scope p.0.members h.limit f s n h.laid h.few p.1.1 many;
+          known = slot_known setting.scope p.0.members f s h.known p.1.1;
         }
+
+    pub good_array : (line : ℕ) (t f : List ℕ) (a : Array) → array_field setting line t f ≡ Ok a → GoodArray t a
+    good_array line t f a e =
+        let p = found_passed (field_named setting.scope t f) _ _ a e in
+        let n = found_passed p.0.elements _ _ a p.1.1 in
+        of_ok (λ (x : Array). GoodArray t x) (record { slot = p.0.slot; elements = n.0; kind = p.0.kind }) a (array_here t f p.0 n.0 p.1.0 n.1.0) n.1.1
+
+    good_loaded : (line : ℕ) (o : Object) (f : List ℕ) (j : Judged) → GoodObject o → field_loaded setting line o f ≡ Ok j → GoodJudged j
+    good_loaded line o f j g e =
+        let s = first_passed (plain_field setting line o.type f) _ j e in
+        let k = kind_of setting.scope s.0.kind in
+        let q = good_plain line o.type f s.0 s.1.0 in
+        of_ok (λ (x : Judged). GoodJudged x) (loaded setting o s.0) j (record {
+          is = ap (λ x. typed.given (option_eq typed.same_kind (typed.field_of types x s.0.slot) (Some k)) (typed.Of k)) g.is
+              ∙ ap (λ x. typed.given (option_eq typed.same_kind x (Some k)) (typed.Of k)) q.0 ∙ ap (λ b. typed.given b (typed.Of k)) (same_kind_refl k) ∙ ap Some (sym (sort_for_kind setting.scope s.0.kind));
+          known = known_sort setting.scope s.0.kind q.1;
+        }) s.1.1
+
+    good_element : (line : ℕ) (o : Object) (a : Array) (i j : Judged) → GoodObject o → GoodArray o.type a → GoodJudged i → element_loaded setting line o a i ≡ Ok j → GoodJudged j
+    good_element line o a i j g array good e =
+        let v = first_passed (operand line Int i) _ j e in
+        let k = kind_of setting.scope a.kind in
+        let index = good_operand line Int i v.0 good v.1.0 in
+        of_ok (λ (x : Judged). GoodJudged x) (at_index setting o a v.0) j (record {
+          is = ap (λ x. typed.given (typed.is_sort (typed.Of kinds.Int) x && option_eq typed.same_kind (typed.array_of types (typed.sort_of types ks o.pointer) a.slot a.elements) (Some k)) (typed.Of k)) index
+              ∙ ap (λ x. typed.given (option_eq typed.same_kind (typed.array_of types x a.slot a.elements) (Some k)) (typed.Of k)) g.is
+              ∙ ap (λ x. typed.given (option_eq typed.same_kind x (Some k)) (typed.Of k)) array.is ∙ ap (λ b. typed.given b (typed.Of k)) (same_kind_refl k) ∙ ap Some (sym (sort_for_kind setting.scope a.kind));
+          known = known_sort setting.scope a.kind array.known;
+        }) v.1.1
 
     -- ---- operators
 
@@ -281,8 +310,13 @@ module _ (types : List TypeShape) (setting : Setting) (ks : List Kind) where
       good_judged line (tree.Field inner f) j e =
           let p = first_passed (judged setting line inner) _ j e in
           let o = first_passed (object line p.0) _ j p.1.1 in
-          let s = found_passed (field_named setting.scope o.0.type f) _ _ j o.1.1 in
-          of_ok (λ (y : Judged). GoodJudged y) (loaded setting o.0 s.0) j (good_loaded o.0 f s.0 (good_object line p.0 o.0 (good_judged line inner p.0 p.1.0) o.1.0) s.1.0) s.1.1
+          good_loaded line o.0 f j (good_object line p.0 o.0 (good_judged line inner p.0 p.1.0) o.1.0) o.1.1
+      good_judged line (tree.Indexed inner f index) j e =
+          let p = first_passed (judged setting line inner) _ j e in
+          let o = first_passed (object line p.0) _ j p.1.1 in
+          let a = first_passed (array_field setting line o.0.type f) _ j o.1.1 in
+          let i = first_passed (judged setting line index) _ j a.1.1 in
+          good_element line o.0 a.0 i.0 j (good_object line p.0 o.0 (good_judged line inner p.0 p.1.0) o.1.0) (good_array line o.0.type f a.0 a.1.0) (good_judged line index i.0 i.1.0) i.1.1
       good_judged line (tree.Negate inner) j e =
           let p = first_passed (judged setting line inner) _ j e in
           let v = first_passed (operand line Int p.0) _ j p.1.1 in

@@ -7,21 +7,21 @@ use Rattle.pst_base.specs.declared.names.Kind.{Kind}
 use Rattle.pst_base.specs.declared.names.TypeNo.{TypeNo}
 use Rattle.pst_types.specs.declared.names.Member.{Member}
 use Rattle.pst_types.specs.declared.names.Variable.{Variable}
-use Rattle.pst_types.specs.Names.{Scope, kind_of}
-use Rattle.pst_types.specs.Declarations.{with_target, targets_of}
+use Rattle.pst_types.specs.Names.{Scope, kind_of, elements_of}
+use Rattle.pst_types.specs.Declarations.{with_targets, targets_of}
 use Rattle.pst_types.specs.View.{kind_word, member_of, local_of, entries_of}
 use Rattle.pst_types.proofs.Through.{at_index}
 
 -- the types of the fields that hold pointers, without names
 abbrev pub targets_in : Scope → List Member → List TypeNo
 targets_in scope [] = []
-targets_in scope (m ∷ ms) = with_target scope (kind_word m.kind) (targets_in scope ms)
+targets_in scope (m ∷ ms) = with_targets scope (kind_word m.kind) (elements_of m.elements) (targets_in scope ms)
 
 pub targets_are : (scope : Scope) (es : List (Bor (List ℕ) × Member)) → targets_of scope (entries_of member_of es) ≡ targets_in scope (values_of es)
 targets_are scope [] = refl
-targets_are scope (e ∷ es) = ap (with_target scope (kind_word e.1.kind)) (targets_are scope es)
+targets_are scope (e ∷ es) = ap (with_targets scope (kind_word e.1.kind) (elements_of e.1.elements)) (targets_are scope es)
 
-pub targets_at : (scope : Scope) (ms : List Member) (i : ℕ) (m : Member) → i < length ms → m ≡ get_or ms i m → targets_in scope (drop i ms) ≡ with_target scope (kind_word m.kind) (targets_in scope (drop (i + 1) ms))
+pub targets_at : (scope : Scope) (ms : List Member) (i : ℕ) (m : Member) → i < length ms → m ≡ get_or ms i m → targets_in scope (drop i ms) ≡ with_targets scope (kind_word m.kind) (elements_of m.elements) (targets_in scope (drop (i + 1) ms))
 targets_at scope ms i m below is = ap (targets_in scope) (at_index ms i m below is)
 
 pub ruleset targets = (targets_are, targets_at, append_assoc)

@@ -1,20 +1,22 @@
 -- Programs that are accepted are well typed.
-use Rattle.std.proofs.Common.{◌≡◌, ℕ, ◌+◌, ◌<◌, ◌≤◌, nat_lt, Bool, true, false, not, cond, ◌&&◌, is_some, List, [], ◌∷◌, ◌++◌, length, Option, Some, None, slice_get, ℤ, pos, negsuc, Result, Ok, refl, sym, ap, subst, ◌∙◌, arith, suc, zero, length-append, bytes_eq}
-use Rattle.std.proofs.lemmas.Bool.{ltb-true}
+use Rattle.std.proofs.Common.{◌≡◌, ℕ, ◌+◌, ◌<◌, ◌≤◌, nat_lt, nat_le, Bool, true, false, not, cond, ◌&&◌, is_some, List, [], ◌∷◌, ◌++◌, length, Option, Some, None, unwrap_or, slice_get, ℤ, pos, negsuc, Result, Ok, refl, sym, ap, subst, ◌∙◌, arith, suc, zero, length-append, bytes_eq}
+use Rattle.std.proofs.lemmas.Bool.{ltb-true, leb-true}
 use Rattle.std.proofs.lemmas.Slice.Eq.{bytes_eq-Decides}
 use Rattle.pst_base.specs.declared.shape.TypeShape.{TypeShape}
+use Rattle.pst_base.specs.declared.shape.TheConstants.{MOST_ROOTS, MOST_LIMIT, MOST_ELEMENTS}
 use Rattle.pst_tree.specs.Syntax as tree
 use Rattle.pst_tree.specs.Depth as depth
 use Rattle.pst_program.specs.Syntax as program
+use Rattle.pst_program.specs.Typed.{is_length}
 use Rattle.pst_types.specs.declared.fault.TypeFault.{TypeFault}
 use Rattle.pst_types.specs.declared.fault.TypeFault.TheVariants as fault
 use Rattle.pst_types.specs.Answers.{check, through}
-use Rattle.pst_types.specs.Names.{Members, no_members, with_member, with_new_member, members_from, Scope, nothing_declared, is_free, RecordType, Signature, named, is_named, is_known, field_line, field_name, field_kind}
-use Rattle.pst_types.specs.Declarations.{noted, limit_of, field, shape_of, names_of, procedure, NamedProgram, declared, root_alone}
-use Rattle.pst_types.proofs.Few.{passed, first_passed, same_ok}
+use Rattle.pst_types.specs.Names.{Members, no_members, with_member, with_field, with_new_member, members_from, array_length, is_length_of, length_in, elements_of, Scope, nothing_declared, is_free, RecordType, Signature, named, is_named, is_known, field_line, field_name, field_kind, field_elements}
+use Rattle.pst_types.specs.Declarations.{noted, limit_of, elements_with, field, shape_of, names_of, procedure, NamedProgram, declared, root_alone}
+use Rattle.pst_types.proofs.Few.{passed, first_passed, same_ok, both_true}
 use Rattle.pst_types.proofs.Noted.{free_parts}
-use Rattle.pst_types.proofs.Laid.{IsLaid, AllKnown, laid_none, laid_more, known_more}
-use Rattle.pst_types.proofs.Sorts.{found_passed, of_ok, both_true}
+use Rattle.pst_types.proofs.Laid.{IsLaid, LengthFits, HasFew, AllKnown, small, laid_none, laid_more, known_more}
+use Rattle.pst_types.proofs.Sorts.{found_passed, of_ok}
 
 -- ---- fields
 
@@ -27,46 +29,86 @@ record Fields (scope : Scope) (m : Members) (fs : List tree.FieldText) (n : Memb
   pub same : members_from m fs ≡ n
   pub laid : IsLaid scope n
   pub known : AllKnown scope n.list
-  pub few : length n.list ≤ 16
+  pub few : HasFew n
 
-known_member : (scope : Scope) (m : Members) (x : List ℕ) (kind : tree.TypeWord) → AllKnown scope m.list → is_known scope kind ≡ true → AllKnown scope (with_member m x kind).list
-known_member scope m x tree.Int all known = known_more scope m.list x _ all known
-known_member scope m x (tree.Named t) all known = known_more scope m.list x _ all known
+known_member : (scope : Scope) (m : Members) (x : List ℕ) (kind : tree.TypeWord) (elements : Option ℕ) → AllKnown scope m.list → is_known scope kind ≡ true → AllKnown scope (with_member m x kind elements).list
+known_member scope m x tree.Int elements all known = known_more scope m.list x _ all known
+known_member scope m x (tree.Named t) elements all known = known_more scope m.list x _ all known
 
-longer : (m : Members) (x : List ℕ) (kind : tree.TypeWord) → length (with_member m x kind).list ≡ length m.list + 1
-longer m x tree.Int = length-append m.list _
-longer m x (tree.Named t) = length-append m.list _
+longer : (m : Members) (x : List ℕ) (kind : tree.TypeWord) (elements : Option ℕ) → length (with_member m x kind elements).list ≡ length m.list + 1
+longer m x tree.Int elements = length-append m.list _
+longer m x (tree.Named t) elements = length-append m.list _
 
-fields : (scope : Scope) (fs : List tree.FieldText) (m n : Members) → IsLaid scope m → AllKnown scope m.list → length m.list ≤ 16 → through (field scope) m fs ≡ Ok n → Fields scope m fs n
+-- one more field adds its elements
+total_more : (m : Members) (x : List ℕ) (kind : tree.TypeWord) (elements : Option ℕ) → m.values + m.pointers + elements_of elements ≤ MOST_ELEMENTS →
+    let n = with_member m x kind elements in n.values + n.pointers ≡ m.values + m.pointers + elements_of elements
+total_more m x tree.Int elements few =
+    let fits : m.values + elements_of elements ≤ 65535 = omega (arith, few) in
+    let same = small (m.values + elements_of elements) fits in omega (arith, same)
+total_more m x (tree.Named t) elements few =
+    let fits : m.pointers + elements_of elements ≤ 65535 = omega (arith, few) in
+    let same = small (m.pointers + elements_of elements) fits in omega (arith, same)
+
+written_fits : (n : ℤ) → is_some (array_length n) ≡ true → is_length (unwrap_or (array_length n) 1) ≡ true
+written_fits (negsuc n) e = cc
+written_fits (pos n) e = by_test (is_length n) refl e
+  where
+    by_test : (b : Bool) → is_length n ≡ b → is_some (cond b (Some n) None) ≡ true → is_length (unwrap_or (cond b (Some n) None) 1) ≡ true
+    by_test true is e = is
+    by_test false is e = cc
+
+length_fits : (n : Option ℤ) → is_length_of n ≡ true → LengthFits (length_in n)
+length_fits None e = tt
+length_fits (Some n) e = written_fits n e
+
+-- a field that was judged
+pub record FieldPassed (scope : Scope) (m : Members) (f : tree.FieldText) (n : Members) : Type 0 where
+  pub new : not (is_named (field_name f) m.list) ≡ true
+  pub long : is_length_of (field_elements f) ≡ true
+  pub few : elements_with m f ≤ MOST_ELEMENTS
+  pub known : is_known scope (field_kind f) ≡ true
+  pub is : with_field m f ≡ n
+
+pub field_passed : (scope : Scope) (m : Members) (f : tree.FieldText) (n : Members) → field scope m f ≡ Ok n → FieldPassed scope m f n
+field_passed scope m f n e =
+    let one : Result Members TypeFault = Ok (with_field m f) in
+    let known_one = check (is_known scope (field_kind f)) (fault.Unknown (field_line f)) one in
+    let few_one = check (nat_le (elements_with m f) MOST_ELEMENTS) (fault.TooMany (field_line f)) known_one in
+    let long_one = check (is_length_of (field_elements f)) (fault.Limit (field_line f)) few_one in
+    let p = passed (nat_lt (length m.list) 16) (fault.TooMany (field_line f)) _ n e in
+    let q = passed (not (is_named (field_name f) m.list)) (fault.Duplicate (field_line f)) long_one n p.1 in
+    let l = passed (is_length_of (field_elements f)) (fault.Limit (field_line f)) few_one n q.1 in
+    let t = passed (nat_le (elements_with m f) MOST_ELEMENTS) (fault.TooMany (field_line f)) known_one n l.1 in
+    let r = passed (is_known scope (field_kind f)) (fault.Unknown (field_line f)) one n t.1 in
+    record { new = q.0; long = l.0; few = leb-true (elements_with m f) MOST_ELEMENTS t.0; known = r.0; is = same_ok _ _ r.1 }
+
+fields : (scope : Scope) (fs : List tree.FieldText) (m n : Members) → IsLaid scope m → AllKnown scope m.list → HasFew m → through (field scope) m fs ≡ Ok n → Fields scope m fs n
 fields scope [] m n laid known few e =
     let same = same_ok m n e in
     subst (λ (k : Members). Fields scope m [] k) same (record { same = refl; laid = laid; known = known; few = few })
 fields scope (f ∷ fs) m n laid known few e =
-    let one : Result Members TypeFault = Ok (with_member m (field_name f) (field_kind f)) in
     let s = first_passed (field scope m f) (λ now. through (field scope) now fs) n e in
-    let p = passed (nat_lt (length m.list) 16) (fault.TooMany (field_line f)) _ s.0 s.1.0 in
-    let q = passed (not (is_named (field_name f) m.list)) (fault.Duplicate (field_line f)) (check (is_known scope (field_kind f)) (fault.Unknown (field_line f)) one) s.0 p.1 in
-    let r = passed (is_known scope (field_kind f)) (fault.Unknown (field_line f)) one s.0 q.1 in
-    let made : with_member m (field_name f) (field_kind f) ≡ s.0 = same_ok _ _ r.1 in
-    let below = ltb-true (length m.list) 16 p.0 in
-    let fits : length m.list < 100 = omega (arith, below) in
-    let laid_now = subst (λ (k : Members). IsLaid scope k) made (laid_more scope m (field_name f) (field_kind f) laid fits) in
-    let known_now = subst (λ (k : Members). AllKnown scope k.list) made (known_member scope m (field_name f) (field_kind f) known r.0) in
-    let few_now : length s.0.list ≤ 16 = omega (arith, below, longer m (field_name f) (field_kind f), ap (λ (k : Members). length k.list) made) in
+    let p = field_passed scope m f s.0 s.1.0 in
+    let elements = length_in (field_elements f) in
+    let laid_now = subst (λ (k : Members). IsLaid scope k) p.is (laid_more scope m (field_name f) (field_kind f) elements laid (length_fits (field_elements f) p.long) p.few) in
+    let known_now = subst (λ (k : Members). AllKnown scope k.list) p.is (known_member scope m (field_name f) (field_kind f) elements known p.known) in
+    let total = total_more m (field_name f) (field_kind f) elements p.few in
+    let one_more : HasFew (with_field m f) = omega (arith, total, p.few) in
+    let few_now = subst (λ (k : Members). HasFew k) p.is one_more in
     let rest = fields scope fs s.0 n laid_now known_now few_now s.1.1 in
-    let new : with_new_member m f ≡ s.0 = ap (λ b. cond b m (with_member m (field_name f) (field_kind f))) (not_named _ q.0) ∙ made in
+    let new : with_new_member m f ≡ s.0 = ap (λ b. cond b m (with_field m f)) (not_named _ p.new) ∙ p.is in
     record { same = ap (λ k. members_from k fs) new ∙ rest.same; laid = rest.laid; known = rest.known; few = rest.few }
 
 if_some : (b : Bool) (n m : ℕ) → cond b (Some n) None ≡ Some m → (b ≡ true) × (n ≡ m)
 if_some true n m e = (refl, cc)
 if_some false n m e = cc
 
-limits : (l : ℤ) (n : ℕ) → limit_of l ≡ Some n → (1 ≤ n) × (n ≤ 16)
+limits : (l : ℤ) (n : ℕ) → limit_of l ≡ Some n → (1 ≤ n) × (n ≤ MOST_LIMIT)
 limits (pos k) n e =
-    let p = if_some (nat_lt 0 k && nat_lt k 17) k n e in
-    let q = both_true (nat_lt 0 k) (nat_lt k 17) p.0 in
+    let p = if_some (nat_lt 0 k && nat_le k MOST_LIMIT) k n e in
+    let q = both_true (nat_lt 0 k) (nat_le k MOST_LIMIT) p.0 in
     let a = ltb-true 0 k q.0 in
-    let b = ltb-true k 17 q.1 in
+    let b = leb-true k MOST_LIMIT q.1 in
     (omega (arith, p.1), omega (arith, p.1))
 limits (negsuc k) n e = cc
 
@@ -76,10 +118,10 @@ pub record IsEntry (scope : Scope) (k : ℕ) (r : RecordType) (s : TypeShape) : 
   pub number : r.number.0 ≡ k
   pub limit : ℕ
   pub least : 1 ≤ limit
-  pub most : limit ≤ 16
+  pub most : limit ≤ MOST_LIMIT
   pub is : s ≡ shape_of scope limit r.members
   pub laid : IsLaid scope r.members
-  pub few : length r.members.list ≤ 16
+  pub few : HasFew r.members
   pub known : AllKnown scope r.members.list
 
 -- the record types and the entries of the shape from a number on
@@ -263,7 +305,8 @@ pub record Together (scope : Scope) (s : Scope) (b : NamedProgram) : Type 0 wher
   pub routines : Routines scope 0 s.procedures b.procedures
   pub few_types : length s.types ≤ 64
   pub few_procedures : length s.procedures ≤ 256
-  pub few_roots : length s.roots.list ≤ 32
+  pub few_roots : length s.roots.list ≤ MOST_ROOTS
+  pub one_each : s.roots.values + s.roots.pointers ≤ length s.roots.list
   pub laid : IsLaid scope s.roots
   pub known : AllKnown scope s.roots.list
   pub apart : Apart s.procedures
@@ -277,6 +320,7 @@ start scope = record {
   few_types = omega arith;
   few_procedures = omega arith;
   few_roots = omega arith;
+  one_each = omega arith;
   laid = laid_none scope;
   known = tt;
   apart = tt;
@@ -302,7 +346,7 @@ record_together scope s t b c line x l fs g e f =
       most = bounds.1;
       is = ap (shape_of scope n.0) (sym d.same);
       laid = subst (λ (k : Members). IsLaid scope k) (sym d.same) d.laid;
-      few = subst (λ (k : Members). length k.list ≤ 16) (sym d.same) d.few;
+      few = subst (λ (k : Members). HasFew k) (sym d.same) d.few;
       known = subst (λ (k : Members). AllKnown scope k.list) (sym d.same) d.known;
     } in
     let at : length s.types + 1 ≡ 1 + length s.types = omega arith in
@@ -315,6 +359,7 @@ record_together scope s t b c line x l fs g e f =
       few_types = omega (arith, more, below);
       few_procedures = g.few_procedures;
       few_roots = g.few_roots;
+      one_each = g.one_each;
       laid = g.laid;
       known = g.known;
       apart = g.apart;
@@ -323,13 +368,16 @@ record_together scope s t b c line x l fs g e f =
 
 root_together : (scope s t : Scope) (b c : NamedProgram) (line : ℕ) (x : List ℕ) (kind : tree.TypeWord) → Together scope s b → noted s (tree.Root line x kind) ≡ Ok t → declared scope b (tree.Root line x kind) ≡ Ok c → Together scope t c
 root_together scope s t b c line x kind g e f =
-    let new : Scope = record s { roots = with_member s.roots x kind } in
+    let new : Scope = record s { roots = with_member s.roots x kind None } in
     let one : Result Scope TypeFault = Ok new in
-    let p = passed (nat_lt (length s.roots.list) 32) (fault.TooMany line) (check (is_free s x) (fault.Duplicate line) one) t e in
+    let p = passed (nat_lt (length s.roots.list) MOST_ROOTS) (fault.TooMany line) (check (is_free s x) (fault.Duplicate line) one) t e in
     let q = passed (is_free s x) (fault.Duplicate line) one t p.1 in
     let k = passed (is_known scope kind) (fault.Unknown line) (Ok b) c f in
-    let below = ltb-true (length s.roots.list) 32 p.0 in
-    let fits : length s.roots.list < 100 = omega (arith, below) in
+    let below = ltb-true (length s.roots.list) MOST_ROOTS p.0 in
+    let each = g.one_each in
+    let fits : s.roots.values + s.roots.pointers + 1 ≤ MOST_ELEMENTS = omega (arith, below, each) in
+    let total = total_more s.roots x kind None fits in
+    let long = longer s.roots x kind None in
     let whole : Together scope new b = record {
       shapes = g.shapes;
       is = g.is;
@@ -337,9 +385,10 @@ root_together scope s t b c line x kind g e f =
       routines = g.routines;
       few_types = g.few_types;
       few_procedures = g.few_procedures;
-      few_roots = omega (arith, longer s.roots x kind, below);
-      laid = laid_more scope s.roots x kind g.laid fits;
-      known = known_member scope s.roots x kind g.known k.0;
+      few_roots = omega (arith, long, below);
+      one_each = omega (arith, total, long, each);
+      laid = laid_more scope s.roots x kind None g.laid tt fits;
+      known = known_member scope s.roots x kind None g.known k.0;
       apart = g.apart;
     } in
     subst (λ (u : Scope). Together scope u c) (same_ok _ _ q.1) (of_ok (λ (j : NamedProgram). Together scope new j) b c whole k.1)
@@ -364,6 +413,7 @@ procedure_together scope s t b c text high deep g e f =
       few_types = g.few_types;
       few_procedures = omega (arith, more, below);
       few_roots = g.few_roots;
+      one_each = g.one_each;
       laid = g.laid;
       known = g.known;
       apart = apart_more s.procedures text.name sign g.apart (free_parts s text.name q.0).2;

@@ -6,6 +6,8 @@ use Rattle.pst_types.specs.declared.expression.Sort.TheVariants as sort
 use Rattle.pst_types.specs.declared.expression.Judged.{Judged}
 use Rattle.pst_types.specs.declared.expression.Judged.TheVariants as judged
 use Rattle.pst_types.specs.declared.expression.Object.{Object}
+use Rattle.pst_types.specs.declared.expression.Array.{Array}
+use Rattle.pst_types.specs.View.{kind_word}
 
 abbrev pub sort_seen : Sort → expressions.Sort
 sort_seen sort.Int = expressions.Int
@@ -18,3 +20,6 @@ judged_of (judged.Known e s) = expressions.Known (expr_of e) (sort_seen s)
 
 abbrev pub object_of : Object → expressions.Object
 object_of o = record { pointer = expr_of o.pointer; type = o.ty.now }
+
+abbrev pub array_of : Array → expressions.Array
+array_of a = record { slot = a.slot.0; elements = a.elements; kind = kind_word a.kind }

@@ -1,5 +1,5 @@
 -- The types of expressions.
-use Rattle.std.specs.Prelude.{ℕ, Bool, true, false, not, ◌&&◌, List, Result, Ok, Err, bytes_eq}
+use Rattle.std.specs.Prelude.{ℕ, Bool, true, false, not, ◌&&◌, is_some, List, Result, Ok, Err, bytes_eq}
 use Rattle.pst_base.specs.declared.names.Op.{Op}
 use Rattle.pst_base.specs.declared.names.Op.TheVariants.{Add, Sub, Mul, Div, Rem, Equal, NotEqual, Less, LessEqual, Greater, GreaterEqual, And, Or}
 use Rattle.pst_base.specs.declared.names.TypeNo.{TypeNo}
@@ -48,6 +48,7 @@ null_of ty (tree.Number n) = program.Null ty
 null_of ty tree.Null = program.Null ty
 null_of ty (tree.Name x) = program.Null ty
 null_of ty (tree.Field e f) = program.Null ty
+null_of ty (tree.Indexed e f i) = program.Null ty
 null_of ty (tree.Negate e) = program.Null ty
 null_of ty (tree.Not e) = program.Null ty
 null_of ty (tree.Binary op a b) = program.Null ty
@@ -72,12 +73,37 @@ abbrev pub named_value : Variable → Judged
 named_value (IsLocal l) = Known (program.Local l.number) (sort_of l.kind)
 named_value (IsRoot r) = Known (program.Root r.slot) (sort_of r.kind)
 
+-- a field of the records of a type that is no array, by its name
+abbrev pub plain_field : Setting → (line : ℕ) → (type name : List ℕ) → Result Slot TypeFault
+plain_field setting line t name = found (field_named setting.scope t name) (Unknown line) (λ field. check (not (is_some field.elements)) (Mismatch line) (Ok field))
+
+-- an array: the slot of its first element, how many elements it has, and their type
+pub record Array : Type 0 where
+  pub slot : ℕ
+  pub elements : ℕ
+  pub kind : tree.TypeWord
+
+-- a field of the records of a type that is an array, by its name
+abbrev pub array_field : Setting → (line : ℕ) → (type name : List ℕ) → Result Array TypeFault
+array_field setting line t name =
+    found (field_named setting.scope t name) (Unknown line) (λ field. found field.elements (Mismatch line) (λ n.
+    Ok (record { slot = field.slot; elements = n; kind = field.kind })))
+
+-- a field that is no array, of an object
 abbrev pub loaded : Setting → Object → Slot → Judged
 loaded setting o f = Known (program.Load o.pointer f.slot (kind_of setting.scope f.kind)) (sort_of f.kind)
 
--- a field of the records of an object's type, by its name
+-- a field of an object, by its name: not of an array
 abbrev pub field_loaded : Setting → (line : ℕ) → Object → (name : List ℕ) → Result Judged TypeFault
-field_loaded setting line o name = found (field_named setting.scope o.type name) (Unknown line) (λ field. Ok (loaded setting o field))
+field_loaded setting line o name = and_then (plain_field setting line o.type name) (λ field. Ok (loaded setting o field))
+
+-- the element of an array of an object at an index
+abbrev pub at_index : Setting → Object → Array → (index : program.Expr) → Judged
+at_index setting o a i = Known (program.LoadIndexed o.pointer a.slot a.elements i (kind_of setting.scope a.kind)) (sort_of a.kind)
+
+-- an element of an array of an object: the index has to be a number
+abbrev pub element_loaded : Setting → (line : ℕ) → Object → Array → (index : Judged) → Result Judged TypeFault
+element_loaded setting line o a index = and_then (operand line Int index) (λ i. Ok (at_index setting o a i))
 
 -- an operator whose operands are of one sort
 abbrev pub operation : (line : ℕ) → Op → (operands result : Sort) → (left right : Judged) → Result Judged TypeFault
@@ -125,6 +151,9 @@ judged setting line (tree.Name x) = found (variable setting x) (Unknown line) (�
 judged setting line (tree.Parens e) = and_then (judged setting line e) (λ j. Ok (in_parens j))
 judged setting line (tree.Field e f) =
     and_then (judged setting line e) (λ j. and_then (object line j) (λ o. field_loaded setting line o f))
+judged setting line (tree.Indexed e f i) =
+    and_then (judged setting line e) (λ j. and_then (object line j) (λ o. and_then (array_field setting line o.type f) (λ array.
+    and_then (judged setting line i) (λ index. element_loaded setting line o array index))))
 judged setting line (tree.Negate e) = and_then (judged setting line e) (λ j. and_then (operand line Int j) (λ v. Ok (Known (program.Negate v) Int)))
 judged setting line (tree.Not e) = and_then (judged setting line e) (λ j. and_then (operand line Truth j) (λ v. Ok (Known (program.Not v) Truth)))
 judged setting line (tree.Binary op a b) =

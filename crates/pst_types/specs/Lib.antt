@@ -7,4 +7,5 @@ pub mod View
 pub mod ExpressionView
 pub mod ProcedureView
 pub mod Laws
+pub mod Plain
 pub mod Worked

@@ -1,5 +1,5 @@
 -- What the names of a program stand for.
-use Rattle.std.specs.Prelude.{ℕ, ◌+◌, min, Bool, not, ◌&&◌, List, [], ◌∷◌, ◌++◌, Option, Some, None, is_some, if◌then◌else◌, bytes_eq, unwrap_or}
+use Rattle.std.specs.Prelude.{ℕ, ◌+◌, min, ℤ, pos, negsuc, Bool, true, not, ◌&&◌, List, [], ◌∷◌, ◌++◌, Option, Some, None, is_some, if◌then◌else◌, bytes_eq, unwrap_or}
 use Rattle.std.specs.Map.{lookup}
 use Rattle.std.specs.Option.{option_map, option_and_then}
 use Rattle.pst_base.specs.declared.names.Kind.{Kind}
@@ -8,6 +8,7 @@ use Rattle.pst_base.specs.declared.names.TypeNo.{TypeNo}
 use Rattle.pst_base.specs.declared.names.ProcNo.{ProcNo}
 use Rattle.pst_base.specs.Shape.{root_type}
 use Rattle.pst_tree.specs.Syntax.{TypeWord, Int, Named, FieldText, Val, Ptr, LocalText}
+use Rattle.pst_program.specs.Typed.{is_length}
 
 -- what a list of names has for a name: the first counts
 abbrev pub named : {A : Type 0} → List ℕ → List (List ℕ × A) → Option A
@@ -20,14 +21,36 @@ is_named x list = is_some (named x list)
 abbrev pub bounded : ℕ → ℕ
 bounded n = min n 65535
 
+-- ---- the number of elements of a field
+
+-- the number of elements of an array, if it is from 1 to 16
+abbrev pub array_length : ℤ → Option ℕ
+array_length (pos n) = if is_length n then Some n else None
+array_length (negsuc n) = None
+
+-- whether a field can have the number of elements that is written, if one is
+abbrev pub is_length_of : Option ℤ → Bool
+is_length_of None = true
+is_length_of (Some n) = is_some (array_length n)
+
+-- the number of elements of a field that is an array. A number that no array has counts as 1 until the program is refused for it
+abbrev pub length_in : Option ℤ → Option ℕ
+length_in n = option_map (λ n. unwrap_or (array_length n) 1) n
+
+-- how many elements a field has: one, where it is no array
+abbrev pub elements_of : Option ℕ → ℕ
+elements_of n = unwrap_or n 1
+
 -- ---- fields
 
--- a field: its type, and how many fields of its sort stand before it, where numbers are one sort and pointers the other
+-- a field: its type, how many elements it has where it is an array, and how many elements of its sort stand before it, where
+-- numbers are one sort and pointers the other
 pub record Member : Type 0 where
   pub rank : ℕ
   pub kind : TypeWord
+  pub elements : Option ℕ
 
--- the fields of a record type in the order of declaration, and how many hold a number and how many a pointer
+-- the fields of a record type in the order of declaration, and how many elements hold a number and how many a pointer
 pub record Members : Type 0 where
   pub values : ℕ
   pub pointers : ℕ
@@ -36,12 +59,14 @@ pub record Members : Type 0 where
 abbrev pub no_members : Members
 no_members = record { values = 0; pointers = 0; list = [] }
 
--- with one more field
-abbrev pub with_member : Members → List ℕ → TypeWord → Members
-with_member m x Int = record { values = bounded (m.values + 1); pointers = m.pointers; list = m.list ++ (x, record { rank = m.values; kind = Int }) ∷ [] }
-with_member m x (Named t) = record { values = m.values; pointers = bounded (m.pointers + 1); list = m.list ++ (x, record { rank = m.pointers; kind = Named t }) ∷ [] }
+-- with one more field, of so many elements
+abbrev pub with_member : Members → List ℕ → TypeWord → (elements : Option ℕ) → Members
+with_member m x Int n =
+    record { values = bounded (m.values + elements_of n); pointers = m.pointers; list = m.list ++ (x, record { rank = m.values; kind = Int; elements = n }) ∷ [] }
+with_member m x (Named t) n =
+    record { values = m.values; pointers = bounded (m.pointers + elements_of n); list = m.list ++ (x, record { rank = m.pointers; kind = Named t; elements = n }) ∷ [] }
 
--- the slot of a field: the numbers come first
+-- the slot of the first element of a field: the numbers come first
 abbrev pub slot_among : Members → TypeWord → (rank : ℕ) → ℕ
 slot_among m Int rank = rank
 slot_among m (Named t) rank = bounded (m.values + rank)
@@ -50,20 +75,29 @@ abbrev pub slot_of : Members → Member → ℕ
 slot_of m member = slot_among m member.kind member.rank
 
 abbrev pub field_line : FieldText → ℕ
-field_line (Val line x) = line
-field_line (Ptr line x t) = line
+field_line (Val line x n) = line
+field_line (Ptr line x t n) = line
 
 abbrev pub field_name : FieldText → List ℕ
-field_name (Val line x) = x
-field_name (Ptr line x t) = x
+field_name (Val line x n) = x
+field_name (Ptr line x t n) = x
 
 abbrev pub field_kind : FieldText → TypeWord
-field_kind (Val line x) = Int
-field_kind (Ptr line x t) = Named t
+field_kind (Val line x n) = Int
+field_kind (Ptr line x t n) = Named t
+
+-- the number of elements that is written
+abbrev pub field_elements : FieldText → Option ℤ
+field_elements (Val line x n) = n
+field_elements (Ptr line x t n) = n
+
+-- with one more field of this text
+abbrev pub with_field : Members → FieldText → Members
+with_field m f = with_member m (field_name f) (field_kind f) (length_in (field_elements f))
 
 -- with one more field, if its name is new
 abbrev pub with_new_member : Members → FieldText → Members
-with_new_member m f = if is_named (field_name f) m.list then m else with_member m (field_name f) (field_kind f)
+with_new_member m f = if is_named (field_name f) m.list then m else with_field m f
 
 -- the fields of a record type; of doubled names the first counts
 abbrev pub members_from : Members → List FieldText → Members
@@ -109,13 +143,14 @@ abbrev pub is_known : Scope → TypeWord → Bool
 is_known scope Int = Bool.true
 is_known scope (Named t) = is_named t scope.types
 
--- a field as a program reads and writes it
+-- a field as a program reads and writes it: the slot of its first element, its type, and how many elements it has where it is an array
 pub record Slot : Type 0 where
   pub slot : ℕ
   pub kind : TypeWord
+  pub elements : Option ℕ
 
 abbrev pub slot_in : Members → List ℕ → Option Slot
-slot_in m f = option_map (λ member. record { slot = slot_of m member; kind = member.kind }) (named f m.list)
+slot_in m f = option_map (λ member. record { slot = slot_of m member; kind = member.kind; elements = member.elements }) (named f m.list)
 
 -- the field of a record type
 abbrev pub field_named : Scope → (type field : List ℕ) → Option Slot

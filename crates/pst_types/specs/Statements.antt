@@ -5,24 +5,32 @@ use Rattle.pst_program.specs.Syntax as program
 use Rattle.pst_types.specs.declared.fault.TypeFault.{TypeFault}
 use Rattle.pst_types.specs.declared.fault.TypeFault.TheVariants.{Unknown, Mismatch, QueryWrites}
 use Rattle.pst_types.specs.Answers.{and_then, check, found}
-use Rattle.pst_types.specs.Names.{Setting, Signature, Variable, IsLocal, IsRoot, named, field_named, variable}
-use Rattle.pst_types.specs.Expressions.{Int, Truth, same_sort, sort_of, object, judged, fitted, of_sort}
+use Rattle.pst_types.specs.Names.{Setting, Signature, Variable, IsLocal, IsRoot, named, variable}
+use Rattle.pst_types.specs.Expressions.{Int, Truth, same_sort, sort_of, object, plain_field, array_field, judged, fitted, of_sort}
 
 -- an assignment to a variable: a root's in a query is a fault before the value is looked at
 abbrev pub assigned : Setting → (line : ℕ) → Variable → tree.Expr → Result program.Action TypeFault
 assigned setting line (IsLocal l) e = and_then (fitted setting line l.kind e) (λ v. Ok (program.Set l.number v))
 assigned setting line (IsRoot r) e = check (not setting.query) (QueryWrites line) (and_then (fitted setting line r.kind e) (λ v. Ok (program.SetRoot r.slot v)))
 
--- an assignment to a field
+-- an assignment to a field that is no array
 abbrev pub stored : Setting → (line : ℕ) → (object : tree.Expr) → (f : List ℕ) → (value : tree.Expr) → Result program.Action TypeFault
 stored setting line o f e =
-    and_then (judged setting line o) (λ j. and_then (object line j) (λ o. found (field_named setting.scope o.type f) (Unknown line) (λ field.
+    and_then (judged setting line o) (λ j. and_then (object line j) (λ o. and_then (plain_field setting line o.type f) (λ field.
     check (not setting.query) (QueryWrites line) (and_then (fitted setting line field.kind e) (λ v. Ok (program.Store o.pointer field.slot v))))))
 
--- an assignment. A place is a name or a field; anything else is no place
+-- an assignment to an element of an array
+abbrev pub element_stored : Setting → (line : ℕ) → (object : tree.Expr) → (f : List ℕ) → (index value : tree.Expr) → Result program.Action TypeFault
+element_stored setting line o f i e =
+    and_then (judged setting line o) (λ j. and_then (object line j) (λ o. and_then (array_field setting line o.type f) (λ array.
+    check (not setting.query) (QueryWrites line) (and_then (of_sort setting line Int i) (λ index. and_then (fitted setting line array.kind e) (λ v.
+    Ok (program.StoreIndexed o.pointer array.slot array.elements index v)))))))
+
+-- an assignment. A place is a name, a field or an element; anything else is no place
 abbrev pub written : Setting → (line : ℕ) → (to value : tree.Expr) → Result program.Action TypeFault
 written setting line (tree.Name x) e = found (variable setting x) (Unknown line) (λ v. assigned setting line v e)
 written setting line (tree.Field o f) e = stored setting line o f e
+written setting line (tree.Indexed o f i) e = element_stored setting line o f i e
 written setting line (tree.Number n) e = Err (Mismatch line)
 written setting line tree.Null e = Err (Mismatch line)
 written setting line (tree.Parens p) e = Err (Mismatch line)

@@ -34,7 +34,7 @@ kind_word word.Int = tree.Int
 kind_word (word.Named t) = tree.Named t.now
 
 abbrev pub member_of : Member → names.Member
-member_of m = record { rank = m.rank; kind = kind_word m.kind }
+member_of m = record { rank = m.rank; kind = kind_word m.kind; elements = m.elements }
 
 -- the entries of a map from names
 abbrev pub entries_of : {V A : Type 0} → (V → A) → List (Bor (List ℕ) × V) → List (List ℕ × A)
@@ -44,7 +44,7 @@ abbrev pub members_of : Members → names.Members
 members_of m = record { values = m.values; pointers = m.pointers; list = entries_of member_of m.list.entries }
 
 abbrev pub slot_seen : Slot → names.Slot
-slot_seen s = record { slot = s.slot.0; kind = kind_word s.kind }
+slot_seen s = record { slot = s.slot.0; kind = kind_word s.kind; elements = s.elements }
 
 abbrev pub record_type_of : RecordType → names.RecordType
 record_type_of r = record { number = r.number; members = members_of r.members }

@@ -1,25 +1,27 @@
 //! What the declarations of a program say.
 
-ghost use Rattle.std.specs.Prelude.{◌≡◌, Ok, IfOk, IfErr, map};
+ghost use Rattle.std.specs.Prelude.{◌≡◌, ◌++◌, OnOk, Ok, IfOk, IfErr, map, replicate};
 ghost use Rattle.pst_tree.specs.View as tree_view;
 ghost use Rattle.pst_types.specs.declared.fault.TypeFault.TheVariants as fault;
 ghost use Rattle.pst_types.specs.Answers.{through};
-ghost use Rattle.pst_types.specs.Declarations.{limit_of, field, targets_of, shape_of, names_of};
+ghost use Rattle.pst_types.specs.Declarations.{limit_of, elements_with, field, targets_of, shape_of, names_of};
 ghost use Rattle.pst_types.specs.Names.{no_members, members_from};
 ghost use Rattle.pst_types.specs.View.{Answers, members_of, scope_of};
 
 use crate::fault::TypeFault;
-use crate::names::{Members, Scope, Word, line_of, name_of};
-use pst_base::{SlotNo, Targets, Text, TypeShape};
+use crate::names::{
+    Members, Scope, Word, elements_at, elements_of, is_length, length_in, line_of, name_of,
+};
+use pst_base::{MOST_ELEMENTS, MOST_LIMIT, SlotNo, Targets, Text, TypeNo, TypeShape};
 use pst_program::{FieldName, FieldNames, TypeEntry};
 use pst_tree::Field;
-use std::alloc::Global;
+use std::alloc::{AllocError, Global};
 
 /// The in-degree limit, if it is from 1 to 16.
 pub(crate) fn limit_of(limit: i64) -> Option<u8>
     ensures { result ≡ limit_of limit }
 {
-    if (1..=16).contains(&limit) {
+    if (1..=i64::from(MOST_LIMIT)).contains(&limit) {
         Some(limit as u8)
     } else {
         None
@@ -37,6 +39,14 @@ pub(crate) fn lay_out<'t>(alloc: Global, fields: &'t [Field]) -> Result<Members<
     Ok(members)
 }
 
+/// How many elements the fields have with one more field.
+fn elements_with(members: &Members, next: &Field) -> usize
+    ensures { result ≡ elements_with (members_of members.now) (tree_view.field_of next.now) }
+{
+    let count = elements_of(length_in(elements_at(next)));
+    usize::from(members.values) + usize::from(members.pointers) + usize::from(count)
+}
+
 /// Judges a field after those before it, and adds it.
 #[tactic(auto, using(crate::proofs::Lookups::look_ups))]
 fn add_field<'t>(
@@ -50,15 +60,19 @@ fn add_field<'t>(
     if members.list.len() >= 16 {
         return Err(TypeFault::TooMany { line });
     }
-    let name = name_of(next);
-    if members.has(name) {
+    if members.has(name_of(next)) {
         return Err(TypeFault::Duplicate { line });
     }
-    let kind = Word::of_field(next);
-    if !scope.is_known(kind) {
+    if !is_length(elements_at(next)) {
+        return Err(TypeFault::Limit { line });
+    }
+    if elements_with(members, next) > MOST_ELEMENTS {
+        return Err(TypeFault::TooMany { line });
+    }
+    if !scope.is_known(Word::of_field(next)) {
         return Err(TypeFault::Unknown { line });
     }
-    members.add(name, kind)?;
+    members.add_field(next)?;
     Ok(())
 }
 
@@ -77,14 +91,28 @@ pub(crate) fn judge_fields<'t>(
     Ok(members)
 }
 
-/// The types of the fields that hold pointers.
+/// Adds the type of a field that holds pointers, once for each of its elements.
+fn add_targets(items: &mut Vec<TypeNo>, ty: TypeNo, elements: u8) -> Result<(), AllocError>
+    ensures { OnOk result (items.new.items ≡ items.old.items ++ replicate elements ty) }
+{
+    for _ in 0..elements {
+        items.push(ty)?;
+    }
+    Ok(())
+}
+
+/// The types of the elements that hold pointers.
 fn targets_of(alloc: Global, scope: &Scope, members: &Members) -> Result<Targets, TypeFault>
     ensures { Answers (λ targets. targets) result (Ok (targets_of (scope_of scope.now) (members_of members.now).list)) }
 {
     let mut items = Vec::new(alloc);
     for member in members.list.values().as_slice() {
         if let Word::Named(name) = member.kind {
-            items.push(scope.number_of(name))?;
+            add_targets(
+                &mut items,
+                scope.number_of(name),
+                elements_of(member.elements),
+            )?;
         }
     }
     Ok(Targets::from_vec(items))
@@ -107,13 +135,19 @@ pub(crate) fn shape_of(
 }
 
 /// A field by its name.
-fn named_field(alloc: Global, name: &[u8], slot: SlotNo) -> Result<FieldName, TypeFault>
-    ensures ok { IfOk result (λ f. (f.name ≡ name.now) × (f.slot ≡ slot)) }
+fn named_field(
+    alloc: Global,
+    name: &[u8],
+    slot: SlotNo,
+    elements: Option<u8>,
+) -> Result<FieldName, TypeFault>
+    ensures ok { IfOk result (λ f. (f.name ≡ name.now) × (f.slot ≡ slot) × (f.elements ≡ elements)) }
     ensures err { IfErr result (λ e. e ≡ fault.Memory) }
 {
     Ok(FieldName {
         name: Text::from_vec(Vec::from_slice(alloc, name)?),
         slot,
+        elements,
     })
 }
 
@@ -128,8 +162,9 @@ pub(crate) fn names_of(
     let mut fields = Vec::new(alloc);
     let declared = members.list.values().as_slice();
     for (index, field) in members.list.keys().as_slice().iter().enumerate() {
-        let slot = members.slot(&declared[index]);
-        fields.push(named_field(alloc, field, slot)?)?;
+        let member = &declared[index];
+        let slot = members.slot(member);
+        fields.push(named_field(alloc, field, slot, member.elements)?)?;
     }
     Ok(TypeEntry {
         name: Text::from_vec(Vec::from_slice(alloc, name)?),

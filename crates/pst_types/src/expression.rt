@@ -4,13 +4,17 @@ ghost use Rattle.std.specs.Prelude.{◌≡◌, Ok};
 ghost use Rattle.pst_tree.specs.View.{expr_of};
 ghost use Rattle.pst_program.specs.View as typed_view;
 ghost use Rattle.pst_program.specs.Syntax as program;
-ghost use Rattle.pst_types.specs.Expressions.{same_sort, sort_of, null_of, in_parens, operand, object, field_loaded, named_value, null_beside, operation, equality, combined, judged, fits, fitted, of_sort};
-ghost use Rattle.pst_types.specs.View.{Answers, kind_word, setting_of, variable_of};
-ghost use Rattle.pst_types.specs.ExpressionView.{sort_seen, judged_of, object_of};
+ghost use Rattle.pst_types.specs.declared.fault.TypeFault.TheVariants as fault;
+ghost use Rattle.pst_types.specs.Answers.{and_then, found};
+ghost use Rattle.pst_types.specs.Names.{variable};
+ghost use Rattle.pst_types.specs.Expressions as expressions;
+ghost use Rattle.pst_types.specs.Expressions.{same_sort, sort_of, null_of, in_parens, operand, object, plain_field, array_field, field_loaded, element_loaded, named_value, null_beside, operation, equality, combined, judged, fits, fitted, of_sort};
+ghost use Rattle.pst_types.specs.View.{Answers, kind_word, slot_seen, setting_of};
+ghost use Rattle.pst_types.specs.ExpressionView.{sort_seen, judged_of, object_of, array_of};
 
 use crate::fault::TypeFault;
-use crate::names::{Setting, Target, Word};
-use pst_base::{Op, TypeNo};
+use crate::names::{Setting, Slot, Target, Word};
+use pst_base::{Op, SlotNo, TypeNo};
 use pst_program::Typed;
 use pst_tree::Expression;
 use std::alloc::Global;
@@ -66,7 +70,14 @@ fn null(alloc: Global, ty: TypeNo, expression: &Expression) -> Result<Typed, Typ
 {
     match expression {
         Expression::Parens(inner) => Ok(Typed::Parens(Box::new(alloc, null(alloc, ty, inner)?)?)),
-        _ => Ok(Typed::Null(ty)),
+        Expression::Number(_)
+        | Expression::Null
+        | Expression::Name(_)
+        | Expression::Field { .. }
+        | Expression::Indexed { .. }
+        | Expression::Negate(_)
+        | Expression::Not(_)
+        | Expression::Binary { .. } => Ok(Typed::Null(ty)),
     }
 }
 
@@ -106,13 +117,71 @@ pub(crate) fn as_object<'t>(line: u32, judged: Judged<'t>) -> Result<Object<'t>,
     }
 }
 
-/// A variable that stands in an expression.
-fn named_value<'t>(target: Target<'t>) -> Judged<'t>
-    ensures { judged_of result ≡ named_value (variable_of target.entry) }
+/// A name that stands in an expression.
+fn judge_name<'t>(
+    setting: &Setting<'_, 't>,
+    line: u32,
+    name: &[u8],
+) -> Result<Judged<'t>, TypeFault>
+    ensures { Answers judged_of result (found (variable (setting_of setting.now) name.now) (fault.Unknown line) (λ v. Ok (named_value v))) }
 {
-    match target {
-        Target::Local(local) => Judged::Known(Typed::Local(local.number), Sort::of(local.kind)),
-        Target::Root(root) => Judged::Known(Typed::Root(root.slot), Sort::of(root.kind)),
+    match setting.variable(name) {
+        None => Err(TypeFault::Unknown { line }),
+        Some(Target::Local(local)) => Ok(Judged::Known(
+            Typed::Local(local.number),
+            Sort::of(local.kind),
+        )),
+        Some(Target::Root(root)) => {
+            Ok(Judged::Known(Typed::Root(root.slot), Sort::of(root.kind)))
+        }
+    }
+}
+
+/// A field of the records of a type that is no array, by its name.
+pub(crate) fn plain_field<'t>(
+    setting: &Setting<'_, 't>,
+    line: u32,
+    ty: &[u8],
+    name: &[u8],
+) -> Result<Slot<'t>, TypeFault>
+    ensures { Answers slot_seen result (plain_field (setting_of setting.now) line ty.now name.now) }
+{
+    match setting.scope.field(ty, name) {
+        None => Err(TypeFault::Unknown { line }),
+        Some(field) => match field.elements {
+            None => Ok(field),
+            Some(_) => Err(TypeFault::Mismatch { line }),
+        },
+    }
+}
+
+/// An array: the slot of its first element, how many elements it has, and their type.
+#[derive(Clone, Copy, Debug)]
+pub(crate) struct Array<'t> {
+    pub(crate) slot: SlotNo,
+    pub(crate) elements: u8,
+    pub(crate) kind: Word<'t>,
+}
+
+/// A field of the records of a type that is an array, by its name.
+pub(crate) fn array_field<'t>(
+    setting: &Setting<'_, 't>,
+    line: u32,
+    ty: &[u8],
+    name: &[u8],
+) -> Result<Array<'t>, TypeFault>
+    ensures { Answers array_of result (array_field (setting_of setting.now) line ty.now name.now) }
+{
+    match setting.scope.field(ty, name) {
+        None => Err(TypeFault::Unknown { line }),
+        Some(field) => match field.elements {
+            None => Err(TypeFault::Mismatch { line }),
+            Some(elements) => Ok(Array {
+                slot: field.slot,
+                elements,
+                kind: field.kind,
+            }),
+        },
     }
 }
 
@@ -126,17 +195,55 @@ fn load<'t>(
 ) -> Result<Judged<'t>, TypeFault>
     ensures { Answers judged_of result (field_loaded (setting_of setting.now) line (object_of object.entry) name.now) }
 {
-    match setting.scope.field(object.ty, name) {
-        None => Err(TypeFault::Unknown { line }),
-        Some(field) => Ok(Judged::Known(
-            Typed::Load {
-                object: Box::new(alloc, object.pointer)?,
-                field: field.slot,
-                kind: setting.scope.kind_of(field.kind),
-            },
-            Sort::of(field.kind),
-        )),
-    }
+    let field = plain_field(setting, line, object.ty, name)?;
+    Ok(Judged::Known(
+        Typed::Load {
+            object: Box::new(alloc, object.pointer)?,
+            field: field.slot,
+            kind: setting.scope.kind_of(field.kind),
+        },
+        Sort::of(field.kind),
+    ))
+}
+
+/// An element of an array of an object.
+fn load_element<'t>(
+    alloc: Global,
+    setting: &Setting<'_, 't>,
+    line: u32,
+    object: Object<'t>,
+    array: Array<'t>,
+    index: Judged<'t>,
+) -> Result<Judged<'t>, TypeFault>
+    ensures { Answers judged_of result (element_loaded (setting_of setting.now) line (object_of object.entry) (array_of array.entry) (judged_of index.entry)) }
+{
+    let index = operand(line, Sort::Int, index)?;
+    Ok(Judged::Known(
+        Typed::LoadIndexed {
+            object: Box::new(alloc, object.pointer)?,
+            field: array.slot,
+            elements: array.elements,
+            index: Box::new(alloc, index)?,
+            kind: setting.scope.kind_of(array.kind),
+        },
+        Sort::of(array.kind),
+    ))
+}
+
+/// A number with its sign turned.
+fn negate<'t>(alloc: Global, line: u32, judged: Judged<'t>) -> Result<Judged<'t>, TypeFault>
+    ensures { Answers judged_of result (and_then (operand line expressions.Int (judged_of judged.entry)) (λ v. Ok (expressions.Known (program.Negate v) expressions.Int))) }
+{
+    let value = operand(line, Sort::Int, judged)?;
+    Ok(Judged::Known(Typed::Negate(Box::new(alloc, value)?), Sort::Int))
+}
+
+/// The other truth.
+fn invert<'t>(alloc: Global, line: u32, judged: Judged<'t>) -> Result<Judged<'t>, TypeFault>
+    ensures { Answers judged_of result (and_then (operand line expressions.Truth (judged_of judged.entry)) (λ v. Ok (expressions.Known (program.Not v) expressions.Truth))) }
+{
+    let value = operand(line, Sort::Truth, judged)?;
+    Ok(Judged::Known(Typed::Not(Box::new(alloc, value)?), Sort::Truth))
 }
 
 /// Two operands of one sort.
@@ -256,10 +363,7 @@ pub(crate) fn judge<'t>(
     match expression {
         Expression::Number(n) => Ok(Judged::Known(Typed::Number(*n), Sort::Int)),
         Expression::Null => Ok(Judged::Bare),
-        Expression::Name(name) => match setting.variable(name.as_slice()) {
-            None => Err(TypeFault::Unknown { line }),
-            Some(target) => Ok(named_value(target)),
-        },
+        Expression::Name(name) => judge_name(setting, line, name.as_slice()),
         Expression::Parens(inner) => in_parens(alloc, judge(alloc, setting, line, inner)?),
         Expression::Field {
             object: inner,
@@ -268,14 +372,18 @@ pub(crate) fn judge<'t>(
             let object = as_object(line, judge(alloc, setting, line, inner)?)?;
             load(alloc, setting, line, object, name.as_slice())
         }
-        Expression::Negate(inner) => {
-            let value = operand(line, Sort::Int, judge(alloc, setting, line, inner)?)?;
-            Ok(Judged::Known(Typed::Negate(Box::new(alloc, value)?), Sort::Int))
+        Expression::Indexed {
+            object: inner,
+            name,
+            index,
+        } => {
+            let object = as_object(line, judge(alloc, setting, line, inner)?)?;
+            let array = array_field(setting, line, object.ty, name.as_slice())?;
+            let index = judge(alloc, setting, line, index)?;
+            load_element(alloc, setting, line, object, array, index)
         }
-        Expression::Not(inner) => {
-            let value = operand(line, Sort::Truth, judge(alloc, setting, line, inner)?)?;
-            Ok(Judged::Known(Typed::Not(Box::new(alloc, value)?), Sort::Truth))
-        }
+        Expression::Negate(inner) => negate(alloc, line, judge(alloc, setting, line, inner)?),
+        Expression::Not(inner) => invert(alloc, line, judge(alloc, setting, line, inner)?),
         Expression::Binary { op, left, right } => {
             let first = judge(alloc, setting, line, left)?;
             let second = judge(alloc, setting, line, right)?;

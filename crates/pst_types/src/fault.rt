@@ -16,13 +16,14 @@ pub enum TypeFault {
     /// A name that is declared already.
     #[error("duplicate at {line}")]
     Duplicate { line: u32 },
-    /// A type that does not fit, or arguments that are too many or too few.
+    /// A type that does not fit, arguments that are too many or too few, an array without an index, or an index of a field
+    /// that is no array.
     #[error("mismatch at {line}")]
     Mismatch { line: u32 },
-    /// An in-degree limit that is not from 1 to 16.
+    /// An in-degree limit or a number of elements that is not from 1 to 16.
     #[error("limit at {line}")]
     Limit { line: u32 },
-    /// One more record type, root, procedure, field, parameter or local than there may be.
+    /// One more record type, root, procedure, field, parameter or local than there may be, or more than 64 elements.
     #[error("too many at {line}")]
     TooMany { line: u32 },
     /// A query that writes, or calls what may write.

@@ -19,5 +19,8 @@ mod statement;
 mod walks;
 
 pub use fault::TypeFault;
-pub use laws::{a_list_is_typed, accepted_programs_are_typed, first_faults_of_small_programs};
+pub use laws::{
+    a_list_is_typed, accepted_programs_are_typed, arrays_are_typed, first_faults_of_arrays,
+    first_faults_of_small_programs, texts_without_arrays_stay_so,
+};
 pub use walks::check;

@@ -4,11 +4,11 @@ ghost use Rattle.std.specs.Prelude.{◌≡◌, ◌+◌, OnOk, Bool};
 ghost use Rattle.std.specs.Option.{option_map};
 ghost use Rattle.pst_base.specs.Shape.{root_type};
 ghost use Rattle.pst_tree.specs.View.{type_word_of, field_of};
-ghost use Rattle.pst_types.specs.Names.{bounded, named, no_members, with_member, is_named, slot_in, slot_of, field_line, field_name, field_kind, with_new_member, nothing_declared, is_free, number_of, kind_of, is_known, field_named, variable};
+ghost use Rattle.pst_types.specs.Names.{bounded, array_length, is_length_of, length_in, elements_of, named, no_members, with_member, with_field, is_named, slot_in, slot_of, field_line, field_name, field_kind, field_elements, with_new_member, nothing_declared, is_free, number_of, kind_of, is_known, field_named, variable};
 ghost use Rattle.pst_types.specs.View.{kind_word, member_of, members_of, slot_seen, record_type_of, signature_of, scope_of, local_of, setting_of, variable_of};
 
 use indexmap::IndexMap;
-use pst_base::{Kind, ProcNo, SlotNo, TypeNo};
+use pst_base::{Kind, LONGEST_ARRAY, ProcNo, SlotNo, TypeNo};
 use pst_tree::{Field, Local, TypeName};
 use std::alloc::{AllocError, Global};
 
@@ -71,21 +71,74 @@ pub(crate) fn line_of(field: &Field) -> u32
     }
 }
 
-/// A field: its type, and how many fields of its sort stand before it.
+/// The number of elements that is written at a field.
+pub(crate) fn elements_at(field: &Field) -> Option<i64>
+    ensures { result ≡ field_elements (field_of field.now) }
+{
+    match field {
+        Field::Val { elements, .. } => *elements,
+        Field::Ptr { elements, .. } => *elements,
+    }
+}
+
+/// The number of elements of an array, if it is from 1 to 16.
+fn array_length(elements: i64) -> Option<u8>
+    ensures { result ≡ array_length elements }
+{
+    if (1..=i64::from(LONGEST_ARRAY)).contains(&elements) {
+        Some(elements as u8)
+    } else {
+        None
+    }
+}
+
+/// Whether a field can have the number of elements that is written, if one is.
+pub(crate) fn is_length(elements: Option<i64>) -> bool
+    ensures { result ≡ is_length_of elements }
+{
+    match elements {
+        None => true,
+        Some(elements) => array_length(elements).is_some(),
+    }
+}
+
+/// The number of elements of a field that is an array. A number that no array has counts as 1 until the program is
+/// refused for it.
+pub(crate) fn length_in(elements: Option<i64>) -> Option<u8>
+    ensures { result ≡ length_in elements }
+{
+    match elements {
+        None => None,
+        Some(elements) => Some(array_length(elements).unwrap_or(1)),
+    }
+}
+
+/// How many elements a field has: one, where it is no array.
+pub(crate) fn elements_of(elements: Option<u8>) -> u8
+    ensures { result ≡ elements_of elements }
+{
+    elements.unwrap_or(1)
+}
+
+/// A field: its type, how many elements it has where it is an array, and how many elements of its sort stand before it.
 #[derive(Clone, Copy, Debug)]
 pub(crate) struct Member<'t> {
     pub(crate) rank: u16,
     pub(crate) kind: Word<'t>,
+    pub(crate) elements: Option<u8>,
 }
 
-/// A field as a program reads and writes it.
+/// A field as a program reads and writes it: the slot of its first element, its type, and how many elements it has where
+/// it is an array.
 #[derive(Clone, Copy, Debug)]
 pub(crate) struct Slot<'t> {
     pub(crate) slot: SlotNo,
     pub(crate) kind: Word<'t>,
+    pub(crate) elements: Option<u8>,
 }
 
-/// The fields of a record type by name in the order of declaration, and how many hold a number and how many a pointer.
+/// The fields of a record type by name in the order of declaration, and how many elements hold a number and how many a
+/// pointer.
 #[derive(Debug, Drop)]
 pub(crate) struct Members<'t> {
     pub(crate) values: u16,
@@ -121,37 +174,65 @@ impl<'t> Members<'t> {
     }
 
     /// Adds a field whose name is new.
-    pub(crate) fn add(&mut self, name: &'t [u8], kind: Word<'t>) -> Result<(), AllocError>
+    pub(crate) fn add(
+        &mut self,
+        name: &'t [u8],
+        kind: Word<'t>,
+        elements: Option<u8>,
+    ) -> Result<(), AllocError>
         requires { is_named name.now (members_of self.old).list ≡ Bool.false }
-        ensures { OnOk result (members_of self.new ≡ with_member (members_of self.old) name.entry.now (kind_word kind.entry)) }
+        ensures { OnOk result (members_of self.new ≡ with_member (members_of self.old) name.entry.now (kind_word kind.entry) elements) }
     {
+        let count = u16::from(elements_of(elements));
         match kind {
             Word::Int => {
                 let rank = self.values;
-                self.list.insert(name, Member { rank, kind })?;
-                self.values = bounded_sum(self.values, 1);
+                self.list.insert(
+                    name,
+                    Member {
+                        rank,
+                        kind,
+                        elements,
+                    },
+                )?;
+                self.values = bounded_sum(self.values, count);
             }
             Word::Named(_) => {
                 let rank = self.pointers;
-                self.list.insert(name, Member { rank, kind })?;
-                self.pointers = bounded_sum(self.pointers, 1);
+                self.list.insert(
+                    name,
+                    Member {
+                        rank,
+                        kind,
+                        elements,
+                    },
+                )?;
+                self.pointers = bounded_sum(self.pointers, count);
             }
         }
         Ok(())
+    }
+
+    /// Adds a field whose name is new, as it is written.
+    pub(crate) fn add_field(&mut self, field: &'t Field) -> Result<(), AllocError>
+        requires { is_named (field_name (field_of field.now)) (members_of self.old).list ≡ Bool.false }
+        ensures { OnOk result (members_of self.new ≡ with_field (members_of self.old) (field_of field.entry.now)) }
+    {
+        let elements = length_in(elements_at(field));
+        self.add(name_of(field), Word::of_field(field), elements)
     }
 
     /// Adds a field if its name is new.
     pub(crate) fn add_new(&mut self, field: &'t Field) -> Result<(), AllocError>
         ensures { OnOk result (members_of self.new ≡ with_new_member (members_of self.old) (field_of field.entry.now)) }
     {
-        let name = name_of(field);
-        if self.has(name) {
+        if self.has(name_of(field)) {
             return Ok(());
         }
-        self.add(name, Word::of_field(field))
+        self.add_field(field)
     }
 
-    /// The slot of one of these fields.
+    /// The slot of the first element of one of these fields.
     pub(crate) fn slot(&self, member: &Member<'t>) -> SlotNo
         ensures { result.0 ≡ slot_of (members_of self.now) (member_of member.now) }
     {
@@ -170,6 +251,7 @@ impl<'t> Members<'t> {
             Some(member) => Some(Slot {
                 slot: self.slot(member),
                 kind: member.kind,
+                elements: member.elements,
             }),
         }
     }

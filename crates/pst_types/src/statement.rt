@@ -7,10 +7,10 @@ ghost use Rattle.pst_program.specs.View as typed_view;
 ghost use Rattle.pst_types.specs.Answers.{found};
 ghost use Rattle.pst_types.specs.declared.fault.TypeFault.TheVariants as fault;
 ghost use Rattle.pst_types.specs.Names.{named};
-ghost use Rattle.pst_types.specs.Statements.{assigned, stored, written, made, arguments, received, called, returned, statement, block};
+ghost use Rattle.pst_types.specs.Statements.{assigned, stored, element_stored, written, made, arguments, received, called, returned, statement, block};
 ghost use Rattle.pst_types.specs.View.{Answers, kind_word, setting_of, variable_of, signature_of};
 
-use crate::expression::{Sort, as_object, fit, judge, of_sort};
+use crate::expression::{Sort, array_field, as_object, fit, judge, of_sort, plain_field};
 use crate::fault::TypeFault;
 use crate::names::{Setting, Signature, Target, Word};
 use pst_base::Text;
@@ -45,7 +45,7 @@ fn assign<'t>(
     }
 }
 
-/// An assignment to a field.
+/// An assignment to a field that is no array.
 fn store(
     alloc: Global,
     setting: &Setting,
@@ -57,10 +57,7 @@ fn store(
     ensures { Answers typed_view.action_of result (stored (setting_of setting.now) line (tree_view.expr_of object.now) name.now (tree_view.expr_of value.now)) }
 {
     let object = as_object(line, judge(alloc, setting, line, object)?)?;
-    let field = match setting.scope.field(object.ty, name) {
-        None => return Err(TypeFault::Unknown { line }),
-        Some(field) => field,
-    };
+    let field = plain_field(setting, line, object.ty, name)?;
     if setting.query {
         return Err(TypeFault::QueryWrites { line });
     }
@@ -68,6 +65,33 @@ fn store(
         object: object.pointer,
         field: field.slot,
         value: fit(alloc, setting, line, field.kind, value)?,
+    })
+}
+
+/// An assignment to an element of an array.
+fn store_element(
+    alloc: Global,
+    setting: &Setting,
+    line: u32,
+    object: &Expression,
+    name: &[u8],
+    index: &Expression,
+    value: &Expression,
+) -> Result<TypedForm, TypeFault>
+    ensures { Answers typed_view.action_of result (element_stored (setting_of setting.now) line (tree_view.expr_of object.now) name.now (tree_view.expr_of index.now) (tree_view.expr_of value.now)) }
+{
+    let object = as_object(line, judge(alloc, setting, line, object)?)?;
+    let array = array_field(setting, line, object.ty, name)?;
+    if setting.query {
+        return Err(TypeFault::QueryWrites { line });
+    }
+    let index = of_sort(alloc, setting, line, Sort::Int, index)?;
+    Ok(TypedForm::StoreIndexed {
+        object: object.pointer,
+        field: array.slot,
+        elements: array.elements,
+        index,
+        value: fit(alloc, setting, line, array.kind, value)?,
     })
 }
 
@@ -89,7 +113,17 @@ fn write(
         Expression::Field { object, name } => {
             store(alloc, setting, line, object, name.as_slice(), value)
         }
-        _ => Err(TypeFault::Mismatch { line }),
+        Expression::Indexed {
+            object,
+            name,
+            index,
+        } => store_element(alloc, setting, line, object, name.as_slice(), index, value),
+        Expression::Number(_)
+        | Expression::Null
+        | Expression::Parens(_)
+        | Expression::Negate(_)
+        | Expression::Not(_)
+        | Expression::Binary { .. } => Err(TypeFault::Mismatch { line }),
     }
 }
 

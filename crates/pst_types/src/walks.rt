@@ -16,7 +16,7 @@ use crate::declaration::{judge_fields, lay_out, limit_of, names_of, shape_of};
 use crate::fault::TypeFault;
 use crate::names::{RecordType, Scope, Signature, Word};
 use crate::procedure::{ProcedureText, judge_procedure};
-use pst_base::{ProcNo, Shape, Text, TypeNo, TypeShape};
+use pst_base::{MOST_ROOTS, ProcNo, Shape, Text, TypeNo, TypeShape};
 use pst_program::{Program, TypeEntry, TypeNames, TypedProc, TypedProcs};
 use pst_tree::{Declaration, Fields, Tree, TypeName};
 use std::alloc::Global;
@@ -62,14 +62,14 @@ fn note_root<'t>(
 ) -> Result<(), TypeFault>
     ensures { Answers (λ _. scope_of scope.new) result (noted (scope_of scope.old) (tree.Root line name.now (tree_view.type_word_of kind.now))) }
 {
-    if scope.roots.list.len() >= 32 {
+    if scope.roots.list.len() >= MOST_ROOTS {
         return Err(TypeFault::TooMany { line });
     }
     let name = name.as_slice();
     if !scope.is_free(name) {
         return Err(TypeFault::Duplicate { line });
     }
-    scope.roots.add(name, Word::of_type(kind))?;
+    scope.roots.add(name, Word::of_type(kind), None)?;
     Ok(())
 }
 
@@ -247,13 +247,15 @@ fn judge_all<'t>(
     Ok(draft)
 }
 
-/// Both walks.
-fn walk(alloc: Global, declarations: &[Declaration]) -> Result<Program, TypeFault>
-    ensures { Answers program_of result (checked (map tree_view.item_of declarations.now)) }
+/// Both walks over the declarations of a program of this language.
+fn walk(alloc: Global, language: u8, declarations: &[Declaration]) -> Result<Program, TypeFault>
+    ensures answer { Answers program_of result (checked (map tree_view.item_of declarations.now)) }
+    ensures language { IfOk result (λ p. p.language ≡ language) }
 {
     let scope = gather(alloc, declarations)?;
     let draft = judge_all(alloc, &scope, declarations)?;
     Ok(Program {
+        language,
         shape: Shape::from_vec(draft.shape),
         names: TypeNames::from_vec(draft.names),
         procedures: TypedProcs {
@@ -265,7 +267,7 @@ fn walk(alloc: Global, declarations: &[Declaration]) -> Result<Program, TypeFaul
 /// Checks the types of a program whose expressions are no deeper than 64 and whose blocks are no deeper than 16, as in
 /// each tree that the parser gives. There are two walks over the declarations: the first notes the declared names, and
 /// the second judges each declaration with its statements. The first fault is the answer; without one it is the typed
-/// program.
+/// program, of the tree's language. The language changes nothing else: a tree of language 1 has no arrays.
 ///
 /// Names are found in constant time, so this takes time that is linear in the tree.
 ///
@@ -276,6 +278,7 @@ pub fn check(alloc: Global, tree: &Tree) -> Result<Program, TypeFault>
     requires { IsShallow (tree_view.items_of tree.now) }
     ensures answer { Answers program_of result (checked (tree_view.items_of tree.now)) }
     ensures typed { IfOk result (λ p. IsTyped (routines_of p)) }
+    ensures language { IfOk result (λ p. p.language ≡ tree.now.language) }
 {
-    walk(alloc, tree.declarations.items.as_slice())
+    walk(alloc, tree.language, tree.declarations.items.as_slice())
 }

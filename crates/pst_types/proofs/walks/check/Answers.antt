@@ -10,4 +10,4 @@ use Rattle.pst_types.proofs.walks.check.Goals as goal
 pub returns-clause-typed : goal.returns-clause-typed
 returns-clause-typed c =
     answered (tree_view.items_of c.args.tree.now) c.walk.result c.requires
-    (subst (λ (ds : List Declaration). Answers program_of c.walk.result (checked (map tree_view.item_of ds))) c.as_slice.ensures.value c.walk.ensures)
+    (subst (λ (ds : List Declaration). Answers program_of c.walk.result (checked (map tree_view.item_of ds))) c.as_slice.ensures.value c.walk.ensures.answer)
