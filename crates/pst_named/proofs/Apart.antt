@@ -92,9 +92,9 @@ module _ (items : List tree.Item) (typed : NamedProgram) (types : HasDeclaredTyp
   }
 
 pub named_apart : AcceptedAreNamedApart
-named_apart text items typed (read, accepted) =
-    types_apart items typed (types_declared items typed accepted) (records_apart items (declared_names text items read))
+named_apart text whole typed (read, accepted) =
+    types_apart whole.items typed (types_declared whole.items typed accepted) (records_apart whole.items (declared_names text whole read))
 
 pub dumps_tell : DumpsTellHeaps → DumpsOfAcceptedTellHeaps
-dumps_tell law text items typed accepted h g dump other first second d e short =
-    law typed.shape typed.names h g dump other first second (named_apart text items typed accepted) d e short
+dumps_tell law text whole typed accepted h g dump other first second d e short =
+    law typed.shape typed.names h g dump other first second (named_apart text whole typed accepted) d e short

@@ -1,8 +1,8 @@
 -- What holds of each token of a part of a program and of the tokens behind it, holds of those behind it.
-use Rattle.std.specs.Prelude.{List, [], ◌∷◌, Option, Some, None}
+use Rattle.std.specs.Prelude.{ℤ, List, [], ◌∷◌, Option, Some, None}
 use Rattle.std.specs.List.{AllByRecursion}
 use Rattle.pst_parse.specs.Lexemes.{Lexeme}
-use Rattle.pst_parse.specs.Spelling.{Expr, Number, Null, Name, Parens, Field, Negate, Not, Binary, spelled, each, after_comma, listed, Statement, New, Call, Result, Write, Print, If, Either, While, Return, Block, Empty, Then, spelled_statement, spelled_block, TypeText, Int, Named, spelled_type, FieldText, Val, Ptr, spelled_field, Parameter, spelled_parameter, Local, spelled_local, spelled_result}
+use Rattle.pst_parse.specs.Spelling.{Expr, Number, Null, Name, Parens, Field, Indexed, Negate, Not, Binary, spelled, each, after_comma, listed, Statement, New, Call, Result, Write, Print, If, Either, While, Return, Block, Empty, Then, spelled_statement, spelled_block, TypeText, Int, Named, spelled_type, spelled_count, FieldText, Val, Ptr, spelled_field, Parameter, spelled_parameter, Local, spelled_local, spelled_result, Opening, First, Second, spelled_opening}
 
 module _ (P : Lexeme → Type 0) where
   -- it holds of each
@@ -27,6 +27,7 @@ module _ (P : Lexeme → Type 0) where
   behind_expr (Name x) rest all = all.1
   behind_expr (Parens e) rest all = (behind_expr e _ all.1).1
   behind_expr (Field e x) rest all = (behind_expr e _ all).1.1
+  behind_expr (Indexed e x i) rest all = (behind_expr i _ (behind_expr e _ all).1.1.1).1
   behind_expr (Negate e) rest all = behind_expr e rest all.1
   behind_expr (Not e) rest all = behind_expr e rest all.1
   behind_expr (Binary op l r) rest all = behind_expr r rest (behind_expr l _ all).1
@@ -57,9 +58,13 @@ module _ (P : Lexeme → Type 0) where
   behind_type Int rest all = all.1
   behind_type (Named x) rest all = all.1
 
+  behind_count : (n : Option ℤ) (rest : List Lexeme) → Are (spelled_count n rest) → Are rest
+  behind_count None rest all = all
+  behind_count (Some v) rest all = all.1.1
+
   behind_field : (f : FieldText) (rest : List Lexeme) → Are (spelled_field f rest) → Are rest
-  behind_field (Val line x) rest all = all.1.1.1.1.1
-  behind_field (Ptr line x target) rest all = all.1.1.1.1.1
+  behind_field (Val line x n) rest all = (behind_count n _ all.1.1.1.1).1
+  behind_field (Ptr line x target n) rest all = (behind_count n _ all.1.1.1.1).1
 
   behind_parameter : (p : Parameter) (rest : List Lexeme) → Are (spelled_parameter p rest) → Are rest
   behind_parameter p rest all = behind_type p.kind rest all.1.1
@@ -81,3 +86,9 @@ module _ (P : Lexeme → Type 0) where
 
   pub behind_locals : (ls : List Local) (rest : List Lexeme) → Are (each spelled_local ls rest) → Are rest
   behind_locals ls rest all = behind_each spelled_local behind_local ls rest all
+
+  -- ---- a program
+
+  pub behind_opening : (o : Opening) (rest : List Lexeme) → Are (spelled_opening o rest) → Are rest
+  behind_opening First rest all = all
+  behind_opening (Second line) rest all = all.1.1

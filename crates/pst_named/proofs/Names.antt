@@ -1,5 +1,5 @@
 -- The names that a text declares are names.
-use Rattle.std.specs.Prelude.{ℕ, List, [], ◌∷◌, Option, Some, None}
+use Rattle.std.specs.Prelude.{ℕ, List, [], ◌∷◌, map, Option, Some, None}
 use Rattle.std.proofs.Common.{sym, subst}
 use Rattle.std.specs.List.{AllByRecursion}
 use Rattle.std.proofs.lemmas.List.Elements.{All-from_recursion}
@@ -12,10 +12,10 @@ use Rattle.pst_lex.specs.Words.{keyword_of, symbol_of, word_of}
 use Rattle.pst_lex.specs.Lexing.{IsName, IsWord, LexedTo}
 use Rattle.pst_tree.specs.Syntax as tree
 use Rattle.pst_parse.specs.Lexemes.{Lexeme, Name, Number, Operator, Plain, Leading, Unknown, marked, marked_if, lexeme_in, lexemes}
-use Rattle.pst_parse.specs.Spelling.{Item, Record, Root, Procedure, item, program, spelled_item, spelled_program}
+use Rattle.pst_parse.specs.Spelling.{Item, Record, Root, Procedure, item, spelled_item, each}
 use Rattle.pst_named.specs.Accepted.{declared_name}
 use Rattle.pst_named.specs.Laws.{DeclaredAreNames}
-use Rattle.pst_named.proofs.Behind.{behind_block, behind_type, behind_result, behind_fields, behind_parameters, behind_locals}
+use Rattle.pst_named.proofs.Behind.{behind_block, behind_type, behind_result, behind_fields, behind_parameters, behind_locals, behind_opening}
 
 -- ---- tokens
 
@@ -58,14 +58,14 @@ item_named (Procedure line query x parameters result locals body) rest all =
     let inside = (behind_result IsNamed result _ (behind_parameters IsNamed parameters _ all.1.1.1)).1 in
     (all.1.0, (behind_block IsNamed body _ (behind_locals IsNamed locals _ inside)).1)
 
-items_named : (p : List Item) (rest : List Lexeme) → AreNamed (spelled_program p rest) → AllByRecursion (λ i. IsName (declared_name i)) (program p)
+items_named : (p : List Item) (rest : List Lexeme) → AreNamed (each spelled_item p rest) → AllByRecursion (λ i. IsName (declared_name i)) (map item p)
 items_named [] rest all = tt
 items_named (i ∷ p) rest all =
-    let one = item_named i (spelled_program p rest) all in
+    let one = item_named i (each spelled_item p rest) all in
     (one.0, items_named p rest one.1)
 
 pub declared_names : DeclaredAreNames
-declared_names text items (tokens, lexed, (p, is, shallow, spells)) =
+declared_names text whole (tokens, lexed, (p, is, shallow, spells)) =
     let named = lexemes_named _ text 0 1 tokens.list lexed in
-    let all = items_named p [] (subst AreNamed (sym spells) named) in
-    All-from_recursion (λ i. IsName (declared_name i)) items (subst (λ (l : List tree.Item). AllByRecursion (λ i. IsName (declared_name i)) l) is all)
+    let all = items_named p.items [] (behind_opening IsNamed p.opening _ (subst AreNamed (sym spells) named)) in
+    All-from_recursion (λ i. IsName (declared_name i)) whole.items (subst (λ (t : tree.ProgramText). AllByRecursion (λ i. IsName (declared_name i)) t.items) is all)

@@ -6,6 +6,7 @@ use Rattle.std.proofs.lemmas.List.{map-append, append-nil}
 use Rattle.std.proofs.lemmas.List.Elements.{All-nil, All-cons, All-weaker}
 use Rattle.std.proofs.lemmas.List.Kept.{AllPairs-cons}
 use Rattle.std.proofs.lemmas.Slice.Eq.{bytes_eq-Decides}
+use Rattle.pst_base.specs.declared.shape.TheConstants.{MOST_ROOTS}
 use Rattle.pst_tree.specs.Syntax as tree
 use Rattle.pst_program.specs.declared.program.TypeEntry.{TypeEntry}
 use Rattle.pst_types.specs.declared.fault.TypeFault.{TypeFault}
@@ -87,9 +88,9 @@ are_noted s t (tree.Record line x limit fields ∷ items) e =
     let all = one_more s x r (record_names items) (free_type (is_named x s.types) _ passed.0) new rest.differ in
     record { new = all.0; differ = all.1 }
 are_noted s t (tree.Root line x kind ∷ items) e =
-    let next : Scope = record s { roots = with_member s.roots x kind } in
+    let next : Scope = record s { roots = with_member s.roots x kind None } in
     let first = after_first (noted s (tree.Root line x kind)) (λ now. through noted now items) t e in
-    let passed = after_two (nat_lt (length s.roots.list) 32) (is_free s x) (TooMany line) (Duplicate line) next first.0 first.1 in
+    let passed = after_two (nat_lt (length s.roots.list) MOST_ROOTS) (is_free s x) (TooMany line) (Duplicate line) next first.0 first.1 in
     let rest = are_noted first.0 t items first.2 in
     record { new = subst (λ (now : Scope). AreNew now.types (record_names items)) passed.1 rest.new; differ = rest.differ }
 are_noted s t (tree.Procedure p ∷ items) e =

@@ -6,17 +6,17 @@ use Rattle.pst_lex.specs.Lexing.{Lexes}
 use Rattle.pst_tree.specs.Syntax as tree
 use Rattle.pst_parse.specs.Lexemes.{lexemes}
 use Rattle.pst_parse.specs.Forms.{IsShallow}
-use Rattle.pst_parse.specs.Spelling.{Item, program}
+use Rattle.pst_parse.specs.Spelling.{Program, program}
 use Rattle.pst_parse.specs.Grammar.{Spells}
 use Rattle.pst_types.specs.Declarations.{NamedProgram, root_type_name, checked}
 
 -- the text has tokens, and they are those of a program with this tree, which keeps the limits of depth
-abbrev pub HasTree : List ℕ → List tree.Item → Type 0
-HasTree text items = (tokens : Tokens) × Lexes text tokens.list tokens.end × ((p : List Item) × (program p ≡ items) × IsShallow 63 15 items × Spells (lexemes tokens.list) p)
+abbrev pub HasTree : List ℕ → tree.ProgramText → Type 0
+HasTree text whole = (tokens : Tokens) × Lexes text tokens.list tokens.end × ((p : Program) × (program p ≡ whole) × IsShallow 63 15 whole × Spells (lexemes tokens.list) p)
 
 -- the text has this tree, and typing accepts it as this program
-abbrev pub IsAcceptedAs : List ℕ → List tree.Item → NamedProgram → Type 0
-IsAcceptedAs text items typed = HasTree text items × (checked items ≡ Ok typed)
+abbrev pub IsAcceptedAs : List ℕ → tree.ProgramText → NamedProgram → Type 0
+IsAcceptedAs text whole typed = HasTree text whole × (checked whole.items ≡ Ok typed)
 
 -- ---- names
 

@@ -11,7 +11,7 @@ use Rattle.pst_named.specs.Accepted.{HasTree, IsAcceptedAs, declared_name, HasDe
 
 -- what a text declares has a name: letters, digits and `_`, and no keyword
 abbrev pub DeclaredAreNames : Type 0
-DeclaredAreNames = (text : List ℕ) (items : List tree.Item) → HasTree text items → All (λ item. IsName (declared_name item)) items
+DeclaredAreNames = (text : List ℕ) (whole : tree.ProgramText) → HasTree text whole → All (λ item. IsName (declared_name item)) whole.items
 
 -- the record types of a typed program are those that its tree declares, whatever text it comes from
 abbrev pub TypesAreDeclared : Type 0
@@ -19,10 +19,10 @@ TypesAreDeclared = (items : List tree.Item) (typed : NamedProgram) → checked i
 
 -- so each record type of an accepted program has a name of its own, in which no colon stands
 abbrev pub AcceptedAreNamedApart : Type 0
-AcceptedAreNamedApart = (text : List ℕ) (items : List tree.Item) (typed : NamedProgram) → IsAcceptedAs text items typed → AreNamedApart typed.shape typed.names
+AcceptedAreNamedApart = (text : List ℕ) (whole : tree.ProgramText) (typed : NamedProgram) → IsAcceptedAs text whole typed → AreNamedApart typed.shape typed.names
 
 -- and dumps below 2^64 bytes of two heaps of it are equal exactly where one heap is the other one with its records renamed
 abbrev pub DumpsOfAcceptedTellHeaps : Type 0
-DumpsOfAcceptedTellHeaps = (text : List ℕ) (items : List tree.Item) (typed : NamedProgram) → IsAcceptedAs text items typed
+DumpsOfAcceptedTellHeaps = (text : List ℕ) (whole : tree.ProgramText) (typed : NamedProgram) → IsAcceptedAs text whole typed
     → (h g : Heap) (dump other : List ℕ) → IsHeapOf typed.shape h → IsHeapOf typed.shape g → IsDump typed.names h dump → IsDump typed.names g other → length dump < 2 ^ 64
     → (dump ≡ other) ↔ ((to : Name → Name) × IsRenaming h g to)
