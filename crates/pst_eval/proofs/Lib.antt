@@ -1,3 +1,4 @@
 pub mod Ready
 pub mod Blocks
 pub mod Loops
+pub mod Elements

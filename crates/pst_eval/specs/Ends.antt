@@ -2,6 +2,7 @@
 use Rattle.std.specs.Prelude.{◌≡◌, ◌^◌, ℕ, ◌+◌, ◌<◌, ℤ, List, [], ◌∷◌, ◌++◌, map, max, slice_get, Bool, true, false, Option, Some, None, Result, Ok, Err}
 use Rattle.std.specs.declared.vec.Vec.{Vec}
 use Rattle.std.specs.declared.alloc.Global.{Global}
+use Rattle.pst_base.specs.declared.names.Name.{Name}
 use Rattle.pst_base.specs.declared.names.TrapKind.{TrapKind}
 use Rattle.pst_base.specs.declared.names.TrapKind.TheVariants.{Overflow}
 use Rattle.pst_base.specs.declared.shape.TypeShape.{TypeShape}
@@ -13,10 +14,11 @@ use Rattle.pst_program.specs.declared.program.Program.{Program}
 use Rattle.pst_program.specs.declared.program.TypedProc.{TypedProc}
 use Rattle.pst_program.specs.declared.meaning.Value.{Value}
 use Rattle.pst_program.specs.declared.meaning.Value.TheVariants.{Number as ANumber}
-use Rattle.pst_program.specs.Syntax.{Expr}
-use Rattle.pst_program.specs.Value.{Env, Answer, Gives, Traps}
+use Rattle.pst_program.specs.Syntax as syntax
+use Rattle.pst_program.specs.Syntax.{Expr, Action}
+use Rattle.pst_program.specs.Value.{Env, Answer, Gives, Traps, value}
 use Rattle.pst_program.specs.Sound.{NamesAreFree}
-use Rattle.pst_program.specs.Meaning.{World, Ending, Normal, Returned, Trapped, Spent, Answers, Gives_all, Traps_at, Calls, call, call_with, exec, exec_action, turns, run_body, if_else}
+use Rattle.pst_program.specs.Meaning.{World, Ending, Normal, Returned, Trapped, Spent, Answers, Gives_all, Traps_at, Calls, call, call_with, exec, exec_action, turns, run_body, if_else, with_index, with_answer, write}
 use Rattle.pst_program.specs.View.{expr_of, action_of, actions_of, routines_of}
 use Rattle.pst_eval.specs.declared.tally.Tally.{Tally}
 use Rattle.pst_eval.specs.declared.tally.End.{End}
@@ -64,6 +66,25 @@ goes_on (Err end) first other env w = ending_of end env w
 -- a condition decides what follows, whatever follows either way
 abbrev pub Chooses : List TypeShape → Expr → (line : ℕ) → Env → World → Result Bool End → World → Type 0
 Chooses shape e line env old result new = (first other : Env → World → Ending) → if_else shape e first other line env old ≡ goes_on result first other env new
+
+-- a statement that holds no other and calls nothing
+abbrev pub IsSimple : Action → Type 0
+IsSimple (syntax.Set x e) = Unit {0}
+IsSimple (syntax.SetRoot slot e) = Unit {0}
+IsSimple (syntax.Store o slot e) = Unit {0}
+IsSimple (syntax.StoreIndexed o slot elements i e) = Unit {0}
+IsSimple (syntax.New x ty) = Unit {0}
+IsSimple (syntax.Print e) = Unit {0}
+IsSimple (syntax.Return e) = Unit {0}
+IsSimple (syntax.Call x p es) = ⊥
+IsSimple (syntax.If e first) = ⊥
+IsSimple (syntax.Either e first other) = ⊥
+IsSimple (syntax.While e body) = ⊥
+
+-- a write of the element with an index, if it is one, of a record: the value of an expression is evaluated and written
+abbrev pub element_written : List TypeShape → Name → (slot : ℕ) → (index : Option ℕ) → Expr → (line : ℕ) → Env → World → Ending
+element_written shape n slot index e line env w =
+    with_index index line w (λ k. with_answer (value shape e env w.heap) line w (λ v. write shape n (slot + k) v line env w))
 
 -- the counts have room for so many charges more
 pub record HasRoom (charges : ℕ) (t : Tally) : Type 0 where

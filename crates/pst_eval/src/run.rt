@@ -7,7 +7,7 @@ ghost use Rattle.pst_program.specs.Meaning.{after_call};
 ghost use Rattle.pst_eval.specs.Ends.{ending_of, world_of, deepest, IsAtWork, calls_in, block_end, statement_end, called_end, loop_end, body_end};
 
 use crate::call::{after, arguments, default_result, first_env, procedure_at};
-use crate::steps::{condition, give_back, make, print, set_local, set_root, store_field};
+use crate::steps::{holds, step};
 use crate::tally::{End, Tally};
 use pst_base::{NoMemory, TrapKind};
 use pst_heap::PlainHeap;
@@ -58,21 +58,14 @@ fn run_statement(
 {
     let line = statement.line;
     match &statement.form {
-        TypedForm::Set { local, value } => Ok(set_local(*local, value, line, env, heap, tally)),
-        TypedForm::SetRoot { field, value } => Ok(set_root(*field, value, line, env, heap, tally)),
-        TypedForm::Store {
-            object,
-            field,
-            value,
-        } => Ok(store_field(object, *field, value, line, env, heap, tally)),
-        TypedForm::New { local, ty } => make(*local, *ty, line, env, heap, tally),
-        TypedForm::Print(e) => print(e, line, env, heap, tally),
-        TypedForm::Return(e) => Ok(give_back(e, line, env, heap, tally)),
-        TypedForm::If {
-            condition: e,
-            yes,
-            no,
-        } => match condition(e, line, env, heap, tally) {
+        TypedForm::Set { .. }
+        | TypedForm::SetRoot { .. }
+        | TypedForm::Store { .. }
+        | TypedForm::StoreIndexed { .. }
+        | TypedForm::New { .. }
+        | TypedForm::Print(_)
+        | TypedForm::Return(_) => step(&statement.form, line, env, heap, tally),
+        TypedForm::If { condition, yes, no } => match holds(condition, line, env, heap, tally) {
             Err(end) => Ok(end),
             Ok(true) => run_block(alloc, program, deep, yes, env, heap, tally),
             Ok(false) => match no {
@@ -152,7 +145,7 @@ fn run_while(
     ensures fewer { OnOk result (tally.new.charges ≤ tally.old.charges) }
 {
     loop {
-        match condition(e, line, env, heap, tally) {
+        match holds(e, line, env, heap, tally) {
             Err(end) => return Ok(end),
             Ok(true) => {}
             Ok(false) => return Ok(End::Normal),

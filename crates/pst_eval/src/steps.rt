@@ -3,19 +3,58 @@
 ghost use Rattle.std.specs.Prelude.{◌≡◌, ◌+◌, ◌≤◌, ◌<◌, List, IfOk, OnOk, slice_set};
 ghost use Rattle.std.specs.Option.{option_map};
 ghost use Rattle.pst_program.specs.declared.meaning.Value.{Value};
-ghost use Rattle.pst_program.specs.Meaning.{World, Ending, set_local, set_root, store_field, make, print_value, return_value, is_target};
-ghost use Rattle.pst_program.specs.View.{expr_of};
-ghost use Rattle.pst_eval.specs.Ends.{Chooses, ending_of, world_of, IsAtWork};
+ghost use Rattle.pst_program.specs.Meaning.{World, Ending, Calls, exec_action, set_local, set_root, store_field, store_element, make, print_value, return_value, is_target};
+ghost use Rattle.pst_program.specs.View.{expr_of, action_of};
+ghost use Rattle.pst_eval.specs.Ends.{Chooses, ending_of, world_of, element_written, IsSimple, IsAtWork, IsCharged};
 
 use crate::tally::{End, Tally};
-use crate::value::{number, value};
+use crate::value::{element_slot, index_of, number, value};
 use crate::write::write;
-use pst_base::{NoMemory, ROOT, SlotNo, TrapKind, TypeNo, TypeShape};
+use pst_base::{Name, NoMemory, ROOT, SlotNo, TrapKind, TypeNo, TypeShape};
 use pst_heap::PlainHeap;
-use pst_program::{MOST_PRINTED, Typed, Value};
+use pst_program::{MOST_PRINTED, Typed, TypedForm, Value};
+
+/// Carries out a statement that holds no other and calls nothing.
+pub fn step(
+    form: &TypedForm,
+    line: u32,
+    env: &mut Vec<Value>,
+    heap: &mut PlainHeap,
+    tally: &mut Tally,
+) -> Result<End, NoMemory>
+    requires simple { IsSimple (action_of form.now) }
+    requires ready { IsAtWork heap.old.shape heap.old tally.old }
+    ensures meaning { IfOk result (λ end. (calls : Calls) → ending_of end env.new.items (world_of heap.new tally.new) ≡ exec_action heap.old.shape calls (action_of form.now) line env.old.items (world_of heap.old tally.old)) }
+    ensures ready { OnOk result (IsAtWork heap.old.shape heap.new tally.new) }
+    ensures fewer { OnOk result (tally.new.charges ≤ tally.old.charges) }
+{
+    match form {
+        TypedForm::Set { local, value } => Ok(set_local(*local, value, line, env, heap, tally)),
+        TypedForm::SetRoot { field, value } => Ok(set_root(*field, value, line, env, heap, tally)),
+        TypedForm::Store {
+            object,
+            field,
+            value,
+        } => Ok(store_field(object, *field, value, line, env, heap, tally)),
+        TypedForm::StoreIndexed {
+            object,
+            field,
+            elements,
+            index,
+            value,
+        } => Ok(store_element(
+            object, *field, *elements, index, value, line, env, heap, tally,
+        )),
+        TypedForm::New { local, ty } => make(*local, *ty, line, env, heap, tally),
+        TypedForm::Print(e) => print(e, line, env, heap, tally),
+        TypedForm::Return(e) => Ok(give_back(e, line, env, heap, tally)),
+        // These hold others, or call.
+        TypedForm::If { .. } | TypedForm::While { .. } | TypedForm::Call { .. } => unreachable!(),
+    }
+}
 
 /// `x = e;` with a local.
-pub fn set_local(
+fn set_local(
     x: u16,
     e: &Typed,
     line: u32,
@@ -50,7 +89,7 @@ pub fn set_at(values: &mut Vec<Value>, at: usize, v: Value)
 }
 
 /// `g = e;` with a root.
-pub fn set_root(
+fn set_root(
     slot: SlotNo,
     e: &Typed,
     line: u32,
@@ -73,7 +112,7 @@ pub fn set_root(
 }
 
 /// `o.f = e;`, where null traps before `e` is evaluated.
-pub fn store_field(
+fn store_field(
     object: &Typed,
     slot: SlotNo,
     e: &Typed,
@@ -100,8 +139,67 @@ pub fn store_field(
     }
 }
 
+/// `o.f(i) = e;`, where null traps before `i` is evaluated: the slot of the array's first element, and how many there are.
+fn store_element(
+    object: &Typed,
+    slot: SlotNo,
+    elements: u8,
+    index: &Typed,
+    e: &Typed,
+    line: u32,
+    env: &[Value],
+    heap: &mut PlainHeap,
+    tally: &mut Tally,
+) -> End
+    requires ready { IsAtWork heap.old.shape heap.old tally.old }
+    ensures meaning { ending_of result env.now (world_of heap.new tally.new) ≡ store_element heap.old.shape (expr_of object.now) slot.0 elements (expr_of index.now) (expr_of e.now) line env.now (world_of heap.old tally.old) }
+    ensures ready { IsAtWork heap.old.shape heap.new tally.new }
+    ensures fewer { tally.new.charges ≤ tally.old.charges }
+{
+    if !tally.charge() {
+        return End::Spent(line);
+    }
+    match value(object, env, heap) {
+        Err(trap) => End::Trap(trap, line),
+        Ok(Value::Record(name)) => match value(index, env, heap) {
+            Err(trap) => End::Trap(trap, line),
+            Ok(index) => {
+                let index = index_of(elements, number(index));
+                write_element(name, slot, index, e, line, env, heap, tally)
+            }
+        },
+        _ => End::Trap(TrapKind::Null, line),
+    }
+}
+
+/// Writes an element of a record, whose charge was taken. A number that is no index traps before `e` is evaluated.
+fn write_element(
+    name: Name,
+    slot: SlotNo,
+    index: Option<u8>,
+    e: &Typed,
+    line: u32,
+    env: &[Value],
+    heap: &mut PlainHeap,
+    tally: &mut Tally,
+) -> End
+    requires ready { IsCharged heap.old.shape heap.old tally.old }
+    ensures meaning { ending_of result env.now (world_of heap.new tally.new) ≡ element_written heap.old.shape name slot.0 index (expr_of e.now) line env.now (world_of heap.old tally.old) }
+    ensures ready { IsAtWork heap.old.shape heap.new tally.new }
+    ensures same_charges { tally.new.charges ≡ tally.old.charges }
+{
+    heap.known();
+    match index {
+        None => End::Trap(TrapKind::Index, line),
+        Some(index) => match value(e, env, heap) {
+            Err(trap) => End::Trap(trap, line),
+            Ok(v) => write(name, element_slot(slot, index), v, line, heap, tally),
+        },
+    }
+}
+
 /// `x = new T;`.
-pub fn make(
+fn make(
     x: u16,
     ty: TypeNo,
     line: u32,
@@ -136,7 +234,7 @@ fn is_target(shape: &[TypeShape], ty: TypeNo) -> bool
 }
 
 /// `print e;`.
-pub fn print(
+fn print(
     e: &Typed,
     line: u32,
     env: &[Value],
@@ -164,7 +262,7 @@ pub fn print(
 }
 
 /// `return;` or `return e;`.
-pub fn give_back(
+fn give_back(
     e: &Option<Typed>,
     line: u32,
     env: &[Value],
@@ -188,8 +286,8 @@ pub fn give_back(
     }
 }
 
-/// Takes a charge and evaluates a condition; an end, where there is no charge or a trap.
-pub fn condition(
+/// Takes a charge and tells whether a condition holds; an end, where there is no charge or a trap.
+pub fn holds(
     e: &Typed,
     line: u32,
     env: &[Value],

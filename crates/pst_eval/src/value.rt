@@ -1,8 +1,8 @@
 //! The value of an expression.
 
-ghost use Rattle.std.specs.Prelude.{◌≡◌, slice_index_or};
+ghost use Rattle.std.specs.Prelude.{◌≡◌, ◌+◌, ◌-◌, ◌^◌, min, slice_index_or};
 ghost use Rattle.pst_base.specs.Heap.{kind_in};
-ghost use Rattle.pst_program.specs.Value.{number_of, truth_of, same_value, operate, decides, content, load, value as value_of};
+ghost use Rattle.pst_program.specs.Value.{number_of, truth_of, same_value, operate, decides, content, load, object_of, index_of, load_element, value as value_of};
 ghost use Rattle.pst_program.specs.View.{expr_of};
 ghost use Rattle.pst_eval.specs.Ends.{answer_of, given_of};
 
@@ -20,18 +20,22 @@ pub fn value(e: &Typed, env: &[Value], heap: &PlainHeap) -> Result<Value, TrapKi
         Typed::Local(x) => Ok(local_at(env, *x)),
         Typed::Root(slot) => Ok(content(heap, ROOT, *slot)),
         Typed::Parens(inner) => value(inner, env, heap),
-        Typed::Load {
-            object,
-            field,
-            kind: _,
-        } => {
+        Typed::Load { object, field, .. } => {
             let object = value(object, env, heap)?;
             load(heap, object, *field)
         }
-        Typed::Negate(operand) => {
-            let v = value(operand, env, heap)?;
-            limited(number(v).checked_neg())
+        Typed::LoadIndexed {
+            object,
+            field,
+            elements,
+            index,
+            ..
+        } => {
+            let object = object_of(value(object, env, heap)?)?;
+            let index = value(index, env, heap)?;
+            load_element(heap, object, *field, index_of(*elements, number(index)))
         }
+        Typed::Negate(operand) => limited(number(value(operand, env, heap)?).checked_neg()),
         Typed::Not(operand) => {
             let v = value(operand, env, heap)?;
             Ok(Value::Truth(!truth(v)))
@@ -77,6 +81,50 @@ fn load(heap: &PlainHeap, object: Value, slot: SlotNo) -> Result<Value, TrapKind
     match object {
         Value::Record(name) => Ok(content(heap, name, slot)),
         _ => Err(TrapKind::Null),
+    }
+}
+
+/// A record; null traps.
+fn object_of(v: Value) -> Result<Value, TrapKind>
+    ensures { answer_of result ≡ object_of v }
+{
+    match v {
+        Value::Record(_) => Ok(v),
+        _ => Err(TrapKind::Null),
+    }
+}
+
+/// Which of so many elements a number is the index of.
+pub fn index_of(elements: u8, n: i64) -> Option<u8>
+    ensures { result ≡ index_of elements n }
+{
+    if n < 0 || n >= i64::from(elements) {
+        return None;
+    }
+    Some(n as u8)
+}
+
+/// The slot of an element of an array: that of the first one, and its index further on. No record has the greatest slot, nor
+/// one behind it, so that stands for each.
+pub fn element_slot(slot: SlotNo, index: u8) -> SlotNo
+    ensures { result.0 ≡ min (slot.0 + index) (2 ^ 16 - 1) }
+{
+    SlotNo(slot.0.saturating_add(u16::from(index)))
+}
+
+/// An element of an array of the record that a value is: the slot of the first one, and the index if it is one.
+fn load_element(
+    heap: &PlainHeap,
+    object: Value,
+    slot: SlotNo,
+    index: Option<u8>,
+) -> Result<Value, TrapKind>
+    ensures { answer_of result ≡ load_element heap.now.shape heap.now.heap slot.0 index object }
+{
+    heap.known();
+    match index {
+        None => Err(TrapKind::Index),
+        Some(index) => load(heap, object, element_slot(slot, index)),
     }
 }
 

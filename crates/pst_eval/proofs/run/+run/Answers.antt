@@ -48,12 +48,12 @@ run_call-returns-clause-meaning t c =
 pub run_while-returns-in-Err-clause-meaning : goal.run_while-returns-in-Err-clause-meaning
 run_while-returns-in-Err-clause-meaning t c =
     turned c.loop-end.invariant.rest.0 _ _ _ _ _ _ _ (Err c.in-Err.end) _ c.loop-end.invariant.rest.1 c.loop-end.invariant.rest.2
-    (shown c.args.program.now.shape c.loop-end.heap.shape (expr_of c.args.e.now) c.args.line c.loop-end.env.items c.deref.result.now (world_of c.loop-end.heap c.loop-end.tally) (world_of c.loop-end.heap c.condition.new.tally) (Err c.in-Err.end) c.loop-end.invariant.ready.shaped c.deref.ensures.value c.in-Err.ensures.meaning)
+    (shown c.args.program.now.shape c.loop-end.heap.shape (expr_of c.args.e.now) c.args.line c.loop-end.env.items c.deref.result.now (world_of c.loop-end.heap c.loop-end.tally) (world_of c.loop-end.heap c.holds.new.tally) (Err c.in-Err.end) c.loop-end.invariant.ready.shaped c.deref.ensures.value c.in-Err.ensures.meaning)
 
 pub run_while-returns-in_default : goal.run_while-returns-in_default
 run_while-returns-in_default t c = record {
   meaning = over c.loop-end.invariant.rest.0 _ _ _ _ _ _ _ _ _ _ _ _ c.in-Ok-true.field-0-test c.loop-end.invariant.rest.1 c.loop-end.invariant.rest.2
-      (shown c.args.program.now.shape c.loop-end.heap.shape (expr_of c.args.e.now) c.args.line c.loop-end.env.items c.deref.result.now (world_of c.loop-end.heap c.loop-end.tally) (world_of c.loop-end.heap c.condition.new.tally) (Ok c.in-Ok-true.field-0) c.loop-end.invariant.ready.shaped c.deref.ensures.value c.in-Ok-true.ensures.meaning) c.in_ok-end.ensures.meaning c.in_default.not-Normal;
+      (shown c.args.program.now.shape c.loop-end.heap.shape (expr_of c.args.e.now) c.args.line c.loop-end.env.items c.deref.result.now (world_of c.loop-end.heap c.loop-end.tally) (world_of c.loop-end.heap c.holds.new.tally) (Ok c.in-Ok-true.field-0) c.loop-end.invariant.ready.shaped c.deref.ensures.value c.in-Ok-true.ensures.meaning) c.in_ok-end.ensures.meaning c.in_default.not-Normal;
   ready = c.in_ok-end.ensures.ready;
   fewer = omega (arith, c.in_ok-end.ensures.fewer, c.in-Ok-true.ensures.no_more, c.loop-end.invariant.fewer);
 }
