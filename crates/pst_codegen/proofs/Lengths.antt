@@ -1,10 +1,10 @@
 -- The code of an operand is as long as its size says.
-use Rattle.std.proofs.Common.{◌≡◌, ℕ, ◌+◌, List, [], ◌∷◌, ◌++◌, length, refl, ap, ◌∙◌, length-append}
+use Rattle.std.proofs.Common.{◌≡◌, ℕ, ◌+◌, List, [], ◌∷◌, ◌++◌, length, refl, ap, ◌∙◌, arith, length-append}
 use Rattle.pst_base.specs.declared.names.Kind.TheVariants.{Int}
 use Rattle.pst_base.specs.declared.names.Op.{Op}
 use Rattle.pst_base.specs.declared.names.Op.TheVariants.{Add, Sub, Mul, Div, Rem, Equal, NotEqual, Less, LessEqual, Greater, GreaterEqual, And, Or}
 use Rattle.pst_base.specs.declared.shape.TypeShape.{TypeShape}
-use Rattle.pst_program.specs.Syntax.{Expr, Number, Null, Local, Root, Parens, Load, Negate, Not, Binary}
+use Rattle.pst_program.specs.Syntax.{Expr, Number, Null, Local, Root, Parens, Load, LoadIndexed, Negate, Not, Binary}
 use Rattle.pst_code.specs.declared.instr.Reg.{Reg}
 use Rattle.pst_code.specs.declared.instr.Instr.{Instr}
 use Rattle.pst_code.specs.declared.instr.Instr.TheVariants as code
@@ -34,6 +34,14 @@ expr_length shape temp (Root slot) k = refl
 expr_length shape temp (Parens e) k = expr_length shape temp e k
 expr_length shape temp (Load e slot kind) k =
     length-append (expr_code shape temp e k) (code.Load (temp k kind) (register shape temp e k) (slot_no slot) ∷ []) ∙ ap (λ n. n + 1) (expr_length shape temp e k)
+expr_length shape temp (LoadIndexed e slot elements i kind) k =
+    let first : List Instr = expr_code shape temp e k in
+    let index : List Instr = expr_code shape temp i (k + 1) in
+    let check : Instr = code.Check (register shape temp e k) in
+    let last : List Instr = code.Loadx (temp k kind) (register shape temp e k) (slot_no slot) elements (register shape temp i (k + 1)) ∷ [] in
+    let whole : length (first ++ (check ∷ (index ++ last))) ≡ length first + length (check ∷ (index ++ last)) = length-append first (check ∷ (index ++ last)) in
+    let behind : length (index ++ last) ≡ length index + length last = length-append index last in
+    omega (arith, whole, behind, expr_length shape temp e k, expr_length shape temp i (k + 1))
 expr_length shape temp (Negate e) k =
     length-append (expr_code shape temp e k) (code.Neg (temp k (Int)) (register shape temp e k) ∷ []) ∙ ap (λ n. n + 1) (expr_length shape temp e k)
 expr_length shape temp (Not e) k = refl

@@ -10,7 +10,7 @@ use Rattle.pst_base.specs.declared.names.Op.{Op}
 use Rattle.pst_base.specs.declared.names.Op.TheVariants as op
 use Rattle.pst_base.specs.declared.shape.TypeShape.{TypeShape}
 use Rattle.pst_program.specs.Syntax as syntax
-use Rattle.pst_program.specs.Syntax.{Expr, Action, Actions, Number, Null, Local, Root, Parens, Load, Negate, Not, Binary, Set, SetRoot, Store, New, Call, Print, If, Either, While, Return, Empty, Then, Routines}
+use Rattle.pst_program.specs.Syntax.{Expr, Action, Actions, Number, Null, Local, Root, Parens, Load, LoadIndexed, Negate, Not, Binary, Set, SetRoot, Store, StoreIndexed, New, Call, Print, If, Either, While, Return, Empty, Then, Routines}
 use Rattle.pst_program.specs.Typed as typed
 use Rattle.pst_program.specs.Typed.{Sort, Of, Truth, root_kind, sort_of, depth, deepest, action_depth, block_depth, IsTyped, IsTypedProcedure, IsTypedAction, IsTypedBlock}
 use Rattle.pst_program.proofs.Soundness.{given_some}
@@ -19,7 +19,7 @@ use Rattle.pst_compiled.specs.declared.need.Need.{Need}
 use Rattle.pst_compiled.specs.Needs.{need, expr_needs, test_needs, arguments_needs, return_needs, action_needs, block_needs, end_needs, table_of}
 use Rattle.pst_compiled.proofs.Valid.{few_registers}
 use Rattle.pst_compiled.proofs.ValidLists.{all_front, all_back}
-use Rattle.pst_compiled.proofs.ValidSorts.{of_truth, FieldOf, field_is, load_kind, negated, no_not, denied, Operands, number_operands, and_operands, or_operands, is_logical, Compared, compared_operands}
+use Rattle.pst_compiled.proofs.ValidSorts.{of_truth, FieldOf, field_is, ArrayOf, array_is, load_kind, element_kind, negated, no_not, denied, Operands, number_operands, and_operands, or_operands, is_logical, Compared, compared_operands}
 use Rattle.pst_compiled.proofs.ValidActions.{Put, put}
 use Rattle.pst_compiled.proofs.ValidTables.{noted_covers}
 use Rattle.pst_codegen.specs.Ready.{Has, HasAll, HasNoted, HasEnd, IsOperand, IsTest, AreArguments, IsResult, IsReady, AreReady, IsReadyProcedure}
@@ -48,6 +48,15 @@ module _ (shape : List TypeShape) (kinds : List Kind) (has : Has) where
   operand (Load e slot kind') k kind s d h =
       let f : FieldOf shape (sort e) slot kind' = (load_kind shape kinds e slot kind' kind s).0 in
       (operand e k (Pointer f.ty) f.object (omega (arith, d)) (front (expr_needs shape e k) (need k kind' ∷ []) h), (back (expr_needs shape e k) (need k kind' ∷ []) h).0)
+  operand (LoadIndexed e slot elements i kind') k kind s d h =
+      let held = element_kind shape kinds e slot elements i kind' kind s in
+      let o : ArrayOf shape (sort e) slot elements kind' = held.0 in
+      let rest : List Need = expr_needs shape i (k + 1) ++ need k kind' ∷ [] in (
+        operand e k (Pointer o.ty) o.object (omega (arith, d)) (front (expr_needs shape e k) rest h),
+        omega (arith, d),
+        operand i (k + 1) Int held.1 (omega (arith, d)) (front (expr_needs shape i (k + 1)) (need k kind' ∷ []) (back (expr_needs shape e k) rest h)),
+        (back (expr_needs shape i (k + 1)) (need k kind' ∷ []) (back (expr_needs shape e k) rest h)).0,
+      )
   operand (Negate e) k kind s d h =
       (operand e k Int (negated shape kinds e kind s).0 (omega (arith, d)) (front (expr_needs shape e k) (need k Int ∷ []) h), (back (expr_needs shape e k) (need k Int ∷ []) h).0)
   operand (Not e) k kind s d h = absurd (no_not shape kinds e kind s)
@@ -80,6 +89,7 @@ module _ (shape : List TypeShape) (kinds : List Kind) (has : Has) where
   test (Root slot) s d h = absurd (no_truth (root_kind shape slot) s)
   test (Parens e) s d h = test e s (omega (arith, d)) h
   test (Load e slot kind) s d h = absurd (given_truth _ kind s)
+  test (LoadIndexed e slot elements i kind) s d h = absurd (given_truth _ kind s)
   test (Negate e) s d h = absurd (given_truth _ Int s)
   test (Not e) s d h = test e (denied shape kinds e s) (omega (arith, d)) h
   test (Binary op.And a b) s d h =
@@ -131,6 +141,19 @@ module _ (r : Routines) (q : syntax.Procedure) (others : (i : ℕ) (callee : syn
       let g : FieldOf r.shape (sort_in o) slot f.kind = field_is r.shape (sort_in o) slot f.kind f.there in
       (one o 0 (Pointer g.ty) g.object (omega (arith, d)) (first_of_two (expr_needs r.shape o 0) (expr_needs r.shape e 1) h), one e 1 f.kind f.is (omega (arith, d)) (second_of_two (expr_needs r.shape o 0) (expr_needs r.shape e 1) h))
 
+  store_element_ready : (o : Expr) (slot elements : ℕ) (i e : Expr) → IsTypedAction r q (StoreIndexed o slot elements i e) → action_depth (StoreIndexed o slot elements i e) ≤ 64
+      → All (expr_needs r.shape o 0 ++ (expr_needs r.shape i 1 ++ expr_needs r.shape e 2)) → IsOperand r.shape has o 0 × IsOperand r.shape has i 1 × IsOperand r.shape has e 2
+  store_element_ready o slot elements i e t d h =
+      let held : Option Kind = typed.array_of r.shape (sort_in o) slot elements in
+      let f : Put held (sort_in e) = put held (sort_in e) t.2 in
+      let g : ArrayOf r.shape (sort_in o) slot elements f.kind = array_is r.shape (sort_in o) slot elements f.kind f.there in
+      let rest : List Need = expr_needs r.shape i 1 ++ expr_needs r.shape e 2 in
+      let behind : All rest = second_of_two (expr_needs r.shape o 0) rest h in (
+        one o 0 (Pointer g.ty) g.object (omega (arith, d)) (first_of_two (expr_needs r.shape o 0) rest h),
+        one i 1 Int t.1 (omega (arith, d)) (first_of_two (expr_needs r.shape i 1) (expr_needs r.shape e 2) behind),
+        one e 2 f.kind f.is (omega (arith, d)) (second_of_two (expr_needs r.shape i 1) (expr_needs r.shape e 2) behind),
+      )
+
   arguments_ready : (es : List Expr) (kinds : List Kind) (k : ℕ) → map sort_in es ≡ map (λ (kind : Kind). Some (Of kind)) kinds → deepest es ≤ 64 → k + length kinds ≤ 9 → All (arguments_needs r.shape es k) → AreArguments r.shape has es k
   arguments_ready [] kinds k t d few h = tt
   arguments_ready (e ∷ es) [] k t d few h = absurd (cc)
@@ -160,6 +183,7 @@ module _ (r : Routines) (q : syntax.Procedure) (others : (i : ℕ) (callee : syn
     action_ready (Set x e) t d h = put_ready (slice_get q.kinds x) e t d h
     action_ready (SetRoot slot e) t d h = put_ready (root_kind r.shape slot) e t.1 d h
     action_ready (Store o slot e) t d h = store_ready o slot e t d h
+    action_ready (StoreIndexed o slot elements i e) t d h = store_element_ready o slot elements i e t d h
     action_ready (New x ty) t d h = tt
     action_ready (Call local callee es) t d h = call_ready local es (slice_get r.procedures callee) (others callee) t d h
     action_ready (Print e) t d h = one e 0 Int t (omega (arith, d)) h

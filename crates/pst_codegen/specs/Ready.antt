@@ -5,7 +5,7 @@ use Rattle.pst_base.specs.declared.names.Kind.{Kind}
 use Rattle.pst_base.specs.declared.names.Kind.TheVariants.{Int, Pointer}
 use Rattle.pst_base.specs.declared.names.Op.TheVariants as op
 use Rattle.pst_base.specs.declared.shape.TypeShape.{TypeShape}
-use Rattle.pst_program.specs.Syntax.{Expr, Action, Actions, Number, Null, Local, Root, Parens, Load, Negate, Not, Binary, Set, SetRoot, Store, New, Call, Print, If, Either, While, Return, Empty, Then, Procedure}
+use Rattle.pst_program.specs.Syntax.{Expr, Action, Actions, Number, Null, Local, Root, Parens, Load, LoadIndexed, Negate, Not, Binary, Set, SetRoot, Store, StoreIndexed, New, Call, Print, If, Either, While, Return, Empty, Then, Procedure}
 use Rattle.pst_program.specs.Typed.{root_kind}
 use Rattle.pst_code.specs.declared.procedure.TheConstants.{MOST_REGISTERS}
 use Rattle.pst_compiled.specs.declared.need.Need.{Need}
@@ -36,6 +36,7 @@ IsOperand shape has (Local x) k = Unit {0}
 IsOperand shape has (Root slot) k = has k (kind_or (root_kind shape slot))
 IsOperand shape has (Parens e) k = IsOperand shape has e k
 IsOperand shape has (Load e slot kind) k = IsOperand shape has e k × has k kind
+IsOperand shape has (LoadIndexed e slot elements i kind) k = IsOperand shape has e k × IsLow k × IsOperand shape has i (k + 1) × has k kind
 IsOperand shape has (Negate e) k = IsOperand shape has e k × has k Int
 IsOperand shape has (Not e) k = ⊥
 IsOperand shape has (Binary operator a b) k = IsOperand shape has a k × IsLow k × IsOperand shape has b (k + 1) × has k Int
@@ -52,6 +53,7 @@ IsTest shape has (Null ty) = ⊥
 IsTest shape has (Local x) = ⊥
 IsTest shape has (Root slot) = ⊥
 IsTest shape has (Load e slot kind) = ⊥
+IsTest shape has (LoadIndexed e slot elements i kind) = ⊥
 IsTest shape has (Negate e) = ⊥
 
 -- arguments, at levels one above another
@@ -70,6 +72,7 @@ abbrev mutual
   IsReady shape has (Set x e) = IsOperand shape has e 0
   IsReady shape has (SetRoot slot e) = IsOperand shape has e 0
   IsReady shape has (Store o slot e) = IsOperand shape has o 0 × IsOperand shape has e 1
+  IsReady shape has (StoreIndexed o slot elements i e) = IsOperand shape has o 0 × IsOperand shape has i 1 × IsOperand shape has e 2
   IsReady shape has (New x ty) = Unit {0}
   IsReady shape has (Call result p es) = AreArguments shape has es 0
   IsReady shape has (Print e) = IsOperand shape has e 0

@@ -3,7 +3,7 @@ use Rattle.std.specs.Prelude.{ℕ, Bool, List, ◌+◌, ◌++◌, length}
 use Rattle.pst_base.specs.declared.names.Op.{Op}
 use Rattle.pst_base.specs.declared.shape.TypeShape.{TypeShape}
 use Rattle.pst_code.specs.declared.instr.Instr.{Instr}
-use Rattle.pst_program.specs.Syntax.{Expr, Number, Null, Local, Root, Parens, Load, Negate, Not, Binary}
+use Rattle.pst_program.specs.Syntax.{Expr, Number, Null, Local, Root, Parens, Load, LoadIndexed, Negate, Not, Binary}
 use Rattle.pst_compiled.specs.Code.{Temp, arithmetic, reg, register, expr_code, compare_code}
 
 -- how many instructions an operand takes
@@ -14,6 +14,7 @@ expr_size (Local x) = 0
 expr_size (Root slot) = 1
 expr_size (Parens e) = expr_size e
 expr_size (Load e slot kind) = expr_size e + 1
+expr_size (LoadIndexed e slot elements i kind) = expr_size e + (expr_size i + 2)
 expr_size (Negate e) = expr_size e + 1
 expr_size (Not e) = 0
 expr_size (Binary operator a b) = expr_size a + (expr_size b + length (arithmetic operator (reg 0) (reg 0) (reg 0)))

@@ -12,7 +12,9 @@ ghost use Rattle.pst_codegen.specs.Made.{code_by};
 use crate::conditions::{after, emit_test, test_len};
 use crate::expressions::put;
 use crate::layout::Layout;
-use crate::statements::{emit_call, emit_print, emit_return, emit_set, emit_set_root, emit_store};
+use crate::statements::{
+    emit_call, emit_print, emit_return, emit_set, emit_set_root, emit_store, emit_store_element,
+};
 use pst_base::NoMemory;
 use pst_code::{Instr, Reg};
 use pst_program::{Typed, TypedBlock, TypedForm, TypedStatement};
@@ -68,6 +70,13 @@ fn emit_statement(
             field,
             value,
         } => emit_store(code, layout, object, *field, value, line),
+        TypedForm::StoreIndexed {
+            object,
+            field,
+            elements,
+            index,
+            value,
+        } => emit_store_element(code, layout, object, *field, *elements, index, value, line),
         TypedForm::New { local, ty } => {
             put(code, Instr::Charge(line))?;
             put(code, Instr::New(Reg(*local), *ty))
@@ -78,16 +87,10 @@ fn emit_statement(
             arguments,
         } => emit_call(alloc, code, layout, *result, *procedure, arguments, line),
         TypedForm::Print(e) => emit_print(code, layout, e, line),
-        TypedForm::If {
-            condition,
-            yes,
-            no: None,
-        } => emit_if(alloc, code, layout, condition, yes, line, at),
-        TypedForm::If {
-            condition,
-            yes,
-            no: Some(no),
-        } => emit_either(alloc, code, layout, condition, yes, no, line, at),
+        TypedForm::If { condition, yes, no } => match no {
+            None => emit_if(alloc, code, layout, condition, yes, line, at),
+            Some(no) => emit_either(alloc, code, layout, condition, yes, no, line, at),
+        },
         TypedForm::While { condition, body } => {
             emit_while(alloc, code, layout, condition, body, line, at)
         }

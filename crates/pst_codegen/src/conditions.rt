@@ -28,11 +28,10 @@ fn expr_len(e: &Typed) -> Result<u32, NoMemory>
         Typed::Number(_) | Typed::Null(_) | Typed::Root(_) => Ok(1),
         Typed::Local(_) | Typed::Not(_) => Ok(0),
         Typed::Parens(inner) => expr_len(inner),
-        Typed::Load {
-            object,
-            field: _,
-            kind: _,
-        } => after(expr_len(object)?, 1),
+        Typed::Load { object, .. } => after(expr_len(object)?, 1),
+        Typed::LoadIndexed { object, index, .. } => {
+            after(after(expr_len(object)?, expr_len(index)?)?, 2)
+        }
         Typed::Negate(operand) => after(expr_len(operand)?, 1),
         Typed::Binary { op, left, right } => {
             let operands = after(expr_len(left)?, expr_len(right)?)?;
@@ -96,11 +95,8 @@ pub fn test_len(layout: &Layout<'_>, e: &Typed) -> Result<u32, NoMemory>
         | Typed::Null(_)
         | Typed::Local(_)
         | Typed::Root(_)
-        | Typed::Load {
-            object: _,
-            field: _,
-            kind: _,
-        }
+        | Typed::Load { .. }
+        | Typed::LoadIndexed { .. }
         | Typed::Negate(_) => Ok(0),
     }
 }
@@ -215,11 +211,8 @@ pub fn emit_test(
         | Typed::Null(_)
         | Typed::Local(_)
         | Typed::Root(_)
-        | Typed::Load {
-            object: _,
-            field: _,
-            kind: _,
-        }
+        | Typed::Load { .. }
+        | Typed::LoadIndexed { .. }
         | Typed::Negate(_) => unreachable!(),
     }
 }

@@ -49,6 +49,16 @@ fn note_expr(
             note_expr(alloc, table, shape, object, level)?;
             table.note(alloc, level, *kind)
         }
+        Typed::LoadIndexed {
+            object,
+            index,
+            kind,
+            ..
+        } => {
+            note_expr(alloc, table, shape, object, level)?;
+            note_expr(alloc, table, shape, index, level + 1)?;
+            table.note(alloc, level, *kind)
+        }
         Typed::Negate(operand) => {
             note_expr(alloc, table, shape, operand, level)?;
             table.note(alloc, level, Kind::Int)
@@ -101,11 +111,8 @@ fn note_test(
         | Typed::Null(_)
         | Typed::Local(_)
         | Typed::Root(_)
-        | Typed::Load {
-            object: _,
-            field: _,
-            kind: _,
-        }
+        | Typed::Load { .. }
+        | Typed::LoadIndexed { .. }
         | Typed::Negate(_) => unreachable!(),
     }
 }
@@ -175,20 +182,24 @@ fn note_statement(
     match &statement.form {
         TypedForm::Set { local: _, value } => note_expr(alloc, table, shape, value, 0),
         TypedForm::SetRoot { field: _, value } => note_expr(alloc, table, shape, value, 0),
-        TypedForm::Store {
-            object,
-            field: _,
-            value,
-        } => {
+        TypedForm::Store { object, value, .. } => {
             note_expr(alloc, table, shape, object, 0)?;
             note_expr(alloc, table, shape, value, 1)
         }
+        TypedForm::StoreIndexed {
+            object,
+            index,
+            value,
+            ..
+        } => {
+            note_expr(alloc, table, shape, object, 0)?;
+            note_expr(alloc, table, shape, index, 1)?;
+            note_expr(alloc, table, shape, value, 2)
+        }
         TypedForm::New { local: _, ty: _ } => Ok(()),
-        TypedForm::Call {
-            result: _,
-            procedure: _,
-            arguments,
-        } => note_arguments(alloc, table, shape, arguments.as_slice()),
+        TypedForm::Call { arguments, .. } => {
+            note_arguments(alloc, table, shape, arguments.as_slice())
+        }
         TypedForm::Print(e) => note_expr(alloc, table, shape, e, 0),
         TypedForm::If { condition, yes, no } => {
             note_test(alloc, table, shape, condition)?;

@@ -3,7 +3,7 @@
 ghost use Rattle.std.specs.Prelude.{◌≡◌, ◌++◌, map, IfOk, OnOk};
 ghost use Rattle.std.specs.Option.{option_map};
 ghost use Rattle.pst_program.specs.View.{expr_of};
-ghost use Rattle.pst_compiled.specs.Code.{arguments_code, registers, set_code, set_root_code, store_code, call_code, print_code, return_code};
+ghost use Rattle.pst_compiled.specs.Code.{arguments_code, registers, set_code, set_root_code, store_code, store_element_code, call_code, print_code, return_code};
 ghost use Rattle.pst_compiled.specs.Needs.{temp_of};
 ghost use Rattle.pst_codegen.specs.Ready.{HasNoted, IsOperand, AreArguments, IsResult};
 
@@ -64,6 +64,32 @@ pub fn emit_store(
     put(code, Instr::Check(object))?;
     let value = emit_expr(code, layout, e, 1)?;
     put(code, Instr::Store(object, slot, value))
+}
+
+/// Adds the code of an assignment to an element of an array: the slot of the first one, and how many there are. Null traps
+/// before the index is evaluated, and a number that is no index before the value is.
+pub fn emit_store_element(
+    code: &mut Vec<Instr>,
+    layout: &Layout<'_>,
+    object: &Typed,
+    slot: SlotNo,
+    elements: u8,
+    index: &Typed,
+    e: &Typed,
+    line: u32,
+) -> Result<(), NoMemory>
+    requires object { IsOperand layout.now.shape.now (HasNoted layout.now.table) (expr_of object.now) 0 }
+    requires index { IsOperand layout.now.shape.now (HasNoted layout.now.table) (expr_of index.now) 1 }
+    requires value { IsOperand layout.now.shape.now (HasNoted layout.now.table) (expr_of e.now) 2 }
+    ensures { OnOk result (code.new.items ≡ code.old.items ++ store_element_code layout.now.shape.now (temp_of layout.now.locals layout.now.table) (expr_of object.now) slot.0 elements (expr_of index.now) (expr_of e.now) line) }
+{
+    put(code, Instr::Charge(line))?;
+    let object = emit_expr(code, layout, object, 0)?;
+    put(code, Instr::Check(object))?;
+    let index = emit_expr(code, layout, index, 1)?;
+    put(code, Instr::Bound(index, elements))?;
+    let value = emit_expr(code, layout, e, 2)?;
+    put(code, Instr::Storex(object, slot, elements, index, value))
 }
 
 /// Adds the code of `print`.

@@ -3,10 +3,10 @@ ghost use Rattle.std.specs.Prelude.{◌≡◌, IfOk};
 ghost use Rattle.pst_program.specs.Syntax as syntax;
 ghost use Rattle.pst_program.specs.Typed.{IsTyped};
 ghost use Rattle.pst_program.specs.View.{expr_of, actions_of, statements_of, routines_of};
-ghost use Rattle.pst_codegen.specs.Counting.{one_root, turn, body};
+ghost use Rattle.pst_codegen.specs.Counting.{one_root, turn, body, one_array, element_body};
 
 use crate::compile;
-use pst_base::{Kind, Kinds, NoMemory, Op, Shape, Targets, Text, TypeShape};
+use pst_base::{Kind, Kinds, NoMemory, Op, Shape, SlotNo, Targets, Text, TypeNo, TypeShape};
 use pst_program::{
     FieldNames, Program, TypeEntry, TypeNames, Typed, TypedBlock, TypedForm, TypedProc, TypedProcs,
     TypedStatement,
@@ -95,6 +95,7 @@ fn counting(alloc: Global) -> Result<Program, NoMemory>
         fields: FieldNames::from_vec(Vec::new(alloc)),
     })?;
     Ok(Program {
+        language: 1,
         shape: one_root(alloc)?,
         names: TypeNames::from_vec(names),
         procedures: TypedProcs { items: procedures },
@@ -125,6 +126,105 @@ fn a_loop_goes_back_to_its_charge_and_out_behind_its_jump(rt: HostRuntime) -> Re
         "Return(None)",
     ];
     let instructions = procedure.instructions.as_slice();
+    assert_eq!(rt; instructions.len(), expected.len());
+    for (instr, text) in instructions.iter().zip(expected) {
+        let shown = format!(in alloc; "{instr:?}")?;
+        assert_eq!(rt; shown.as_str(), text);
+    }
+    Ok(())
+}
+
+// A root record without roots, and a type with an array of four numbers.
+fn one_array(alloc: Global) -> Result<Shape, NoMemory>
+    ensures { IfOk result (λ shape. shape ≡ one_array) }
+{
+    let mut types = Vec::new(alloc);
+    types.push(TypeShape {
+        values: 0,
+        targets: Targets::from_vec(Vec::new(alloc)),
+        limit: 1,
+    })?;
+    types.push(TypeShape {
+        values: 4,
+        targets: Targets::from_vec(Vec::new(alloc)),
+        limit: 1,
+    })?;
+    Ok(Shape::from_vec(types))
+}
+
+// Line 1: the element with the parameter as its index is set to 7. Line 2: it is printed.
+fn element_body(alloc: Global) -> Result<TypedBlock, NoMemory>
+    ensures { IfOk result (λ b. actions_of b ≡ element_body) }
+{
+    let mut items = Vec::new(alloc);
+    items.push(TypedStatement {
+        line: 1,
+        form: TypedForm::StoreIndexed {
+            object: Typed::Local(1),
+            field: SlotNo(0),
+            elements: 4,
+            index: Typed::Local(0),
+            value: Typed::Number(7),
+        },
+    })?;
+    let element = Typed::LoadIndexed {
+        object: Box::new(alloc, Typed::Local(1))?,
+        field: SlotNo(0),
+        elements: 4,
+        index: Box::new(alloc, Typed::Local(0))?,
+        kind: Kind::Int,
+    };
+    items.push(TypedStatement {
+        line: 2,
+        form: TypedForm::Print(element),
+    })?;
+    Ok(block(items))
+}
+
+// A program with one procedure of one parameter, and a local that points to a record.
+fn indexing(alloc: Global) -> Result<Program, NoMemory>
+    ensures { IfOk result (λ p. IsTyped (routines_of p)) }
+{
+    let mut kinds = Vec::new(alloc);
+    kinds.push(Kind::Int)?;
+    kinds.push(Kind::Pointer(TypeNo(1)))?;
+    let mut procedures = Vec::new(alloc);
+    procedures.push(TypedProc {
+        name: Text::from_vec(b"p".to_vec(alloc)?),
+        query: false,
+        arguments: 1,
+        result: None,
+        kinds: Kinds::from_vec(kinds),
+        body: element_body(alloc)?,
+    })?;
+    Ok(Program {
+        language: 2,
+        shape: one_array(alloc)?,
+        names: TypeNames::from_vec(Vec::new(alloc)),
+        procedures: TypedProcs { items: procedures },
+    })
+}
+
+// The value is made at level 2, behind the test of the index; the element is read into a register of level 0.
+#[test]
+fn an_index_is_tested_before_the_value_is_made(rt: HostRuntime) -> Result<(), Fail> {
+    let alloc = rt.alloc();
+    let program = indexing(alloc)?;
+    let code = compile(alloc, &program)?;
+    assert_eq!(rt; code.procedures().len(), 1);
+    let expected = [
+        "Charge(1)",
+        "Check(Reg(1))",
+        "Bound(Reg(0), 4)",
+        "Const(Reg(2), 7)",
+        "Storex(Reg(1), SlotNo(0), 4, Reg(0), Reg(2))",
+        "Charge(2)",
+        "Check(Reg(1))",
+        "Loadx(Reg(3), Reg(1), SlotNo(0), 4, Reg(0))",
+        "Print(Reg(3))",
+        "Return(None)",
+    ];
+    let instructions = code.procedures()[0].instructions.as_slice();
     assert_eq!(rt; instructions.len(), expected.len());
     for (instr, text) in instructions.iter().zip(expected) {
         let shown = format!(in alloc; "{instr:?}")?;
