@@ -5,11 +5,12 @@ use Rattle.std.specs.Fmt.{decimal, signed_decimal}
 use Rattle.pst_base.specs.declared.names.Kind.{Kind}
 use Rattle.pst_base.specs.declared.names.Kind.TheVariants.{Int, Pointer}
 use Rattle.pst_base.specs.declared.names.ProcNo.{ProcNo}
+use Rattle.pst_base.specs.declared.names.SlotNo.{SlotNo}
 use Rattle.pst_program.specs.declared.program.TypeEntry.{TypeEntry}
 use Rattle.pst_program.specs.Names.{type_named}
 use Rattle.pst_code.specs.declared.instr.Reg.{Reg}
 use Rattle.pst_code.specs.declared.instr.Instr.{Instr}
-use Rattle.pst_code.specs.declared.instr.Instr.TheVariants.{Charge, Const, Null, Copy, Add, Sub, Mul, Div, Rem, Neg, Root, Setroot, Check, Load, Store, New, Print, Jump, Jumpeq, Jumpne, Jumplt, Jumple, Jumpgt, Jumpge, Call, Return}
+use Rattle.pst_code.specs.declared.instr.Instr.TheVariants.{Charge, Const, Null, Copy, Add, Sub, Mul, Div, Rem, Neg, Root, Setroot, Check, Load, Store, Bound, Loadx, Storex, New, Print, Jump, Jumpeq, Jumpne, Jumplt, Jumple, Jumpgt, Jumpge, Call, Return}
 use Rattle.pst_code.specs.declared.procedure.Procedure.{Procedure}
 use Rattle.pst_code.specs.declared.procedure.Parts.{Parts}
 
@@ -41,6 +42,10 @@ abbrev pub into_word : Option Reg → List ℕ
 into_word None = codes " -"
 into_word (Some d) = register_word d
 
+-- the slot of the first element of an array and how many there are, between registers
+abbrev pub array_words : (before : List Reg) → SlotNo → (elements : ℕ) → (behind : List Reg) → List ℕ
+array_words before slot elements behind = register_words before ++ number_word slot.0 ++ number_word elements ++ register_words behind
+
 -- ---- instructions: a name, then the operands
 
 abbrev pub instr_name : Instr → List ℕ
@@ -59,6 +64,9 @@ instr_name (Setroot slot s) = codes "setroot"
 instr_name (Check o) = codes "check"
 instr_name (Load d o slot) = codes "load"
 instr_name (Store o slot s) = codes "store"
+instr_name (Bound i n) = codes "bound"
+instr_name (Loadx d o slot n i) = codes "loadx"
+instr_name (Storex o slot n i s) = codes "storex"
 instr_name (New d ty) = codes "new"
 instr_name (Print s) = codes "print"
 instr_name (Jump to) = codes "jump"
@@ -87,6 +95,9 @@ operands names ps (Setroot slot s) = number_word slot.0 ++ register_word s
 operands names ps (Check o) = register_word o
 operands names ps (Load d o slot) = register_words (d ∷ o ∷ []) ++ number_word slot.0
 operands names ps (Store o slot s) = register_word o ++ number_word slot.0 ++ register_word s
+operands names ps (Bound i n) = register_words (i ∷ []) ++ number_word n
+operands names ps (Loadx d o slot n i) = array_words (d ∷ o ∷ []) slot n (i ∷ [])
+operands names ps (Storex o slot n i s) = array_words (o ∷ []) slot n (i ∷ s ∷ [])
 operands names ps (New d ty) = register_word d ++ word (type_named names ty)
 operands names ps (Print s) = register_word s
 operands names ps (Jump to) = number_word to

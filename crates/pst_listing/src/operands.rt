@@ -2,10 +2,11 @@
 
 ghost use Rattle.std.specs.Prelude.{◌≡◌, ◌++◌, OnOk, slice_get};
 ghost use Rattle.std.specs.Fmt.{decimal};
-ghost use Rattle.pst_listing.specs.Listing.{word, register_word, register_words, name_of, procedure_word, into_word, operands};
+ghost use Rattle.pst_program.specs.Names.{type_named};
+ghost use Rattle.pst_listing.specs.Listing.{word, register_word, register_words, name_of, procedure_word, into_word, array_words, operands};
 
 use itoa::{Buffer, Integer};
-use pst_base::{NoMemory, ProcNo, SlotNo};
+use pst_base::{NoMemory, ProcNo, SlotNo, TypeNo};
 use pst_code::{Instr, Procedure, Reg, Regs};
 use pst_program::Program;
 
@@ -56,6 +57,22 @@ fn put_registers_and<N: Integer>(
     put_number(out, number)
 }
 
+/// Puts the operands of a write of a root.
+fn put_setroot(out: &mut Vec<u8>, slot: SlotNo, value: Reg) -> Result<(), NoMemory>
+    ensures { OnOk result (out.new.items ≡ out.old.items ++ (word (decimal slot.0) ++ register_word value)) }
+{
+    put_number(out, slot.0)?;
+    put_register(out, value)
+}
+
+/// Puts the operands of a new record, whose type is told by its name.
+fn put_new(out: &mut Vec<u8>, program: &Program, into: Reg, ty: TypeNo) -> Result<(), NoMemory>
+    ensures { OnOk result (out.new.items ≡ out.old.items ++ (register_word into ++ word (type_named program.now.names ty))) }
+{
+    put_register(out, into)?;
+    put_word(out, program.type_name(ty))
+}
+
 /// Puts the operands of a write to a record.
 fn put_store(out: &mut Vec<u8>, object: Reg, slot: SlotNo, value: Reg) -> Result<(), NoMemory>
     ensures { OnOk result (out.new.items ≡ out.old.items ++ (register_word object ++ word (decimal slot.0) ++ register_word value)) }
@@ -63,6 +80,22 @@ fn put_store(out: &mut Vec<u8>, object: Reg, slot: SlotNo, value: Reg) -> Result
     put_register(out, object)?;
     put_number(out, slot.0)?;
     put_register(out, value)
+}
+
+/// Puts registers, the slot of the first element of an array, how many there are, and more registers.
+fn put_array(
+    out: &mut Vec<u8>,
+    before: &[Reg],
+    slot: SlotNo,
+    elements: u8,
+    behind: &[Reg],
+) -> Result<(), NoMemory>
+    ensures { OnOk result (out.new.items ≡ out.old.items ++ array_words before.now slot elements behind.now) }
+{
+    put_registers(out, before)?;
+    put_number(out, slot.0)?;
+    put_number(out, elements)?;
+    put_registers(out, behind)
 }
 
 /// The name of a procedure by its number; empty where there is none.
@@ -120,16 +153,13 @@ pub fn put_operands(
         | Instr::Div(d, a, b)
         | Instr::Rem(d, a, b) => put_registers(out, &[*d, *a, *b]),
         Instr::Root(d, slot) => put_registers_and(out, &[*d], slot.0),
-        Instr::Setroot(slot, s) => {
-            put_number(out, slot.0)?;
-            put_register(out, *s)
-        }
+        Instr::Setroot(slot, s) => put_setroot(out, *slot, *s),
         Instr::Load(d, o, slot) => put_registers_and(out, &[*d, *o], slot.0),
         Instr::Store(o, slot, s) => put_store(out, *o, *slot, *s),
-        Instr::New(d, ty) => {
-            put_register(out, *d)?;
-            put_word(out, program.type_name(*ty))
-        }
+        Instr::Bound(i, n) => put_registers_and(out, &[*i], *n),
+        Instr::Loadx(d, o, slot, n, i) => put_array(out, &[*d, *o], *slot, *n, &[*i]),
+        Instr::Storex(o, slot, n, i, s) => put_array(out, &[*o], *slot, *n, &[*i, *s]),
+        Instr::New(d, ty) => put_new(out, program, *d, *ty),
         Instr::Jumpeq(a, b, to)
         | Instr::Jumpne(a, b, to)
         | Instr::Jumplt(a, b, to)

@@ -26,6 +26,7 @@ fn program(alloc: Global) -> Result<Program, NoMemory> {
     let first = entry(alloc, b"N")?;
     let second = entry(alloc, b"List")?;
     Ok(Program {
+        language: 2,
         shape: Shape::from_vec(Vec::new(alloc)),
         names: TypeNames::from_vec(vec![in alloc; root, first, second]?),
         procedures: TypedProcs {
@@ -50,6 +51,8 @@ fn plain(alloc: Global) -> Result<Vec<Instr>, NoMemory> {
         Instr::Root(Reg(1), SlotNo(31)),
         Instr::Check(Reg(9)),
         Instr::Load(Reg(1), Reg(2), SlotNo(15)),
+        Instr::Bound(Reg(1), 4),
+        Instr::Loadx(Reg(2), Reg(0), SlotNo(1), 4, Reg(1)),
         Instr::Print(Reg(3)),
         Instr::Return(Some(Reg(1))),
     ]?)
@@ -62,6 +65,7 @@ fn moving(alloc: Global) -> Result<Vec<Instr>, NoMemory> {
     Ok(vec![in alloc;
         Instr::Setroot(SlotNo(7), Reg(2)),
         Instr::Store(Reg(1), SlotNo(0), Reg(2)),
+        Instr::Storex(Reg(0), SlotNo(48), 16, Reg(1), Reg(2)),
         Instr::New(Reg(0), TypeNo(2)),
         Instr::Jump(0),
         Instr::Jumpeq(Reg(0), Reg(1), 11),
@@ -128,22 +132,25 @@ fn every_instruction_is_listed_with_its_operands(rt: HostRuntime) -> Result<(), 
 10 root r1 31
 11 check r9
 12 load r1 r2 15
-13 print r3
-14 return r1
+13 bound r1 4
+14 loadx r2 r0 1 4 r1
+15 print r3
+16 return r1
 proc put args 0 gives List regs
 0 setroot 7 r2
 1 store r1 0 r2
-2 new r0 List
-3 jump 0
-4 jumpeq r0 r1 11
-5 jumpne r1 r2 10
-6 jumplt r2 r3 9
-7 jumple r3 r4 8
-8 jumpgt r4 r5 7
-9 jumpge r5 r6 6
-10 call put -
-11 call see r3 r2 r1
-12 return
+2 storex r0 48 16 r1 r2
+3 new r0 List
+4 jump 0
+5 jumpeq r0 r1 11
+6 jumpne r1 r2 10
+7 jumplt r2 r3 9
+8 jumple r3 r4 8
+9 jumpgt r4 r5 7
+10 jumpge r5 r6 6
+11 call put -
+12 call see r3 r2 r1
+13 return
 proc rest args 0 gives none regs int
 ";
     assert!(rt; listing.as_slice() == wanted);
