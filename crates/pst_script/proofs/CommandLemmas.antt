@@ -16,7 +16,7 @@ use Rattle.pst_script.specs.declared.command.LineFault.TheVariants.{Line, Number
 use Rattle.pst_script.specs.declared.verb.Verb.{Verb}
 use Rattle.pst_script.specs.declared.verb.Verb.TheVariants as verb
 use Rattle.pst_script.specs.Words.{words}
-use Rattle.pst_script.specs.Names.{is_name}
+use Rattle.pst_base.specs.Words.{is_name}
 use Rattle.pst_script.specs.Numerals.{number_of, argument_of, fits_32_bits, fits_64_bits, fits_charges}
 use Rattle.pst_script.specs.Commands.{with_both, arguments_of, make_called, called_of, on_version, to_run, open_of, one_number, two_numbers, nothing, verb_of, command_after, called_in_range, in_range, judged, read_as, reading_of, reading}
 use Rattle.pst_script.specs.Spelled.{call_words, words_of, has_name, CanBeWritten, IsWrittenOneWay}

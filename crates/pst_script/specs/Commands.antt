@@ -5,7 +5,7 @@ use Rattle.std.specs.Str.{bytes_eq}
 use Rattle.std.specs.List.{list_all}
 use Rattle.pst_script.specs.Words.{words}
 use Rattle.pst_script.specs.Numerals.{is_numeral, number_of, argument_of, fits_32_bits, fits_64_bits, fits_charges}
-use Rattle.pst_script.specs.Names.{is_name}
+use Rattle.pst_base.specs.Words.{is_name}
 use Rattle.pst_script.specs.declared.call.Called.{Called}
 use Rattle.pst_script.specs.declared.command.Call.{Call}
 use Rattle.pst_script.specs.declared.command.Command.{Command}

@@ -1,6 +1,5 @@
 pub mod Words
 pub mod Numerals
-pub mod Names
 pub mod Commands
 pub mod Texts
 pub mod Spelled

@@ -2,7 +2,7 @@
 use Rattle.std.specs.Prelude.{◌≡◌, ◌↔◌, ℕ, ℤ, Bool, true, List, [], ◌∷◌, map, codes, Some, Ok}
 use Rattle.std.specs.Fmt.{decimal, signed_decimal}
 use Rattle.pst_script.specs.Words.{words}
-use Rattle.pst_script.specs.Names.{is_name}
+use Rattle.pst_base.specs.Words.{is_name}
 use Rattle.pst_script.specs.Commands.{in_range, reading}
 use Rattle.pst_script.specs.declared.command.Call.{Call}
 use Rattle.pst_script.specs.declared.command.Command.{Command}

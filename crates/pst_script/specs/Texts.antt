@@ -6,7 +6,7 @@ use Rattle.pst_base.specs.declared.names.VersionNo.{VersionNo}
 use Rattle.pst_base.specs.declared.names.Counts.{Counts}
 use Rattle.pst_base.specs.declared.names.Trap.{Trap}
 use Rattle.pst_base.specs.declared.names.TrapKind.{TrapKind}
-use Rattle.pst_base.specs.declared.names.TrapKind.TheVariants.{Null, InDegree, Overflow, Divide, Budget, Depth, Output}
+use Rattle.pst_base.specs.declared.names.TrapKind.TheVariants.{Null, InDegree, Index, Overflow, Divide, Budget, Depth, Output}
 use Rattle.pst_script.specs.declared.reply.Refusal.{Refusal}
 use Rattle.pst_script.specs.declared.reply.Refusal.TheVariants as because
 use Rattle.pst_script.specs.declared.reply.Reply.{Reply}
@@ -26,6 +26,7 @@ printed_lines ns = flat_map printed_line ns
 abbrev pub trap_name : TrapKind → List ℕ
 trap_name Null = codes "null"
 trap_name InDegree = codes "indegree"
+trap_name Index = codes "index"
 trap_name Overflow = codes "overflow"
 trap_name Divide = codes "divide"
 trap_name Budget = codes "budget"

@@ -4,10 +4,9 @@ ghost use Rattle.pst_script.specs.Words.{words};
 ghost use Rattle.pst_script.specs.Commands.{arguments_of, all_fit, called_of, on_version, to_run, IsCallOf, IsReadAs, judged, called_in_range};
 
 use crate::command::{Call, Command, LineFault};
-use crate::names::is_name;
 use crate::numerals::{argument, is_argument, is_numeral, number};
 use crate::words::split_word;
-use pst_base::{Numbers, RunNo, Text, VersionNo};
+use pst_base::{Numbers, RunNo, Text, VersionNo, is_name};
 use std::alloc::{AllocError, Global};
 
 /// The words of a call. The arguments stand in one piece.

@@ -12,7 +12,6 @@
 mod call;
 mod command;
 mod laws;
-mod names;
 mod numerals;
 mod read;
 mod reply;

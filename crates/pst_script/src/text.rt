@@ -21,6 +21,7 @@ fn trap_name(kind: TrapKind) -> &'static [u8]
     match kind {
         TrapKind::Null => b"null",
         TrapKind::InDegree => b"indegree",
+        TrapKind::Index => b"index",
         TrapKind::Overflow => b"overflow",
         TrapKind::Divide => b"divide",
         TrapKind::Budget => b"budget",
