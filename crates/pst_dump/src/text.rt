@@ -120,8 +120,9 @@ fn put_line<H: HeapAt>(
 ///
 /// The records that the root record reaches are numbered from 0 in the order of their least access paths: shorter ones
 /// first, and those of one length in lexicographic order of slots. Each has a line: its number, the name of its type with a
-/// colon, and what its fields hold in the order of slots, each behind a space: a number, `null`, or `@` and the number of
-/// a record. The time and memory are linear in the dump.
+/// colon, and what its elements hold in the order of slots, each behind a space: a number, `null`, or `@` and the number of
+/// a record. So the numbers come before the pointers, and an array is listed by index. The time and memory are linear in the
+/// dump.
 pub fn dump<H: HeapAt>(
     alloc: Global,
     heap: &H,
