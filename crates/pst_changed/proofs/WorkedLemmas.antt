@@ -8,7 +8,8 @@ use Rattle.pst_program.specs.declared.meaning.Value.{Value}
 use Rattle.pst_program.specs.declared.meaning.Value.TheVariants.{Number}
 use Rattle.pst_program.specs.Value.{pointer_value}
 use Rattle.pst_changed.specs.declared.slots.PathStep.{PathStep}
-use Rattle.pst_changed.specs.Path.{is_name, resolved}
+use Rattle.pst_base.specs.Words.{is_name}
+use Rattle.pst_changed.specs.Path.{resolved}
 use Rattle.pst_changed.specs.Reading.{reading, reading_from}
 use Rattle.pst_changed.specs.Worked.{step, PathForms, WorkedFields, WorkedReadings, WorkedChanges, worked_keys, worked_firsts, worked_nulls, version}
 use Rattle.pst_changed.proofs.ChangeLemmas.{unchanged_first, unchanged_more, change_found, change_missing}
@@ -19,7 +20,7 @@ path_forms = record { names = refl; longest = refl; too_long = refl; none = refl
 
 pub worked_fields : WorkedFields
 unfolding resolved
-worked_fields p = record { root = refl; number = refl; pointer = refl; no_root = refl; no_field = refl; root_behind = refl; past_number = refl }
+worked_fields p = (record { root = refl; number = refl; pointer = refl; no_root = refl; no_field = refl; root_behind = refl; past_number = refl }, record { plain = refl; array = refl; past_array = refl })
 
 pub worked_readings_are : WorkedReadings
 unfolding reading

@@ -1,6 +1,5 @@
 -- What a path is, and which fields it names. A name is that of the language; paths are this project's own.
-use Rattle.std.specs.Prelude.{◌≡◌, ℕ, Bool, false, not, ◌==◌, ◌&&◌, ◌||◌, List, [], ◌∷◌, length, nat_le, Option, Some, None, option_and_then}
-use Rattle.std.specs.Char.{is_ascii_alphabetic, is_ascii_alphanumeric}
+use Rattle.std.specs.Prelude.{◌≡◌, ℕ, Bool, ◌==◌, List, [], ◌∷◌, Option, Some, None, option_and_then}
 use Rattle.std.specs.List.{list_all, slice_split}
 use Rattle.std.specs.Option.{option_map}
 use Rattle.pst_base.specs.declared.names.Kind.{Kind}
@@ -8,29 +7,12 @@ use Rattle.pst_base.specs.declared.names.Kind.TheVariants.{Int, Pointer}
 use Rattle.pst_base.specs.declared.names.TypeNo.{TypeNo}
 use Rattle.pst_base.specs.declared.shape.TypeShape.{TypeShape}
 use Rattle.pst_base.specs.Shape.{type_at, root_type, field_kind}
-use Rattle.pst_base.specs.Words.{is_keyword}
+use Rattle.pst_base.specs.Words.{is_name}
 use Rattle.pst_program.specs.declared.program.Program.{Program}
 use Rattle.pst_program.specs.Names.{slot_named}
 use Rattle.pst_changed.specs.declared.slots.PathStep.{PathStep}
 
 -- ---- the form of a path
-
--- a letter or an underscore
-abbrev pub is_name_start : ℕ → Bool
-is_name_start b = is_ascii_alphabetic b || b == 95
-
--- a letter, a digit or an underscore
-abbrev pub is_name_byte : ℕ → Bool
-is_name_byte b = is_ascii_alphanumeric b || b == 95
-
--- letters, digits and underscores, of which the first is no digit
-abbrev pub has_name_bytes : List ℕ → Bool
-has_name_bytes [] = false
-has_name_bytes (first ∷ rest) = is_name_start first && list_all is_name_byte rest
-
--- a name: at most 32 such bytes, and no keyword
-unfoldable pub is_name : List ℕ → Bool
-is_name name = nat_le (length name) 32 && (has_name_bytes name && not (is_keyword name))
 
 abbrev pub is_dot : ℕ → Bool
 is_dot b = b == 46
@@ -50,7 +32,7 @@ is_path path = list_all is_name (names_of path)
 
 -- ---- the fields of a path
 
--- the field of a record type with a name: its slot, and what it holds
+-- the field of a record type with a name: its slot, and what it holds. An array is none
 abbrev pub field_step : Program → TypeNo → (name : List ℕ) → Option PathStep
 field_step program ty name =
     option_and_then (λ slot. option_map (λ kind. record { slot = slot; kind = kind }) (field_kind (type_at program.shape ty) slot.0)) (slot_named program.names ty name)

@@ -35,7 +35,10 @@ pub record PathForms : Type 0 where
 -- ---- fields
 
 abbrev pub field : List ℕ → ℕ → FieldName
-field name slot = record { name = name; slot = record { 0 = slot } }
+field name slot = record { name = name; slot = record { 0 = slot }; elements = None }
+
+abbrev pub array : List ℕ → (slot elements : ℕ) → FieldName
+array name slot elements = record { name = name; slot = record { 0 = slot }; elements = Some elements }
 
 abbrev pub step : ℕ → Kind → PathStep
 step slot kind = record { slot = record { 0 = slot }; kind = kind }
@@ -59,8 +62,23 @@ pub record PathFields (p : Program) : Type 0 where
   pub root_behind : resolved p (codes "first.last") ≡ None
   pub past_number : resolved p (codes "first.key.next") ≡ None
 
+-- the same, where the two pointers of an item are an array `links`
+abbrev pub linked_names : List TypeEntry
+linked_names =
+    record { name = codes "root"; fields = field (codes "first") 0 ∷ field (codes "last") 1 ∷ [] }
+    ∷ record { name = codes "N"; fields = field (codes "key") 0 ∷ array (codes "links") 1 2 ∷ [] } ∷ []
+
+abbrev pub linked_program : Program → Program
+linked_program p = record p { shape = worked_shape 4; names = linked_names }
+
+-- a path names no array
+pub record NoPathToArrays (p : Program) : Type 0 where
+  pub plain : resolved p (codes "first.key") ≡ Some (step 0 (Pointer item) ∷ step 0 Int ∷ [])
+  pub array : resolved p (codes "first.links") ≡ None
+  pub past_array : resolved p (codes "first.links.key") ≡ None
+
 abbrev pub WorkedFields : Type 0
-WorkedFields = (p : Program) → PathFields (worked_program p)
+WorkedFields = (p : Program) → PathFields (worked_program p) × NoPathToArrays (linked_program p)
 
 -- ---- readings
 

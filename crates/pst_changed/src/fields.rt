@@ -12,7 +12,7 @@ use std::alloc::Global;
 /// The type of the root record, whose fields are the roots.
 const ROOT_TYPE: TypeNo = TypeNo(0);
 
-/// The field of a record type with the name.
+/// The field of a record type with the name, if it is no array.
 fn field_step(program: &Program, ty: TypeNo, name: &[u8]) -> Option<PathStep>
     ensures { result ≡ field_step program.now ty name.now }
 {
@@ -50,7 +50,8 @@ fn split_name(path: &[u8]) -> (&[u8], Option<&[u8]>)
 }
 
 /// The slots of a path, each with the kind of its field. It is None exactly where the path is not valid: its first name is
-/// not that of a root, or a further one is not that of a field of the type that the part before points to.
+/// not that of a root, or a further one is not that of a field of the type that the part before points to, or is that of an
+/// array.
 ///
 /// # Errors
 /// Want of memory.

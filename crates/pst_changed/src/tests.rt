@@ -6,13 +6,18 @@ use pst_base::{Kind, NoMemory, Shape, SlotNo, Targets, Text, TypeNo, TypeShape};
 use pst_program::{FieldName, FieldNames, Program, TypeEntry, TypeNames, TypedProcs};
 use std::alloc::Global;
 
-/// A record type with this name and these fields.
-fn entry(alloc: Global, name: &[u8], fields: &[(&[u8], u16)]) -> Result<TypeEntry, NoMemory> {
+/// A record type with this name and these fields: an array has a number of elements.
+fn entry(
+    alloc: Global,
+    name: &[u8],
+    fields: &[(&[u8], u16, Option<u8>)],
+) -> Result<TypeEntry, NoMemory> {
     let mut names = Vec::new(alloc);
-    for (name, slot) in fields {
+    for (name, slot, elements) in fields {
         names.push(FieldName {
             name: Text::from_vec(Vec::from_slice(alloc, name)?),
             slot: SlotNo(*slot),
+            elements: *elements,
         })?;
     }
     Ok(TypeEntry {
@@ -21,21 +26,35 @@ fn entry(alloc: Global, name: &[u8], fields: &[(&[u8], u16)]) -> Result<TypeEntr
     })
 }
 
-/// A type with one value field and one pointer to type 1.
-fn shape_of(alloc: Global, limit: u8) -> Result<TypeShape, NoMemory> {
+/// A type with one value element, and so many pointers to type 1.
+fn shape_of(alloc: Global, pointers: usize, limit: u8) -> Result<TypeShape, NoMemory> {
+    let mut targets = Vec::new(alloc);
+    for _ in 0..pointers {
+        targets.push(TypeNo(1))?;
+    }
     Ok(TypeShape {
         values: 1,
-        targets: Targets::from_vec(vec![in alloc; TypeNo(1)]?),
+        targets: Targets::from_vec(targets),
         limit,
     })
 }
 
-/// A program with the roots `size`, a number, and `first`, an `N`, which has a number `key` and an `N` called `next`.
+/// A program with the roots `size`, a number, and `first`, an `N`, which has a number `key`, an `N` called `next` and
+/// an array of two of them, `links`.
 fn program(alloc: Global) -> Result<Program, NoMemory> {
-    let root = entry(alloc, b"root", &[(b"first", 1), (b"size", 0)])?;
-    let node = entry(alloc, b"N", &[(b"key", 0), (b"next", 1)])?;
+    let root = entry(alloc, b"root", &[(b"first", 1, None), (b"size", 0, None)])?;
+    let node = entry(
+        alloc,
+        b"N",
+        &[
+            (b"key", 0, None),
+            (b"next", 1, None),
+            (b"links", 2, Some(2)),
+        ],
+    )?;
     Ok(Program {
-        shape: Shape::from_vec(vec![in alloc; shape_of(alloc, 1)?, shape_of(alloc, 2)?]?),
+        language: 2,
+        shape: Shape::from_vec(vec![in alloc; shape_of(alloc, 1, 1)?, shape_of(alloc, 3, 2)?]?),
         names: TypeNames::from_vec(vec![in alloc; root, node]?),
         procedures: TypedProcs {
             items: Vec::new(alloc),
@@ -66,7 +85,7 @@ fn a_path_has_the_slots_of_its_fields(rt: HostRuntime) -> Result<(), NoMemory> {
         slot: SlotNo(1),
         kind: Kind::Pointer(TypeNo(1)),
     };
-    let cases: [(&[u8], Option<&[PathStep]>); 10] = [
+    let cases: [(&[u8], Option<&[PathStep]>); 12] = [
         (b"size", Some(&[number])),
         (b"first", Some(&[pointer])),
         (b"first.key", Some(&[pointer, number])),
@@ -78,6 +97,8 @@ fn a_path_has_the_slots_of_its_fields(rt: HostRuntime) -> Result<(), NoMemory> {
         (b"first.size", None),
         (b"first.Key", None),
         (b"size.key", None),
+        (b"first.links", None),
+        (b"first.links.key", None),
         (b"first.", None),
         (b"", None),
     ];

@@ -7,7 +7,7 @@ pub fn path_forms_by_hand()
     ensures { PathForms }
 {}
 
-/// The first name of a path is that of a root, and a number leads to no further field.
+/// The first name of a path is that of a root, a number leads to no further field, and no name of a path is that of an array.
 pub fn fields_by_hand()
     ensures { WorkedFields }
 {}

@@ -1,7 +1,8 @@
 use Rattle.std.proofs.Common.{rules, tests}
 use Rattle.std.proofs.lemmas.Iterator.Search.{all_from_yields_List}
 use Rattle.std.proofs.lemmas.Iterator.Splits.{YieldsList-from_slice_split}
-use Rattle.pst_changed.specs.Path.{is_name, is_dot}
+use Rattle.pst_base.specs.Words.{is_name}
+use Rattle.pst_changed.specs.Path.{is_dot}
 use Rattle.pst_changed.proofs.names.path_form.Goals as goal
 
 pub returns : goal.returns
