@@ -1,4 +1,6 @@
 pub mod Held
+pub mod Slots
+pub mod SlotsKept
 pub mod Timeline
 pub mod Values
 pub mod Rows

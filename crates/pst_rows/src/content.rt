@@ -101,17 +101,83 @@ impl Default for Stamp {
 }
 
 /// What a slot holds from the begin of the life on, and how many stamps of earlier slots there are: there its own begin.
+/// It takes 16 bytes, so a row has six of them beside its life.
 #[derive(Clone, Copy)]
 pub struct Slot {
-    pub content: Held,
-    pub start: usize,
+    kept: SlotKept,
+}
+
+// The cases of a content, each with the start, which lies beside the tag of the enum and takes no more room.
+#[derive(Clone, Copy)]
+enum SlotKept {
+    Number(u32, i64),
+    Null(u32),
+    Target(u32, NodeId),
+    Free(u32),
+    From(SlotNo, u32, NodeId),
+}
+
+impl Model for Slot {
+    ghost use Rattle.pst_rows.specs.Slots.{SlotValue};
+
+    ghost Value = { SlotValue };
+
+    ghost use Rattle.pst_rows.specs.SlotsKept.{slot_of, slot_held, slot_back};
+
+    ghost view = { λ s. slot_of s.kept };
+
+    ghost inverse = { slot_held };
+
+    ghost inverse_ok = { λ s _. slot_back s };
+}
+
+impl Slot {
+    /// A slot with a content, whose stamps begin at an index.
+    #[inline]
+    pub fn new(content: Content, start: u32) -> Slot
+        ensures { result ≡ record { content = content; start = start } }
+    {
+        let kept = match content {
+            Content::Number(n) => SlotKept::Number(start, n),
+            Content::Null => SlotKept::Null(start),
+            Content::Target(node) => SlotKept::Target(start, node),
+            Content::Free => SlotKept::Free(start),
+            Content::From(node, slot) => SlotKept::From(slot, start, node),
+        };
+        Slot { kept }
+    }
+
+    /// What it holds from the begin of the life on.
+    #[inline]
+    pub fn content(&self) -> Content
+        ensures { result ≡ self.now.content }
+    {
+        match self.kept {
+            SlotKept::Number(_, n) => Content::Number(n),
+            SlotKept::Null(_) => Content::Null,
+            SlotKept::Target(_, node) => Content::Target(node),
+            SlotKept::Free(_) => Content::Free,
+            SlotKept::From(slot, _, node) => Content::From(node, slot),
+        }
+    }
+
+    /// Where its stamps begin.
+    #[inline]
+    pub fn start(&self) -> u32
+        ensures { result ≡ self.now.start }
+    {
+        match self.kept {
+            SlotKept::Number(start, _) => start,
+            SlotKept::Null(start) => start,
+            SlotKept::Target(start, _) => start,
+            SlotKept::Free(start) => start,
+            SlotKept::From(_, start, _) => start,
+        }
+    }
 }
 
 impl Default for Slot {
     fn default() -> Slot {
-        Slot {
-            content: Held::new(Content::Null),
-            start: 0,
-        }
+        Slot::new(Content::Null, 0)
     }
 }

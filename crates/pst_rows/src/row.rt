@@ -10,8 +10,8 @@ ghost use Rattle.pst_rows.specs.Steps.{AreBounds, HasParts, IsLocated, IsStampAt
 
 use crate::content::{Content, Held, Slot, Stamp};
 use crate::stamps::{
-    Bounds, Located, Slots, StampPlaces, Stamps, count_slots, insert_stamp, middle_from,
-    raise_starts, recount, stamps_after, stamps_before, write_base, write_content,
+    Bounds, Located, Slots, StampPlaces, Stamps, count_slots, middle_from, raise_starts, recount,
+    stamps_after, stamps_before, write_base,
 };
 use pst_base::{NoMemory, SlotNo, TypeShape};
 use pst_order::{Compare, Counting, Order, Pos, partition};
@@ -43,7 +43,7 @@ impl Row {
             lo,
             hi,
             slots: first_slots(alloc, shape)?,
-            stamps: SmallVec::new(alloc),
+            stamps: Stamps::new(alloc),
         })
     }
 
@@ -123,7 +123,7 @@ impl Row {
                 return stamps[index - 1].content.content();
             }
         }
-        self.slots.as_slice()[usize::from(slot.0)].content.content()
+        self.slots.as_slice()[usize::from(slot.0)].content()
     }
 
     /// Where the segment of a slot that covers a place of the life begins, and before which place it ends.
@@ -201,7 +201,7 @@ impl Row {
         if located.index == located.start {
             write_base(&mut self.slots, slot, content);
         } else {
-            write_content(&mut self.stamps, located.index - 1, content);
+            self.stamps.write_content(located.index - 1, content);
         }
     }
 
@@ -292,11 +292,11 @@ impl Row {
         let slots = self.slots.as_slice();
         let slot = usize::from(slot.0);
         let stop = if slot + 1 < slots.len() {
-            slots[slot + 1].start
+            slots[slot + 1].start() as usize
         } else {
             self.stamps.len()
         };
-        (slots[slot].start, stop)
+        (slots[slot].start() as usize, stop)
     }
 
     // Where a slot's stamps are, and which of them are not after a place.
@@ -349,7 +349,7 @@ impl Row {
             place,
             content: Held::new(content),
         };
-        insert_stamp(&mut self.stamps, index, stamp);
+        self.stamps.insert(index, stamp);
         raise_starts(&mut self.slots, slot);
     }
 
@@ -365,7 +365,7 @@ impl Row {
         ensures more { HasMore (missing (is_some (stamps_of (rank (O.places order.now)) self.old slot.0 (rank (O.places order.now) place.0)))) self.old self.new }
     {
         match self.find(order, slot, place) {
-            Ok(index) => write_content(&mut self.stamps, index, content),
+            Ok(index) => self.stamps.write_content(index, content),
             Err(index) => self.insert(index, slot, place, content),
         }
     }
@@ -431,14 +431,13 @@ impl Row {
     ) -> Result<Slots, NoMemory>
         requires row { IsRowIn (O.places order.now) self.now }
         requires life { IsInLife (O.places order.now) self.now at.0 }
+        requires few { length stamps.now < 2 ^ 32 }
         ensures { IfOk result (λ slots. AreSlotsAt (rank (O.places order.now)) self.now (rank (O.places order.now) at.0) stamps.now slots.items) }
     {
         let mut slots = SmallVec::with_capacity(alloc, self.slots.len())?;
         for slot in 0..self.slots.len() {
-            slots.push(Slot {
-                content: Held::new(self.read(order, SlotNo(slot as u16), at)),
-                start: count_slots(stamps, slot),
-            })?;
+            let content = self.read(order, SlotNo(slot as u16), at);
+            slots.push(Slot::new(content, count_slots(stamps, slot)))?;
         }
         Ok(slots)
     }
@@ -460,10 +459,7 @@ fn first_slots(alloc: Global, shape: &TypeShape) -> Result<Slots, NoMemory>
         } else {
             Content::Free
         };
-        slots.push(Slot {
-            content: Held::new(content),
-            start: 0,
-        })?;
+        slots.push(Slot::new(content, 0))?;
     }
     Ok(slots)
 }

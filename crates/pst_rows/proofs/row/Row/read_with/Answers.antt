@@ -1,6 +1,7 @@
-use Rattle.std.proofs.Common.{◌≡◌, ℕ, ◌-◌, List, length, refl, sym, ◌∙◌, arith, subst}
+use Rattle.std.proofs.Common.{◌≡◌, ℕ, ◌-◌, List, length, refl, sym, ap, ◌∙◌, arith, subst}
 use Rattle.pst_order.specs.Places.{rank}
 use Rattle.pst_order.specs.Search.{AreRising, IsPartition, IsFewMore}
+use Rattle.pst_rows.specs.declared.content.Slot.{Slot}
 use Rattle.pst_rows.specs.declared.content.Stamp.{Stamp}
 use Rattle.pst_rows.specs.Rows.{stamped_in}
 use Rattle.pst_rows.specs.Steps.{places_of}
@@ -39,12 +40,12 @@ returns-clause-content g c =
       | then-start-stop+else-start-index w ↦
           let found : IsPartition list (places_of c.args.self.now.stamps.items) c.part-start.result.0 c.part-start.result.1 c.args.at.0 w.partition-index.result = subst (λ (xs : List Stamp). IsPartition list (places_of xs) c.part-start.result.0 c.part-start.result.1 c.args.at.0 w.partition-index.result) w.as_slice-stamps.ensures w.partition-index.ensures.found in
           let same : w.partition-index.result ≡ c.part-start.result.0 = omega (arith, w.if-start-index.false, found.low) in
-          c.content-2.ensures ∙ read_base (rank list) (length list) c.args.self.now c.args.slot.0 (rank list c.args.at.0) c.part-start.result.0 w.partition-index.result c.part-start.result.1 c.requires.row
+          c.content-2.ensures ∙ ap (λ (s : Slot). s.content) c.index-as_slice-from.is ∙ read_base (rank list) (length list) c.args.self.now c.args.slot.0 (rank list c.args.at.0) c.part-start.result.0 w.partition-index.result c.part-start.result.1 c.requires.row
           (part_located list (rank list c.args.self.now.lo.0) (rank list c.args.self.now.hi.0) (length c.args.self.now.slots.items) c.args.self.now.stamps.items c.requires.row.stamps c.requires.row.there c.args.slot.0 c.part-start.result.0 c.part-start.result.1 c.part-start.ensures.start c.part-start.ensures.stop c.args.at.0 w.partition-index.result found)
           c.as_slice.result.now c.from.result _ c.as_slice.ensures c.from.ensures c.requires.slot same
       | else-start-stop w ↦
           let found : IsPartition list (places_of c.args.self.now.stamps.items) c.part-start.result.0 c.part-start.result.1 c.args.at.0 c.part-start.result.0 = empty_partition list (places_of c.args.self.now.stamps.items) c.part-start.result.0 c.part-start.result.1 c.args.at.0 (part_ordered list (rank list c.args.self.now.lo.0) (rank list c.args.self.now.hi.0) (length c.args.self.now.slots.items) c.args.self.now.stamps.items c.requires.row.stamps c.requires.row.there c.args.slot.0 c.part-start.result.0 c.part-start.result.1 c.part-start.ensures.start c.part-start.ensures.stop) w.if-start-stop.false in
-          c.content-2.ensures ∙ read_base (rank list) (length list) c.args.self.now c.args.slot.0 (rank list c.args.at.0) c.part-start.result.0 c.part-start.result.0 c.part-start.result.1 c.requires.row
+          c.content-2.ensures ∙ ap (λ (s : Slot). s.content) c.index-as_slice-from.is ∙ read_base (rank list) (length list) c.args.self.now c.args.slot.0 (rank list c.args.at.0) c.part-start.result.0 c.part-start.result.0 c.part-start.result.1 c.requires.row
           (part_located list (rank list c.args.self.now.lo.0) (rank list c.args.self.now.hi.0) (length c.args.self.now.slots.items) c.args.self.now.stamps.items c.requires.row.stamps c.requires.row.there c.args.slot.0 c.part-start.result.0 c.part-start.result.1 c.part-start.ensures.start c.part-start.ensures.stop c.args.at.0 c.part-start.result.0 found)
           c.as_slice.result.now c.from.result _ c.as_slice.ensures c.from.ensures c.requires.slot refl
     ]
