@@ -6,7 +6,7 @@ use Rattle.pst_base.specs.declared.names.TypeNo.{TypeNo}
 use Rattle.pst_base.specs.declared.names.NodeId.{NodeId}
 use Rattle.pst_base.specs.declared.names.Name.{Name}
 use Rattle.pst_base.specs.declared.names.Kind.TheVariants.{Pointer}
-use Rattle.pst_base.specs.Shape.{type_at, field_kind, field_count}
+use Rattle.pst_base.specs.Shape.{type_at, field_kind, element_count}
 use Rattle.pst_base.specs.Name.{root_name}
 use Rattle.pst_base.specs.Heap.{kind_in, type_in, pointer_in, IsPointer}
 use Rattle.pst_rows.specs.declared.content.Content.{Content}
@@ -67,7 +67,7 @@ module _ (s g : Stored) (at : Place) (r : NodeId) (f x : ℕ) (e : s ≡ g) (k :
       (subst IsPointer (ap (λ (n : Name). kind_in s.shape ((state_of s).heap at) n f) (sym same) ∙ (kind_law s at x f k.store here.0 i).1)
       (subst (λ (g : Stored). IsPointer (kind_at g at r f)) (sym e) kind))
 
-  pub pointer_slot : f < field_count (type_at s.shape ((arena s).ty x))
+  pub pointer_slot : f < element_count (type_at s.shape ((arena s).ty x))
   pointer_slot = (pointer_field (type_at s.shape ((arena s).ty x)) f field.0 field.1).1
 
   pub pointer_target : (o : Option NodeId) → o ≡ target ((arena s).chart.holds x f (begin_of s at)) → option_map (state_of g).name o ≡ pointer_in ((state_of g).heap at) ((state_of g).name r) f

@@ -9,3 +9,4 @@ pub mod Trying
 pub mod Started
 pub mod Unrepaired
 pub mod Rings
+pub mod Repeats

@@ -7,7 +7,7 @@ use Rattle.pst_base.specs.declared.names.NodeId.{NodeId}
 use Rattle.pst_base.specs.declared.names.Name.{Name}
 use Rattle.pst_base.specs.declared.names.Kind.{Kind}
 use Rattle.pst_base.specs.declared.names.Kind.TheVariants.{Int, Pointer}
-use Rattle.pst_base.specs.Shape.{type_at, field_kind, field_count}
+use Rattle.pst_base.specs.Shape.{type_at, field_kind, element_count}
 use Rattle.pst_base.specs.Heap.{Heap, kind_in, type_in, IsPointer, FitsField, IsFull}
 use Rattle.pst_places.specs.State.{HasRoom, Unchanged, PointerStored, Allocated, WritesStay, IsNewType, IsFresh}
 use Rattle.pst_places.proofs.StateLemmas.{WritesStay_trans, IsFresh_unchanged, IsNewType_kept}
@@ -167,8 +167,8 @@ module _ (s g : Stored) (n1 : List Node) (q1 : Noted) (at : Place) (r q : NodeId
       let k1 = h1 s g n1 q1 at r x w in
       let both = full_law s.shape (end_of (with_nodes s n1 q1 s.counts) s.start) (arena_at s.places n1) (rank s.places at.begin.0) x f y k1.arena (drawn (rank s.places) (length s.places) n1 k1.rows) w.inside v.inside link_kind in
       let full_s : IsFull (state_of s).shape ((state_of s).heap at) ((state_of s).name r) f (Some ((state_of s).name q)) = subst (λ (g : Stored). IsFull (state_of g).shape ((state_of g).heap at) ((state_of g).name r) f (Some ((state_of g).name q))) (sym w.view_is) full in
-      let each = both.0 (subst (λ (T : Type 0). T) (sym full_is) full_s) (i - field_count (type_at s.shape ((arena_at s.places n1).ty y))) (omega (arith, o.inverse.from, o.inverse.below)) in
-      let at_i : field_count (type_at s.shape ((arena_at s.places n1).ty y)) + (i - field_count (type_at s.shape ((arena_at s.places n1).ty y))) ≡ i = omega (arith, o.inverse.from) in
+      let each = both.0 (subst (λ (T : Type 0). T) (sym full_is) full_s) (i - element_count (type_at s.shape ((arena_at s.places n1).ty y))) (omega (arith, o.inverse.from, o.inverse.below)) in
+      let at_i : element_count (type_at s.shape ((arena_at s.places n1).ty y)) + (i - element_count (type_at s.shape ((arena_at s.places n1).ty y))) ≡ i = omega (arith, o.inverse.from) in
       false≢true (sym o.available ∙ ap (λ (g : ℕ). is_other_entry x f ((arena_at s.places n1).chart.holds y g (rank s.places at.begin.0))) (sym at_i) ∙ each)
 
   module _ (n2 : List Node) (q2 : Noted) (i : ℕ) (o : (state_of g).writable at) (z : IsPointerWritten s.shape s.places n1 n2 x f (rank s.places at.begin.0) y i) (d : IsWritten s.shape s.places n2 q1 q2) (room : HasRoom (state_of g)) where

@@ -17,6 +17,8 @@
 mod inner;
 #[cfg(test)]
 mod one_split;
+#[cfg(test)]
+mod repeated;
 mod store;
 mod store_heap;
 #[cfg(test)]

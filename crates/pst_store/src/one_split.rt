@@ -22,16 +22,16 @@ use pst_places::{StoreFault, VersionedHeap, link_two};
 use std::alloc::Global;
 
 /// The fields of an item of the ring.
-const VALUE: SlotNo = SlotNo(0);
+pub(crate) const VALUE: SlotNo = SlotNo(0);
 
-const NEXT: SlotNo = SlotNo(1);
+pub(crate) const NEXT: SlotNo = SlotNo(1);
 
 /// The number of forks at which the first item's number is written, which stamps two values each time.
 const FORKS: u32 = 12;
 
 /// Why the test comes to no answer.
 #[derive(Clone, Copy, Debug, PartialEq, Eq)]
-enum Trouble {
+pub(crate) enum Trouble {
     /// What a call needs does not hold.
     Misfit,
     /// A record is held too often.
@@ -56,7 +56,7 @@ impl From<StoreFault> for Trouble {
 }
 
 /// What an item of the ring reads at a place: its number, and the name of the item after it.
-type Reading = (i64, Option<Name>);
+pub(crate) type Reading = (i64, Option<Name>);
 
 /// The store before and after the split.
 #[derive(Drop)]
@@ -91,7 +91,7 @@ fn publish_ring<H: VersionedHeap>(
 }
 
 /// Starts an empty store, and publishes a version with a ring of two items.
-fn start_ring(
+pub(crate) fn start_ring(
     alloc: Global,
     store: &mut Store,
     shape: &Shape,
@@ -195,7 +195,7 @@ fn ring_reading<O: Order + Drop>(
 }
 
 /// What the two items read at each place.
-fn readings<O: Order + Drop>(
+pub(crate) fn readings<O: Order + Drop>(
     alloc: Global,
     core: &Core<O, Arena>,
     places: &[Place],
