@@ -3,7 +3,7 @@ use Rattle.std.proofs.Common.{◌≡◌, ℕ, ◌≤◌, inl, inr, List, [], ◌
 use Rattle.std.specs.Prelude.{IfSome}
 use Rattle.std.specs.Io.KnownBytes.{Appends}
 use Rattle.std.proofs.KnownBytes.{Appends-nil}
-use Rattle.pst_tree.specs.Syntax.{Item}
+use Rattle.pst_tree.specs.Syntax.{ProgramText}
 use Rattle.pst_types.specs.ProcedureView.{program_of}
 use Rattle.pst_program.specs.declared.program.Program.{Program}
 use Rattle.pst_history.specs.Direct.{meaning_of}
@@ -42,32 +42,32 @@ fault_asked ReadFault k question path a left text out fault same has w = absurd 
 fault_asked TooLong k question path a left text out fault same has w = absurd w
 fault_asked Usage k question path a left text out fault same has w = absurd w
 
-module _ (k : Kept) (question : Question) (path : List ℕ) (a b : InputState) (left left' : Option (List ℕ)) (text : List ℕ) (items : List Item) (program : Program)
-    (judged : Judged text (Accepted items (program_of program))) where
+module _ (k : Kept) (question : Question) (path : List ℕ) (a b : InputState) (left left' : Option (List ℕ)) (text : List ℕ) (syntax : ProgramText) (program : Program)
+    (judged : Judged text (Accepted syntax (program_of program))) where
   pub answer_asked : (lines : List (List ℕ)) (piece out : List ℕ) → GivesAll a left b left' lines → k.leaves (meaning_of program) lines
       → Tells program (meaning_of program) (history_after by_tree (meaning_of program) lines) question path piece → out ≡ piece → Asks Done k question path a left b left' text out
   answer_asked lines piece out g kept told e =
-      (lines, g, (Accepted items (program_of program), judged, (kept, (program, refl, subst (Tells program (meaning_of program) (history_after by_tree (meaning_of program) lines) question path) (sym e) told))))
+      (lines, g, (Accepted syntax (program_of program), judged, (kept, (program, refl, subst (Tells program (meaning_of program) (history_after by_tree (meaning_of program) lines) question path) (sym e) told))))
 
   -- the answer was not written whole
   pub answer_stopped : (s : Stop) (lines : List (List ℕ)) (piece out : List ℕ) → GivesAll a left b left' lines → k.leaves (meaning_of program) lines
       → Tells program (meaning_of program) (history_after by_tree (meaning_of program) lines) question path piece → StopsAtReply s (Some piece) out → Asks (status_of s) k question path a left b left' text out
   answer_stopped stop.Write lines piece out g kept told (whole, same, part) =
       let e : whole ≡ piece = cc in
-      inr (lines, g, (Accepted items (program_of program), judged, (kept, (program, refl, (piece, told, subst (λ l. IsPartOf l out) e part)))))
-  answer_stopped stop.Memory lines piece out g kept told none = (none, inr (inr (inr (lines, g, (Accepted items (program_of program), judged, kept)))))
+      inr (lines, g, (Accepted syntax (program_of program), judged, (kept, (program, refl, (piece, told, subst (λ l. IsPartOf l out) e part)))))
+  answer_stopped stop.Memory lines piece out g kept told none = (none, inr (inr (inr (lines, g, (Accepted syntax (program_of program), judged, kept)))))
   answer_stopped stop.Read lines piece out g kept told never = absurd never
   answer_stopped stop.TooLong lines piece out g kept told never = absurd never
 
   -- there was no answer
   pub script_asked : (s : Stop) → StopsAsking k.untouched (k.leaves (meaning_of program)) (k.breaks (meaning_of program)) s a left b left' → Asks (status_of s) k question path a left b left' text []
-  script_asked stop.Read (lines, g, off, kept) = (refl, (lines, g, off, (Accepted items (program_of program), judged, kept)))
-  script_asked stop.TooLong (lines, g, off, kept) = (refl, (lines, g, off, (Accepted items (program_of program), judged, kept)))
+  script_asked stop.Read (lines, g, off, kept) = (refl, (lines, g, off, (Accepted syntax (program_of program), judged, kept)))
+  script_asked stop.TooLong (lines, g, off, kept) = (refl, (lines, g, off, (Accepted syntax (program_of program), judged, kept)))
   script_asked stop.Write never = absurd never
   script_asked stop.Memory (inl none) = (refl, inl none)
-  script_asked stop.Memory (inr (inl (lines, g, off, kept))) = (refl, inr (inl (lines, g, off, (Accepted items (program_of program), judged, kept))))
-  script_asked stop.Memory (inr (inr (inl (lines, g, near, kept)))) = (refl, inr (inr (inl (lines, g, near, (Accepted items (program_of program), judged, kept)))))
-  script_asked stop.Memory (inr (inr (inr (lines, g, kept)))) = (refl, inr (inr (inr (lines, g, (Accepted items (program_of program), judged, kept)))))
+  script_asked stop.Memory (inr (inl (lines, g, off, kept))) = (refl, inr (inl (lines, g, off, (Accepted syntax (program_of program), judged, kept))))
+  script_asked stop.Memory (inr (inr (inl (lines, g, near, kept)))) = (refl, inr (inr (inl (lines, g, near, (Accepted syntax (program_of program), judged, kept)))))
+  script_asked stop.Memory (inr (inr (inr (lines, g, kept)))) = (refl, inr (inr (inr (lines, g, (Accepted syntax (program_of program), judged, kept)))))
 
 -- ---- rows
 

@@ -1,6 +1,6 @@
 -- What comes of the bench.
 use Rattle.std.proofs.Common.{◌≡◌, ℕ, ◌⊎◌, inl, inr, List, [], refl, sym, ap, ◌∙◌, subst, ℤ, ◌+ℤ◌, pos, fold, length, Option, Some}
-use Rattle.pst_tree.specs.Syntax.{Item}
+use Rattle.pst_tree.specs.Syntax.{ProgramText}
 use Rattle.pst_types.specs.ProcedureView.{program_of}
 use Rattle.pst_program.specs.declared.program.Program.{Program}
 use Rattle.pst_script.specs.Texts.{text_of}
@@ -59,21 +59,21 @@ fault_row ReadFault text lines store out fault has w = absurd w
 fault_row TooLong text lines store out fault has w = absurd w
 fault_row Usage text lines store out fault has w = absurd w
 
-pub memory_row : (text : List ℕ) (lines : List (List ℕ)) (old new : Option Stored) (items : List Item) (program : Program) → Judged text (Accepted items (program_of program))
+pub memory_row : (text : List ℕ) (lines : List (List ℕ)) (old new : Option Stored) (syntax : ProgramText) (program : Program) → Judged text (Accepted syntax (program_of program))
     → (new ≡ old) ⊎ AfterSome (script_of by_tree (meaning_of program)) (first_history (meaning_of program)) (IsBroken (meaning_of program) new) lines → BenchRow Memory text lines old new []
-memory_row text lines old new items program judged (inl same) = (refl, inl same)
-memory_row text lines old new items program judged (inr some) = (refl, inr (Accepted items (program_of program), judged, some))
+memory_row text lines old new syntax program judged (inl same) = (refl, inl same)
+memory_row text lines old new syntax program judged (inr some) = (refl, inr (Accepted syntax (program_of program), judged, some))
 
-pub done_row : (text : List ℕ) (lines : List (List ℕ)) (old new : Option Stored) (piece out : List ℕ) (items : List Item) (program : Program) → Judged text (Accepted items (program_of program))
+pub done_row : (text : List ℕ) (lines : List (List ℕ)) (old new : Option Stored) (piece out : List ℕ) (syntax : ProgramText) (program : Program) → Judged text (Accepted syntax (program_of program))
     → IsLeft (meaning_of program) new (history_after by_tree (meaning_of program) lines) → piece ≡ summary_of (meaning_of program) lines new → out ≡ piece → BenchRow Done text lines old new out
-done_row text lines old new piece out items program judged left is w = (Accepted items (program_of program), judged, (left, w ∙ is))
+done_row text lines old new piece out syntax program judged left is w = (Accepted syntax (program_of program), judged, (left, w ∙ is))
 
-pub stopped_row : (s : Stop) (text : List ℕ) (lines : List (List ℕ)) (old new : Option Stored) (piece out : List ℕ) (items : List Item) (program : Program) → Judged text (Accepted items (program_of program))
+pub stopped_row : (s : Stop) (text : List ℕ) (lines : List (List ℕ)) (old new : Option Stored) (piece out : List ℕ) (syntax : ProgramText) (program : Program) → Judged text (Accepted syntax (program_of program))
     → IsLeft (meaning_of program) new (history_after by_tree (meaning_of program) lines) → piece ≡ summary_of (meaning_of program) lines new → StopsAtReply s (Some piece) out → BenchRow (status_of s) text lines old new out
-stopped_row stop.Write text lines old new piece out items program judged left is (whole, same, part) =
+stopped_row stop.Write text lines old new piece out syntax program judged left is (whole, same, part) =
     let e : whole ≡ piece = cc in
-    (Accepted items (program_of program), judged, (left, subst (λ l. IsPartOf l out) (e ∙ is) part))
-stopped_row stop.Memory text lines old new piece out items program judged left is none =
-    (none, inr (Accepted items (program_of program), judged, broken_behind (meaning_of program) lines new left))
-stopped_row stop.Read text lines old new piece out items program judged left is never = absurd never
-stopped_row stop.TooLong text lines old new piece out items program judged left is never = absurd never
+    (Accepted syntax (program_of program), judged, (left, subst (λ l. IsPartOf l out) (e ∙ is) part))
+stopped_row stop.Memory text lines old new piece out syntax program judged left is none =
+    (none, inr (Accepted syntax (program_of program), judged, broken_behind (meaning_of program) lines new left))
+stopped_row stop.Read text lines old new piece out syntax program judged left is never = absurd never
+stopped_row stop.TooLong text lines old new piece out syntax program judged left is never = absurd never

@@ -12,4 +12,5 @@ pub mod Summing
 pub mod Benching
 pub mod Carrying
 pub mod AskRows
+pub mod Early
 pub mod Finding

@@ -313,7 +313,7 @@ answers_lack k Code input left out is read w = absurd is
 
 -- the output of the same verdict for another script
 pub refused_alike : (k : Kept) (job : Job) (input text out : List ℕ) (c : CutInput) → IsAnswering job → Outputs (Refusing k) IsAll text (replied (rules_of job) []) out → c.text ≡ text → Writes (Refusing k) IsAll job c out
-refused_alike k job input text out c is (Accepted items program, judged, never, written) e = absurd never
+refused_alike k job input text out c is (Accepted syntax program, judged, never, written) e = absurd never
 refused_alike k job input text out c is (IsRefusedBy fault, judged, same, written) e =
     answers_written (Refusing k) job c out is (IsRefusedBy fault, subst (λ t. Judged t (IsRefusedBy fault)) (sym e) judged, same, written)
 
@@ -434,11 +434,11 @@ page_writes Is Canonical c text out e w = subst (λ v. Outputs Is IsAll v (print
 page_writes Is Listing c text out e w = subst (λ v. Outputs Is IsAll v (printed Listing) out) (sym e) w
 
 accepted_still : (P : Type 0) → P → (page : Page) (text out : List ℕ) (lines : List (List ℕ)) → Outputs IsAccepted IsAll text (printed page) out → Outputs (Accepting (still P) lines) IsAll text (printed page) out
-accepted_still P p page text out lines (Accepted items program, judged, is, w) = (Accepted items program, judged, p, w)
+accepted_still P p page text out lines (Accepted syntax program, judged, is, w) = (Accepted syntax program, judged, p, w)
 accepted_still P p page text out lines (IsRefusedBy fault, judged, never, w) = absurd never
 
 refused_still : (P : Type 0) → P → (page : Page) (text out : List ℕ) → Outputs IsRefused IsAll text (printed page) out → Outputs (Refusing (still P)) IsAll text (printed page) out
-refused_still P p page text out (Accepted items program, judged, never, w) = absurd never
+refused_still P p page text out (Accepted syntax program, judged, never, w) = absurd never
 refused_still P p page text out (IsRefusedBy fault, judged, is, w) = (IsRefusedBy fault, judged, p, w)
 
 page_stops : (P : Type 0) → P → (page : Page) (input : List ℕ) (left : Option (List ℕ)) (out : List ℕ) → ReadsUpTo [] input left → OfVerdict (cut_of input).text (λ verdict. StopsInPage page verdict out)

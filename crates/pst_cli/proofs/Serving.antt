@@ -1,7 +1,7 @@
 -- What comes of the text of a program.
 use Rattle.std.proofs.Common.{◌≡◌, ℕ, inl, inr, List, [], ◌∷◌, refl, sym, ◌∙◌, subst, Option, Some, append-nil}
 use Rattle.std.specs.Io.KnownBytes.{Appends, IsAtEnd}
-use Rattle.pst_tree.specs.Syntax.{Item}
+use Rattle.pst_tree.specs.Syntax.{ProgramText}
 use Rattle.pst_types.specs.Declarations.{NamedProgram}
 use Rattle.pst_program.specs.declared.program.Program.{Program}
 use Rattle.pst_types.specs.ProcedureView.{program_of}
@@ -53,38 +53,38 @@ fault_served Usage rules k a left text out fault same near has w = absurd w
 
 -- ---- a page
 
-pub page_printed : (page : Page) (text piece out : List ℕ) (items : List Item) (program : NamedProgram) → Judged text (Accepted items program) → piece ≡ page_text page items program → out ≡ piece
+pub page_printed : (page : Page) (text piece out : List ℕ) (syntax : ProgramText) (program : NamedProgram) → Judged text (Accepted syntax program) → piece ≡ page_text page syntax program → out ≡ piece
     → Prints Done page text out
-page_printed page text piece out items program judged is w = (Accepted items program, judged, tt, one_whole _ out (w ∙ is))
+page_printed page text piece out syntax program judged is w = (Accepted syntax program, judged, tt, one_whole _ out (w ∙ is))
 
-pub page_stopped : (s : Stop) (page : Page) (text piece out : List ℕ) (items : List Item) (program : NamedProgram) → Judged text (Accepted items program) → piece ≡ page_text page items program
+pub page_stopped : (s : Stop) (page : Page) (text piece out : List ℕ) (syntax : ProgramText) (program : NamedProgram) → Judged text (Accepted syntax program) → piece ≡ page_text page syntax program
     → StopsAtReply s (Some piece) out → Prints (status_of s) page text out
-page_stopped stop.Write page text piece out items program judged is (whole, same, part) =
+page_stopped stop.Write page text piece out syntax program judged is (whole, same, part) =
     let e : whole ≡ piece = cc in
-    (Accepted items program, judged, subst (λ l. IsPartOf l out) (e ∙ is) part)
-page_stopped stop.Memory page text piece out items program judged is s = s
-page_stopped stop.Read page text piece out items program judged is s = absurd s
-page_stopped stop.TooLong page text piece out items program judged is s = absurd s
+    (Accepted syntax program, judged, subst (λ l. IsPartOf l out) (e ∙ is) part)
+page_stopped stop.Memory page text piece out syntax program judged is s = s
+page_stopped stop.Read page text piece out syntax program judged is s = absurd s
+page_stopped stop.TooLong page text piece out syntax program judged is s = absurd s
 
 -- ---- the script
 
-pub script_answered : {T : Type 0} (rules : Rules) (leaves breaks : Meaning → T → History → Type 0) (old new : T) (a b : InputState) (left left' : Option (List ℕ)) (text out : List ℕ) (items : List Item) (program : Program)
-    (given : List (List ℕ)) → Judged text (Accepted items (program_of program)) → Gives a left b left' given → IsOver b → IsAtEnd left'
+pub script_answered : {T : Type 0} (rules : Rules) (leaves breaks : Meaning → T → History → Type 0) (old new : T) (a b : InputState) (left left' : Option (List ℕ)) (text out : List ℕ) (syntax : ProgramText) (program : Program)
+    (given : List (List ℕ)) → Judged text (Accepted syntax (program_of program)) → Gives a left b left' given → IsOver b → IsAtEnd left'
     → IsAll (pieces_from (script_of rules (meaning_of program)) (first_history (meaning_of program)) given) out
     → leaves (meaning_of program) new (state_after (script_of rules (meaning_of program)) (first_history (meaning_of program)) given)
     → Serves Done rules (kept_by rules leaves breaks old new) a left b left' text out
-script_answered rules leaves breaks old new a b left left' text out items program given judged g over end w kept =
-    (given, g, over, end, (Accepted items (program_of program), judged, kept, w))
+script_answered rules leaves breaks old new a b left left' text out syntax program given judged g over end w kept =
+    (given, g, over, end, (Accepted syntax (program_of program), judged, kept, w))
 
-pub script_stopped : {T : Type 0} (rules : Rules) (leaves breaks : Meaning → T → History → Type 0) (old new : T) (s : Stop) (a b : InputState) (left left' : Option (List ℕ)) (text out : List ℕ) (items : List Item)
-    (program : Program) (given : List (List ℕ)) → Judged text (Accepted items (program_of program))
+pub script_stopped : {T : Type 0} (rules : Rules) (leaves breaks : Meaning → T → History → Type 0) (old new : T) (s : Stop) (a b : InputState) (left left' : Option (List ℕ)) (text out : List ℕ) (syntax : ProgramText)
+    (program : Program) (given : List (List ℕ)) → Judged text (Accepted syntax (program_of program))
     → StopsAnswering (script_of rules (meaning_of program)) (first_history (meaning_of program)) (leaves (meaning_of program) new) (breaks (meaning_of program) new) s a left b left' given out
     → Serves (status_of s) rules (kept_by rules leaves breaks old new) a left b left' text out
-script_stopped rules leaves breaks old new stop.Read a b left left' text out items program given judged (g, off, w, kept) = (given, g, off, (Accepted items (program_of program), judged, kept, w))
-script_stopped rules leaves breaks old new stop.TooLong a b left left' text out items program given judged (g, off, w, kept) = (given, g, off, (Accepted items (program_of program), judged, kept, w))
-script_stopped rules leaves breaks old new stop.Write a b left left' text out items program given judged (g, near, w, kept) = (given, g, near, (Accepted items (program_of program), judged, (w, kept)))
-script_stopped rules leaves breaks old new stop.Memory a b left left' text out items program given judged (g, inl (off, w, kept)) = inr (inl (given, g, off, (Accepted items (program_of program), judged, kept, w)))
-script_stopped rules leaves breaks old new stop.Memory a b left left' text out items program given judged (g, inr (near, w, kept)) = inr (inr (given, g, near, (Accepted items (program_of program), judged, (w, kept))))
+script_stopped rules leaves breaks old new stop.Read a b left left' text out syntax program given judged (g, off, w, kept) = (given, g, off, (Accepted syntax (program_of program), judged, kept, w))
+script_stopped rules leaves breaks old new stop.TooLong a b left left' text out syntax program given judged (g, off, w, kept) = (given, g, off, (Accepted syntax (program_of program), judged, kept, w))
+script_stopped rules leaves breaks old new stop.Write a b left left' text out syntax program given judged (g, near, w, kept) = (given, g, near, (Accepted syntax (program_of program), judged, (w, kept)))
+script_stopped rules leaves breaks old new stop.Memory a b left left' text out syntax program given judged (g, inl (off, w, kept)) = inr (inl (given, g, off, (Accepted syntax (program_of program), judged, kept, w)))
+script_stopped rules leaves breaks old new stop.Memory a b left left' text out syntax program given judged (g, inr (near, w, kept)) = inr (inr (given, g, near, (Accepted syntax (program_of program), judged, (w, kept))))
 
 -- ---- what is held, said otherwise
 
@@ -95,19 +95,19 @@ pub record Implies (k n : Kept) : Type 0 where
   pub untouched : k.untouched → n.untouched
 
 accepted_as : (rules : Rules) (k n : Kept) → Implies k n → (text out : List ℕ) (lines : List (List ℕ)) → Outputs (Accepting k lines) IsAll text (replied rules lines) out → Outputs (Accepting n lines) IsAll text (replied rules lines) out
-accepted_as rules k n i text out lines (Accepted items program, judged, kept, w) = (Accepted items program, judged, i.leaves _ lines kept, w)
+accepted_as rules k n i text out lines (Accepted syntax program, judged, kept, w) = (Accepted syntax program, judged, i.leaves _ lines kept, w)
 accepted_as rules k n i text out lines (IsRefusedBy fault, judged, never, w) = absurd never
 
 refused_as : (rules : Rules) (k n : Kept) → Implies k n → (text out : List ℕ) → Outputs (Refusing k) IsAll text (replied rules []) out → Outputs (Refusing n) IsAll text (replied rules []) out
-refused_as rules k n i text out (Accepted items program, judged, never, w) = absurd never
+refused_as rules k n i text out (Accepted syntax program, judged, never, w) = absurd never
 refused_as rules k n i text out (IsRefusedBy fault, judged, same, w) = (IsRefusedBy fault, judged, i.untouched same, w)
 
 in_piece_as : (rules : Rules) (k n : Kept) → Implies k n → (text out : List ℕ) (lines : List (List ℕ)) → OfVerdict text (λ verdict. StopsInPiece rules k lines verdict out) → OfVerdict text (λ verdict. StopsInPiece rules n lines verdict out)
-in_piece_as rules k n i text out lines (Accepted items program, judged, (w, kept)) = (Accepted items program, judged, (w, i.leaves _ lines kept))
+in_piece_as rules k n i text out lines (Accepted syntax program, judged, (w, kept)) = (Accepted syntax program, judged, (w, i.leaves _ lines kept))
 in_piece_as rules k n i text out lines (IsRefusedBy fault, judged, (none, w, same)) = (IsRefusedBy fault, judged, (none, w, i.untouched same))
 
 before_piece_as : (rules : Rules) (k n : Kept) → Implies k n → (text out : List ℕ) (lines : List (List ℕ)) → OfVerdict text (λ verdict. StopsBeforePiece rules k lines verdict out) → OfVerdict text (λ verdict. StopsBeforePiece rules n lines verdict out)
-before_piece_as rules k n i text out lines (Accepted items program, judged, (w, kept)) = (Accepted items program, judged, (w, i.breaks _ lines kept))
+before_piece_as rules k n i text out lines (Accepted syntax program, judged, (w, kept)) = (Accepted syntax program, judged, (w, i.breaks _ lines kept))
 before_piece_as rules k n i text out lines (IsRefusedBy fault, judged, never) = absurd never
 
 -- what is left of a program and its script is left so too

@@ -8,7 +8,7 @@ use Rattle.pst_lex.proofs.Unique.{one_lexing, one_fault, not_both}
 use Rattle.pst_tree.specs.Syntax as tree
 use Rattle.pst_parse.specs.Lexemes.{Lexeme, lexeme, lexemes}
 use Rattle.pst_parse.specs.Forms.{IsProgram, IsShallow}
-use Rattle.pst_parse.specs.Spelling.{Item, program}
+use Rattle.pst_parse.specs.Spelling.{Program, program}
 use Rattle.pst_parse.specs.Grammar.{Spells, Begins, IsUnexpected, IsTooDeep, line_at}
 use Rattle.pst_parse.proofs.Faults.{unique}
 use Rattle.pst_types.specs.declared.fault.TypeFault.{TypeFault}
@@ -55,7 +55,7 @@ places (x ∷ xs) ys (z ∷ zs) ws e =
 
 -- no program within the limits goes on
 abbrev GoesNot : List Lexeme → List Lexeme → Type 0
-GoesNot before [] = (p : List Item) → IsShallow 63 15 (program p) → Spells before p → ⊥
+GoesNot before [] = (p : Program) → IsShallow 63 15 (program p) → Spells before p → ⊥
 GoesNot before (t ∷ ts) = Begins (IsShallow 63 15) (before ++ (t ∷ [])) → ⊥
 
 -- programs within the limits begin with those before, and none goes on
@@ -79,7 +79,7 @@ further before rest t more later none (p, end, shallow, spells) =
     none (p, more ++ end, shallow, spells ∙ (append_assoc before (t ∷ more) end ∙ sym (append_assoc before (t ∷ []) (more ++ end))))
 
 -- a program within the limits has no fault
-no_fault : (before rest : List Lexeme) (p : List Item) → GoesNot before rest → IsShallow 63 15 (program p) → Spells (before ++ rest) p → ⊥
+no_fault : (before rest : List Lexeme) (p : Program) → GoesNot before rest → IsShallow 63 15 (program p) → Spells (before ++ rest) p → ⊥
 no_fault before [] p none shallow spells = none p shallow (spells ∙ append-nil before)
 no_fault before (t ∷ ts) p none shallow spells = none (p, ts, shallow, spells ∙ sym (append_assoc before (t ∷ []) ts))
 
@@ -128,24 +128,24 @@ abbrev of_parse : Bool → ℕ → Verdict
 of_parse true line = Refused (record { kind = kind.TooDeep; line = line })
 of_parse false line = Refused (record { kind = kind.Unexpected; line = line })
 
-abbrev of_checked : List tree.Item → Result NamedProgram TypeFault → Verdict
-of_checked items (Ok typed) = Accepted items typed
-of_checked items (Err (typing.Unknown line)) = Refused (record { kind = kind.Unknown; line = line })
-of_checked items (Err (typing.Duplicate line)) = Refused (record { kind = kind.Duplicate; line = line })
-of_checked items (Err (typing.Mismatch line)) = Refused (record { kind = kind.Mismatch; line = line })
-of_checked items (Err (typing.Limit line)) = Refused (record { kind = kind.Limit; line = line })
-of_checked items (Err (typing.TooMany line)) = Refused (record { kind = kind.TooMany; line = line })
-of_checked items (Err (typing.QueryWrites line)) = Refused (record { kind = kind.QueryWrites; line = line })
-of_checked items (Err typing.Memory) = Refused (record { kind = kind.Byte; line = 0 })
+abbrev of_checked : tree.ProgramText → Result NamedProgram TypeFault → Verdict
+of_checked syntax (Ok typed) = Accepted syntax typed
+of_checked syntax (Err (typing.Unknown line)) = Refused (record { kind = kind.Unknown; line = line })
+of_checked syntax (Err (typing.Duplicate line)) = Refused (record { kind = kind.Duplicate; line = line })
+of_checked syntax (Err (typing.Mismatch line)) = Refused (record { kind = kind.Mismatch; line = line })
+of_checked syntax (Err (typing.Limit line)) = Refused (record { kind = kind.Limit; line = line })
+of_checked syntax (Err (typing.TooMany line)) = Refused (record { kind = kind.TooMany; line = line })
+of_checked syntax (Err (typing.QueryWrites line)) = Refused (record { kind = kind.QueryWrites; line = line })
+of_checked syntax (Err typing.Memory) = Refused (record { kind = kind.Byte; line = 0 })
 
 abbrev Known : List ℕ → Verdict → Type 0
 Known text v =
     ((f : LexFault) × Faults text f × (v ≡ of_lex f))
     ⊎ (((deep : Bool) × (line : ℕ) × HasParseFault text (Sort deep) line × (v ≡ of_parse deep line))
-    ⊎ ((items : List tree.Item) × HasTree text items × (v ≡ of_checked items (checked items))))
+    ⊎ ((syntax : tree.ProgramText) × HasTree text syntax × (v ≡ of_checked syntax (checked syntax.items))))
 
-typed_known : (text : List ℕ) (v : Verdict) (items : List tree.Item) (answer : Result NamedProgram TypeFault) → HasTree text items → checked items ≡ answer → v ≡ of_checked items answer → Known text v
-typed_known text v items answer has is e = inr (inr (items, has, e ∙ ap (of_checked items) (sym is)))
+typed_known : (text : List ℕ) (v : Verdict) (syntax : tree.ProgramText) (answer : Result NamedProgram TypeFault) → HasTree text syntax → checked syntax.items ≡ answer → v ≡ of_checked syntax answer → Known text v
+typed_known text v syntax answer has is e = inr (inr (syntax, has, e ∙ ap (of_checked syntax) (sym is)))
 
 fault_known : (text : List ℕ) (k : FaultKind) (line : ℕ) → HasFault text k line → Known text (Refused (record { kind = k; line = line }))
 fault_known text kind.Byte line h = inl (lexical.Byte line, h, refl)
@@ -153,28 +153,28 @@ fault_known text kind.Number line h = inl (lexical.Number line, h, refl)
 fault_known text kind.NameLength line h = inl (lexical.NameLength line, h, refl)
 fault_known text kind.Unexpected line h = inr (inl (false, line, h, refl))
 fault_known text kind.TooDeep line h = inr (inl (true, line, h, refl))
-fault_known text kind.Unknown line (items, has, is) = typed_known text _ items (Err (typing.Unknown line)) has is refl
-fault_known text kind.Duplicate line (items, has, is) = typed_known text _ items (Err (typing.Duplicate line)) has is refl
-fault_known text kind.Mismatch line (items, has, is) = typed_known text _ items (Err (typing.Mismatch line)) has is refl
-fault_known text kind.Limit line (items, has, is) = typed_known text _ items (Err (typing.Limit line)) has is refl
-fault_known text kind.TooMany line (items, has, is) = typed_known text _ items (Err (typing.TooMany line)) has is refl
-fault_known text kind.QueryWrites line (items, has, is) = typed_known text _ items (Err (typing.QueryWrites line)) has is refl
+fault_known text kind.Unknown line (syntax, has, is) = typed_known text _ syntax (Err (typing.Unknown line)) has is refl
+fault_known text kind.Duplicate line (syntax, has, is) = typed_known text _ syntax (Err (typing.Duplicate line)) has is refl
+fault_known text kind.Mismatch line (syntax, has, is) = typed_known text _ syntax (Err (typing.Mismatch line)) has is refl
+fault_known text kind.Limit line (syntax, has, is) = typed_known text _ syntax (Err (typing.Limit line)) has is refl
+fault_known text kind.TooMany line (syntax, has, is) = typed_known text _ syntax (Err (typing.TooMany line)) has is refl
+fault_known text kind.QueryWrites line (syntax, has, is) = typed_known text _ syntax (Err (typing.QueryWrites line)) has is refl
 
 known : (text : List ℕ) (v : Verdict) → Judged text v → Known text v
-known text (Accepted items typed) (has, is) = typed_known text (Accepted items typed) items (Ok typed) has is refl
+known text (Accepted syntax typed) (has, is) = typed_known text (Accepted syntax typed) syntax (Ok typed) has is refl
 known text (Refused fault) h = fault_known text fault.kind fault.line h
 
 -- ---- a text is known in one way
 
-same_tree : (text : List ℕ) (items items' : List tree.Item) → HasTree text items → HasTree text items' → items ≡ items'
-same_tree text items items' (a, lexes, (p, is, shallow, spells)) (b, lexes', (q, is', shallow', spells')) =
+same_tree : (text : List ℕ) (syntax syntax' : tree.ProgramText) → HasTree text syntax → HasTree text syntax' → syntax ≡ syntax'
+same_tree text syntax syntax' (a, lexes, (p, is, shallow, spells)) (b, lexes', (q, is', shallow', spells')) =
     let (same, end) = one_lexing text a.list b.list a.end b.end lexes lexes' in
     let formed : IsProgram (program p) = subst IsProgram (sym is) shallow.formed in
     let formed' : IsProgram (program q) = subst IsProgram (sym is') shallow'.formed in
     sym is ∙ unique (lexemes b.list) p q formed formed' (subst (λ l. Spells (lexemes l) p) same spells) spells' ∙ is'
 
-fault_or_tree : (text : List ℕ) (deep : Bool) (line : ℕ) (items : List tree.Item) → HasParseFault text (Sort deep) line → HasTree text items → ⊥
-fault_or_tree text deep line items (a, lexes, (before, rest, split, sort, on)) (b, lexes', (p, is, shallow, spells)) =
+fault_or_tree : (text : List ℕ) (deep : Bool) (line : ℕ) (syntax : tree.ProgramText) → HasParseFault text (Sort deep) line → HasTree text syntax → ⊥
+fault_or_tree text deep line syntax (a, lexes, (before, rest, split, sort, on)) (b, lexes', (p, is, shallow, spells)) =
     let (same, end) = one_lexing text b.list a.list b.end a.end lexes' lexes in
     no_fault (lexemes before) (lexemes rest) p (stops deep _ _ sort).1 (subst (IsShallow 63 15) (sym is) shallow)
     (subst (λ l. Spells l p) (ap lexemes (same ∙ split) ∙ lexemes-append before rest) spells)
@@ -190,13 +190,13 @@ same_fault text d e line line' (a, lexes, (before, rest, split, sort, on)) (b, l
 same_known : (text : List ℕ) (v w : Verdict) → Known text v → Known text w → v ≡ w
 same_known text v w (inl (f, h, is)) (inl (g, k, is')) = is ∙ ap of_lex (one_fault text f g h k) ∙ sym is'
 same_known text v w (inl (f, h, is)) (inr (inl (deep, line, (tokens, lexes, stands), is'))) = absurd (not_both text tokens.list tokens.end f lexes h)
-same_known text v w (inl (f, h, is)) (inr (inr (items, (tokens, lexes, spelled), is'))) = absurd (not_both text tokens.list tokens.end f lexes h)
+same_known text v w (inl (f, h, is)) (inr (inr (syntax, (tokens, lexes, spelled), is'))) = absurd (not_both text tokens.list tokens.end f lexes h)
 same_known text v w (inr (inl (deep, line, (tokens, lexes, stands), is'))) (inl (f, h, is)) = absurd (not_both text tokens.list tokens.end f lexes h)
-same_known text v w (inr (inr (items, (tokens, lexes, spelled), is'))) (inl (f, h, is)) = absurd (not_both text tokens.list tokens.end f lexes h)
+same_known text v w (inr (inr (syntax, (tokens, lexes, spelled), is'))) (inl (f, h, is)) = absurd (not_both text tokens.list tokens.end f lexes h)
 same_known text v w (inr (inl (d, line, h, is))) (inr (inl (e, line', k, is'))) = is ∙ same_fault text d e line line' h k ∙ sym is'
-same_known text v w (inr (inl (d, line, h, is))) (inr (inr (items, k, is'))) = absurd (fault_or_tree text d line items h k)
-same_known text v w (inr (inr (items, k, is'))) (inr (inl (d, line, h, is))) = absurd (fault_or_tree text d line items h k)
-same_known text v w (inr (inr (items, h, is))) (inr (inr (items', k, is'))) = is ∙ ap (λ i. of_checked i (checked i)) (same_tree text items items' h k) ∙ sym is'
+same_known text v w (inr (inl (d, line, h, is))) (inr (inr (syntax, k, is'))) = absurd (fault_or_tree text d line syntax h k)
+same_known text v w (inr (inr (syntax, k, is'))) (inr (inl (d, line, h, is))) = absurd (fault_or_tree text d line syntax h k)
+same_known text v w (inr (inr (syntax, h, is))) (inr (inr (syntax', k, is'))) = is ∙ ap (λ t. of_checked t (checked t.items)) (same_tree text syntax syntax' h k) ∙ sym is'
 
 pub one_verdict : (text : List ℕ) (v w : Verdict) → Judged text v → Judged text w → v ≡ w
 one_verdict text v w h k = same_known text v w (known text v h) (known text w k)

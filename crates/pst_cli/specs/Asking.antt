@@ -74,7 +74,7 @@ WhereThere s version Is out =
 
 -- these lines were carried out, and so much is written of the answer about the history after them
 abbrev pub Answered : Kept → List (List ℕ) → (Program → Meaning → History → List ℕ → Type 0) → Verdict → List ℕ → Type 0
-Answered k lines Told (Accepted items named) out =
+Answered k lines Told (Accepted syntax named) out =
     let m = direct (routines_in named) in
     k.leaves m lines × ((program : Program) × (program_of program ≡ named) × Told program m (history_after by_tree m lines) out)
 Answered k lines Told (IsRefusedBy fault) out = ⊥
@@ -89,12 +89,12 @@ IsPartOfAnswer question path program m h out = (piece : List ℕ) × Tells progr
 
 -- a proper part of the line of the fault is written
 abbrev pub StopsInFault : Kept → Verdict → List ℕ → Type 0
-StopsInFault k (Accepted items named) out = ⊥
+StopsInFault k (Accepted syntax named) out = ⊥
 StopsInFault k (IsRefusedBy fault) out = k.untouched × IsPartOf (fault_text fault) out
 
 -- there was no room in the last of these lines
 abbrev pub BreaksAt : Kept → List (List ℕ) → Verdict → Type 0
-BreaksAt k lines (Accepted items named) = k.breaks (direct (routines_in named)) lines
+BreaksAt k lines (Accepted syntax named) = k.breaks (direct (routines_in named)) lines
 BreaksAt k lines (IsRefusedBy fault) = ⊥
 
 -- ---- the table

@@ -70,26 +70,26 @@ summary_of m lines store =
 
 -- all lines are carried out, and the summary is written
 abbrev pub EndsBench : List (List ℕ) → Option Stored → List ℕ → Verdict → Type 0
-EndsBench lines new out (Accepted items program) =
+EndsBench lines new out (Accepted syntax program) =
     let m = direct (routines_in program) in
     IsLeft m new (history_after by_tree m lines) × (out ≡ summary_of m lines new)
 EndsBench lines new out (IsRefusedBy fault) = ⊥
 
 -- the program is refused by the line of its fault
 abbrev pub RefusesBench : (old new : Option Stored) → List ℕ → Verdict → Type 0
-RefusesBench old new out (Accepted items program) = ⊥
+RefusesBench old new out (Accepted syntax program) = ⊥
 RefusesBench old new out (IsRefusedBy fault) = (new ≡ old) × (out ≡ fault_text fault)
 
 -- a proper part of the summary or of the line of the fault is written
 abbrev pub StopsBench : List (List ℕ) → (old new : Option Stored) → List ℕ → Verdict → Type 0
-StopsBench lines old new out (Accepted items program) =
+StopsBench lines old new out (Accepted syntax program) =
     let m = direct (routines_in program) in
     IsLeft m new (history_after by_tree m lines) × IsPartOf (summary_of m lines new) out
 StopsBench lines old new out (IsRefusedBy fault) = (new ≡ old) × IsPartOf (fault_text fault) out
 
 -- the store has the versions of the history after some first ones of the lines
 abbrev pub BreaksBench : List (List ℕ) → Option Stored → Verdict → Type 0
-BreaksBench lines new (Accepted items program) =
+BreaksBench lines new (Accepted syntax program) =
     let m = direct (routines_in program) in
     AfterSome (script_of by_tree m) (first_history m) (IsBroken m new) lines
 BreaksBench lines new (IsRefusedBy fault) = ⊥

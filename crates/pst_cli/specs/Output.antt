@@ -28,17 +28,17 @@ replies_of rules m script = pieces_from (script_of rules m) (first_history m) sc
 -- the line of the fault, or the replies to the script
 abbrev pub replied : Rules → List (List ℕ) → Verdict → List (List ℕ)
 replied rules script (Refused fault) = fault_text fault ∷ []
-replied rules script (Accepted items program) = replies_of rules (direct (routines_in program)) script
+replied rules script (Accepted syntax program) = replies_of rules (direct (routines_in program)) script
 
 -- the canonical text of a program, or the listing of its code
-abbrev pub page_text : Page → List tree.Item → NamedProgram → List ℕ
-page_text Canonical items program = canonical items
-page_text Listing items program = listed (code_of (routines_in program)) program.names
+abbrev pub page_text : Page → tree.ProgramText → NamedProgram → List ℕ
+page_text Canonical syntax program = canonical syntax
+page_text Listing syntax program = listed (code_of (routines_in program)) program.names
 
 -- the line of the fault, or the page
 abbrev pub printed : Page → Verdict → List (List ℕ)
 printed page (Refused fault) = fault_text fault ∷ []
-printed page (Accepted items program) = page_text page items program ∷ []
+printed page (Accepted syntax program) = page_text page syntax program ∷ []
 
 -- How the commands of a script are answered. The jobs that answer none may have any rules.
 abbrev pub rules_of : Job → Rules
@@ -65,30 +65,30 @@ OfVerdict text P = (verdict : Verdict) × Judged text verdict × P verdict
 
 -- the program is accepted, and what is held is left after these lines of the script
 abbrev pub Accepting : Kept → List (List ℕ) → Verdict → Type 0
-Accepting k lines (Accepted items program) = k.leaves (direct (routines_in program)) lines
+Accepting k lines (Accepted syntax program) = k.leaves (direct (routines_in program)) lines
 Accepting k lines (Refused fault) = ⊥
 
 -- the program is refused, and what is held is untouched
 abbrev pub Refusing : Kept → Verdict → Type 0
-Refusing k (Accepted items program) = ⊥
+Refusing k (Accepted syntax program) = ⊥
 Refusing k (Refused fault) = k.untouched
 
 -- A proper part of the line of the fault is written, before any line of the script is read; or the lines of the script are
 -- carried out and answered but for the last, which is carried out, and a proper part of the reply to it is written.
 abbrev pub StopsInPiece : Rules → Kept → List (List ℕ) → Verdict → List ℕ → Type 0
 StopsInPiece rules k given (Refused fault) out = (given ≡ []) × IsPartOf (fault_text fault) out × k.untouched
-StopsInPiece rules k given (Accepted items program) out =
+StopsInPiece rules k given (Accepted syntax program) out =
     let m = direct (routines_in program) in
     StopsInReply (script_of rules m) (first_history m) given out × k.leaves m given
 
 -- the lines of the script are answered but for the last one, in which there was no room
 abbrev pub StopsBeforePiece : Rules → Kept → List (List ℕ) → Verdict → List ℕ → Type 0
 StopsBeforePiece rules k given (Refused fault) out = ⊥
-StopsBeforePiece rules k given (Accepted items program) out =
+StopsBeforePiece rules k given (Accepted syntax program) out =
     let m = direct (routines_in program) in
     StopsBeforeReply (script_of rules m) (first_history m) given out × k.breaks m given
 
 -- a proper part of the line of the fault or of the page is written
 abbrev pub StopsInPage : Page → Verdict → List ℕ → Type 0
 StopsInPage page (Refused fault) out = IsPartOf (fault_text fault) out
-StopsInPage page (Accepted items program) out = IsPartOf (page_text page items program) out
+StopsInPage page (Accepted syntax program) out = IsPartOf (page_text page syntax program) out

@@ -1,6 +1,8 @@
 -- What the functions below the top call come to.
-use Rattle.std.specs.Prelude.{◌≡◌, ℕ, false, ◌⊎◌, List, [], Option, Some, Result, Ok, Err}
+use Rattle.std.specs.Prelude.{◌≡◌, ℕ, false, ◌⊎◌, List, [], ◌∷◌, ◌++◌, Option, Some, Result, Ok, Err}
 use Rattle.std.specs.Io.KnownBytes.{IsAtEnd}
+use Rattle.pst_lex.specs.declared.types.Token.{Token}
+use Rattle.pst_lex.specs.Lexing.{Lexes}
 use Rattle.pst_io.specs.Input.{InputState, Gives, IsOver, IsCutOff}
 use Rattle.pst_program.specs.declared.program.Program.{Program}
 use Rattle.pst_program.specs.View.{routines_of}
@@ -29,6 +31,10 @@ use Rattle.pst_cli.specs.Reading.{GivesPast, IsNear}
 abbrev pub IsNoProgram : List ℕ → NoProgram → Type 0
 IsNoProgram text (no.Fault fault) = HasFault text fault.kind fault.line
 IsNoProgram text no.Memory = Unit {0}
+
+-- each text that has these tokens and others behind them is refused for this reason
+abbrev pub IsEarlyFault : List Token → NoProgram → Type 0
+IsEarlyFault front why = (text : List ℕ) (t : Token) (more : List Token) (end : ℕ) → Lexes text (front ++ t ∷ more) end → IsNoProgram text why
 
 -- what answers and what it holds stand for some history of a program
 abbrev pub StandForSome : {S T : Type 0} → (S → T → Meaning → History → Type 0) → S → T → Type 0

@@ -7,7 +7,7 @@ use Rattle.pst_lex.specs.Lexing.{Lexes, Faults}
 use Rattle.pst_tree.specs.Syntax as tree
 use Rattle.pst_parse.specs.Lexemes.{Lexeme, lexemes}
 use Rattle.pst_parse.specs.Forms.{IsShallow}
-use Rattle.pst_parse.specs.Spelling.{Item, program}
+use Rattle.pst_parse.specs.Spelling.{Program, program}
 use Rattle.pst_parse.specs.Grammar.{Spells, IsUnexpected, IsTooDeep, IsFirstFaultOn}
 use Rattle.pst_types.specs.declared.fault.TypeFault.{TypeFault}
 use Rattle.pst_types.specs.declared.fault.TypeFault.TheVariants as typing
@@ -18,7 +18,7 @@ use Rattle.pst_cli.specs.declared.fault.Fault.{Fault}
 
 -- The tree and the typed program of an accepted text, or the fault of a refused one.
 pub data Verdict : Type 0 where
-  Accepted : List tree.Item → NamedProgram → Verdict
+  Accepted : tree.ProgramText → NamedProgram → Verdict
   Refused : Fault → Verdict
 
 -- the text has these tokens
@@ -26,8 +26,8 @@ abbrev pub HasTokens : List ℕ → Tokens → Type 0
 HasTokens text tokens = Lexes text tokens.list tokens.end
 
 -- the text has tokens, and they are those of a program with this tree, which keeps the limits of depth
-abbrev pub HasTree : List ℕ → List tree.Item → Type 0
-HasTree text items = (tokens : Tokens) × HasTokens text tokens × ((p : List Item) × (program p ≡ items) × IsShallow 63 15 items × Spells (lexemes tokens.list) p)
+abbrev pub HasTree : List ℕ → tree.ProgramText → Type 0
+HasTree text syntax = (tokens : Tokens) × HasTokens text tokens × ((p : Program) × (program p ≡ syntax) × IsShallow 63 15 syntax × Spells (lexemes tokens.list) p)
 
 -- the text has tokens, and on this line stands their first fault, of this sort
 abbrev pub HasParseFault : List ℕ → (List Lexeme → List Lexeme → Type 0) → ℕ → Type 0
@@ -35,7 +35,7 @@ HasParseFault text Is line = (tokens : Tokens) × HasTokens text tokens × IsFir
 
 -- the text has a tree, and this is the first fault of its types
 abbrev pub HasTypeFault : List ℕ → TypeFault → Type 0
-HasTypeFault text fault = (items : List tree.Item) × HasTree text items × (checked items ≡ Err fault)
+HasTypeFault text fault = (syntax : tree.ProgramText) × HasTree text syntax × (checked syntax.items ≡ Err fault)
 
 -- A lexical fault anywhere comes before a fault of the grammar, and that before one of typing.
 abbrev pub HasFault : List ℕ → FaultKind → ℕ → Type 0
@@ -53,15 +53,15 @@ HasFault text kind.QueryWrites line = HasTypeFault text (typing.QueryWrites line
 
 -- the verdict on a text
 abbrev pub Judged : List ℕ → Verdict → Type 0
-Judged text (Accepted items typed) = HasTree text items × (checked items ≡ Ok typed)
+Judged text (Accepted syntax typed) = HasTree text syntax × (checked syntax.items ≡ Ok typed)
 Judged text (Refused fault) = HasFault text fault.kind fault.line
 
 abbrev pub IsAccepted : Verdict → Type 0
-IsAccepted (Accepted items program) = Unit {0}
+IsAccepted (Accepted syntax program) = Unit {0}
 IsAccepted (Refused fault) = ⊥
 
 abbrev pub IsRefused : Verdict → Type 0
-IsRefused (Accepted items program) = ⊥
+IsRefused (Accepted syntax program) = ⊥
 IsRefused (Refused fault) = Unit {0}
 
 abbrev pub IsEither : Verdict → Type 0

@@ -1,17 +1,17 @@
 //! The verdict on the text of a program.
 
-ghost use Rattle.std.specs.Prelude.{◌≡◌, ◌+◌, ◌<◌, ◌^◌, List, length, IfOk, MatchResult};
-ghost use Rattle.pst_tree.specs.Syntax.{Item};
-ghost use Rattle.pst_tree.specs.View.{items_of};
+ghost use Rattle.std.specs.Prelude.{◌≡◌, ◌+◌, ◌<◌, ◌^◌, List, length, IfOk, IfErr, MatchResult};
+ghost use Rattle.pst_tree.specs.Syntax.{ProgramText};
+ghost use Rattle.pst_tree.specs.View.{text_of};
 ghost use Rattle.pst_program.specs.View.{routines_of};
 ghost use Rattle.pst_program.specs.Typed.{IsTyped};
 ghost use Rattle.pst_types.specs.ProcedureView.{program_of};
 ghost use Rattle.pst_cli.specs.Verdict.{HasTree, Judged, Accepted};
-ghost use Rattle.pst_cli.specs.Serving.{IsNoProgram};
+ghost use Rattle.pst_cli.specs.Serving.{IsEarlyFault, IsNoProgram};
 
 use crate::fault::{Fault, FaultKind};
 use pst_base::NoMemory;
-use pst_lex::{LexFault, tokens};
+use pst_lex::{FirstTokens, LexFault, TokenList, Tokens, first_tokens, tokens};
 use pst_parse::{ParseFault, parse};
 use pst_program::Program;
 use pst_tree::Tree;
@@ -92,13 +92,51 @@ impl From<NoMemory> for NoProgram {
     }
 }
 
+/// How many tokens of a text are kept at first. Where its fault stands among them, the others are looked at and not kept, so
+/// that a text which is no program takes little more than its own room.
+const FIRST_TOKENS: usize = 1 << 22;
+
+/// Refuses by a fault, where it has a line. No token has line 0.
+fn refuse_on(kind: FaultKind, line: u32) -> Result<(), NoProgram>
+    ensures { IfErr result (λ why. (0 < line) × (why ≡ NoProgram.Fault (record { kind = kind; line = line }))) }
+{
+    if line == 0 {
+        Ok(())
+    } else {
+        Err(NoProgram::at(kind, line))
+    }
+}
+
+/// Refuses the texts that have these tokens and others behind them, where their fault stands among these.
+fn refuse_early(alloc: Global, front: TokenList) -> Result<(), NoProgram>
+    ensures { IfErr result (IsEarlyFault front) }
+{
+    // These tokens do not end the text, so a fault at their end, which has line 0 here, is none of the text's.
+    let tokens = Tokens {
+        list: front,
+        end: 0,
+    };
+    match parse(alloc, &tokens) {
+        Ok(_) => Ok(()),
+        Err(ParseFault::Unexpected { line }) => refuse_on(FaultKind::Unexpected, line),
+        Err(ParseFault::TooDeep { line }) => refuse_on(FaultKind::TooDeep, line),
+        Err(ParseFault::Memory) => Err(NoProgram::Memory),
+    }
+}
+
 /// The tree of a text of fewer than 4,294,967,295 bytes. The text is let go once it is cut into tokens, and they once the
 /// tree is there.
 fn read_tree(alloc: Global, text: Vec<u8>) -> Result<Tree, NoProgram>
     requires { length text.items + 1 < 2 ^ 32 }
-    ensures { MatchResult result (λ tree. HasTree text.items (items_of tree)) (λ why. IsNoProgram text.items why) }
+    ensures { MatchResult result (λ tree. HasTree text.items (text_of tree)) (λ why. IsNoProgram text.items why) }
 {
-    let tokens = tokens(alloc, &text)?;
+    let tokens = match first_tokens(alloc, &text, FIRST_TOKENS)? {
+        FirstTokens::All(tokens) => tokens,
+        FirstTokens::Front(front) => {
+            refuse_early(alloc, front)?;
+            tokens(alloc, &text)?
+        }
+    };
     drop(text);
     Ok(parse(alloc, &tokens)?)
 }
@@ -109,7 +147,7 @@ fn read_tree(alloc: Global, text: Vec<u8>) -> Result<Tree, NoProgram>
 /// The first fault of the text, or want of memory.
 pub(crate) fn judge(alloc: Global, text: Vec<u8>) -> Result<(Tree, Program), NoProgram>
     requires { length text.items + 1 < 2 ^ 32 }
-    ensures verdict { MatchResult result (λ x. Judged text.items (Accepted (items_of x.0) (program_of x.1))) (λ why. IsNoProgram text.items why) }
+    ensures verdict { MatchResult result (λ x. Judged text.items (Accepted (text_of x.0) (program_of x.1))) (λ why. IsNoProgram text.items why) }
     ensures typed { IfOk result (λ x. IsTyped (routines_of x.1)) }
 {
     let tree = read_tree(alloc, text)?;
@@ -123,7 +161,7 @@ pub(crate) fn judge(alloc: Global, text: Vec<u8>) -> Result<(Tree, Program), NoP
 /// The first fault of the text, or want of memory.
 pub(crate) fn program_of(alloc: Global, text: Vec<u8>) -> Result<Program, NoProgram>
     requires { length text.items + 1 < 2 ^ 32 }
-    ensures verdict { MatchResult result (λ p. (items : List Item) × Judged text.items (Accepted items (program_of p))) (λ why. IsNoProgram text.items why) }
+    ensures verdict { MatchResult result (λ p. (syntax : ProgramText) × Judged text.items (Accepted syntax (program_of p))) (λ why. IsNoProgram text.items why) }
     ensures typed { IfOk result (λ p. IsTyped (routines_of p)) }
 {
     let (_tree, program) = judge(alloc, text)?;

@@ -1,7 +1,7 @@
 //! What is printed of a program.
 
 ghost use Rattle.std.specs.Prelude.{◌≡◌, ◌+◌, ◌<◌, ◌^◌, List, length, IfOk, MatchResult};
-ghost use Rattle.pst_tree.specs.Syntax.{Item};
+ghost use Rattle.pst_tree.specs.Syntax.{ProgramText};
 ghost use Rattle.pst_types.specs.Declarations.{NamedProgram};
 ghost use Rattle.pst_program.specs.View.{routines_of};
 ghost use Rattle.pst_program.specs.Typed.{IsTyped};
@@ -43,7 +43,7 @@ fn listing_of(alloc: Global, program: &Program) -> Result<Text, NoMemory>
 /// The first fault of the text, or want of memory.
 pub(crate) fn page_of(alloc: Global, page: Page, text: Vec<u8>) -> Result<Text, NoProgram>
     requires { length text.items + 1 < 2 ^ 32 }
-    ensures { MatchResult result (λ out. (items : List Item) × (p : NamedProgram) × Judged text.items (Accepted items p) × (out ≡ page_text page items p)) (λ why. IsNoProgram text.items why) }
+    ensures { MatchResult result (λ out. (syntax : ProgramText) × (p : NamedProgram) × Judged text.items (Accepted syntax p) × (out ≡ page_text page syntax p)) (λ why. IsNoProgram text.items why) }
 {
     let (tree, program) = judge(alloc, text)?;
     match page {

@@ -16,25 +16,25 @@ returns-in-Err-Fault-clause-row g c =
 
 pub returns-in-Err-clause-row : goal.returns-in-Err-clause-row
 returns-in-Err-clause-row g c =
-    let (items, judged) = c.in-Ok-program_of.ensures.verdict in
+    let (syntax, judged) = c.in-Ok-program_of.ensures.verdict in
     let lines = bench_lines c.args.number in
-    let row = memory_row c.in-Ok.text.items lines c.args.store.now c.summarize.new.store items c.in-Ok-program_of.program judged c.in-Err.ensures.err in
+    let row = memory_row c.in-Ok.text.items lines c.args.store.now c.summarize.new.store syntax c.in-Ok-program_of.program judged c.in-Err.ensures.err in
     ([], Appends-nil _, subst (λ (text : List ℕ). BenchRow Memory text lines c.args.store.now c.summarize.new.store []) c.in-Ok.ensures.items row)
 
 pub returns-in-Ok-say-clause-row : goal.returns-in-Ok-say-clause-row
 returns-in-Ok-say-clause-row g c =
-    let (items, judged) = c.in-Ok-program_of.ensures.verdict in
+    let (syntax, judged) = c.in-Ok-program_of.ensures.verdict in
     let (out, written, w) = c.in-Ok-say.ensures.said in
     let lines = bench_lines c.args.number in
     let now = c.in-Ok-summarize.ensures in
-    let row = done_row c.in-Ok.text.items lines c.args.store.now c.summarize.new.store c.as_slice.result.now out items c.in-Ok-program_of.program judged now.left (c.as_slice.ensures ∙ now.summary) w in
+    let row = done_row c.in-Ok.text.items lines c.args.store.now c.summarize.new.store c.as_slice.result.now out syntax c.in-Ok-program_of.program judged now.left (c.as_slice.ensures ∙ now.summary) w in
     (out, written, subst (λ (text : List ℕ). BenchRow Done text lines c.args.store.now c.summarize.new.store out) c.in-Ok.ensures.items row)
 
 pub returns-clause-row : goal.returns-clause-row
 returns-clause-row g c =
-    let (items, judged) = c.in-Ok-program_of.ensures.verdict in
+    let (syntax, judged) = c.in-Ok-program_of.ensures.verdict in
     let (out, written, w) = c.in-Err-say.ensures.said in
     let lines = bench_lines c.args.number in
     let now = c.in-Ok-summarize.ensures in
-    let row = stopped_row c.in-Err-say.stop c.in-Ok.text.items lines c.args.store.now c.summarize.new.store c.as_slice.result.now out items c.in-Ok-program_of.program judged now.left (c.as_slice.ensures ∙ now.summary) w in
+    let row = stopped_row c.in-Err-say.stop c.in-Ok.text.items lines c.args.store.now c.summarize.new.store c.as_slice.result.now out syntax c.in-Ok-program_of.program judged now.left (c.as_slice.ensures ∙ now.summary) w in
     (out, written, rw c.status_of.ensures (subst (λ (text : List ℕ). BenchRow (status_of c.in-Err-say.stop) text lines c.args.store.now c.summarize.new.store out) c.in-Ok.ensures.items row))

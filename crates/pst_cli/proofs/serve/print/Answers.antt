@@ -9,12 +9,12 @@ returns-in-Err-Fault-clause-printed g c =
 
 pub returns-in-Ok-say-clause-printed : goal.returns-in-Ok-say-clause-printed
 returns-in-Ok-say-clause-printed g c =
-    let (items, program, judged, is) = c.in-Ok.ensures in
+    let (syntax, program, judged, is) = c.in-Ok.ensures in
     let (out, written, w) = c.in-Ok-say.ensures.said in
-    (out, written, page_printed c.args.page c.args.text.items c.as_slice.result.now out items program judged (c.as_slice.ensures ∙ is) w)
+    (out, written, page_printed c.args.page c.args.text.items c.as_slice.result.now out syntax program judged (c.as_slice.ensures ∙ is) w)
 
 pub returns-clause-printed : goal.returns-clause-printed
 returns-clause-printed g c =
-    let (items, program, judged, is) = c.in-Ok.ensures in
+    let (syntax, program, judged, is) = c.in-Ok.ensures in
     let (out, written, w) = c.in-Err.ensures.said in
-    (out, written, rw c.status_of.ensures (page_stopped c.in-Err.stop c.args.page c.args.text.items c.as_slice.result.now out items program judged (c.as_slice.ensures ∙ is) w))
+    (out, written, rw c.status_of.ensures (page_stopped c.in-Err.stop c.args.page c.args.text.items c.as_slice.result.now out syntax program judged (c.as_slice.ensures ∙ is) w))
