@@ -21,7 +21,7 @@ use text::body_of;
 const PROGRAMS: &str = "programs";
 
 /// The files of the cases.
-const CASES: [&str; 12] = [
+const CASES: [&str; 13] = [
     "versions",
     "refusals",
     "open_runs",
@@ -30,6 +30,7 @@ const CASES: [&str; 12] = [
     "devices",
     "prefixes",
     "faults",
+    "arrays",
     "typing",
     "pages",
     "questions",
