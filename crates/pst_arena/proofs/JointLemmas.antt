@@ -1,6 +1,6 @@
 -- What a store knows of the nodes that it sees, for the nodes as they are.
 use Rattle.pst_arena.specs.Calls.{AreOthers, IsOpenTo, AreNodes, IsOverFull}
-use Rattle.pst_base.specs.Shape.{field_count, type_at}
+use Rattle.pst_base.specs.Shape.{element_count, type_at}
 use Rattle.pst_base.specs.declared.names.SlotNo.{SlotNo}
 use Rattle.pst_mirror.specs.Degree.{is_other_entry}
 use Rattle.pst_mirror.specs.Kinds.{IsInverse, HasKind}
@@ -184,5 +184,5 @@ module _ (types : List TypeShape) (qs : List ℕ) (ns : List Node) where
     others_none (Some s) h = tt
     others_none None h = λ u l.
         let t : TypeShape = type_at types (w.ty y) in
-        let inverse : IsInverse t (field_count t + u) = record { from = omega arith; below = omega (arith, l) } in
-        subst (λ (c : Content). is_other_entry x f c ≡ true) (sym (holds_is y (field_count t + u) b)) (h (field_count t + u) (subst (λ (v : TypeShape). IsInverse v (field_count t + u)) (type_is y) inverse))
+        let inverse : IsInverse t (element_count t + u) = record { from = omega arith; below = omega (arith, l) } in
+        subst (λ (c : Content). is_other_entry x f c ≡ true) (sym (holds_is y (element_count t + u) b)) (h (element_count t + u) (subst (λ (v : TypeShape). IsInverse v (element_count t + u)) (type_is y) inverse))

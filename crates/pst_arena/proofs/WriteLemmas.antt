@@ -9,7 +9,7 @@ use Rattle.pst_base.specs.declared.names.Kind.TheVariants.{Int, Pointer}
 use Rattle.pst_base.specs.declared.names.TypeNo.{TypeNo}
 use Rattle.pst_base.specs.declared.shape.TypeShape.{TypeShape}
 use Rattle.pst_base.specs.Heap.{IsPointer}
-use Rattle.pst_base.specs.Shape.{field_kind, field_count}
+use Rattle.pst_base.specs.Shape.{field_kind, element_count}
 use Rattle.pst_order.specs.Places.{rank}
 use Rattle.pst_rows.specs.declared.content.Content.{Content}
 use Rattle.pst_rows.specs.declared.content.Content.TheVariants.{Number, Null, Free, Target as TargetOf, From as FromOf}
@@ -60,7 +60,7 @@ not_false false h = absurd (false≢true (sym h))
 
 inverse_held : (t : TypeShape) (ty : ℕ → TypeNo) (s x f : ℕ) (c : Content) → IsInverse t s → HasKind t ty s c → is_other_entry x f c ≡ false → (c ≡ Free) ⊎ (c ≡ From x f)
 inverse_held t ty s x f (Number n) i k e = absurd (omega (arith, i.from, k))
-inverse_held t ty s x f Null i k e = absurd (⊎_elim (λ (l : s < field_count t). omega (arith, i.from, l)) (λ (l : field_count t + t.limit ≤ s). omega (arith, i.below, l)) k.1)
+inverse_held t ty s x f Null i k e = absurd (⊎_elim (λ (l : s < element_count t). omega (arith, i.from, l)) (λ (l : element_count t + t.limit ≤ s). omega (arith, i.below, l)) k.1)
 inverse_held t ty s x f (TargetOf y) i k e = let p = pointer_field t s (ty y.0) k in absurd (omega (arith, p.1, i.from))
 inverse_held t ty s x f Free i k e = inl refl
 inverse_held t ty s x f (FromOf y g) i k e =

@@ -3,7 +3,7 @@ use Rattle.std.specs.Prelude.{◌≡◌, ℕ, ◌+◌, ◌<◌, ℤ, List, ◌++
 use Rattle.pst_base.specs.declared.names.TypeNo.{TypeNo}
 use Rattle.pst_base.specs.declared.names.Name.{Name}
 use Rattle.pst_base.specs.declared.shape.TypeShape.{TypeShape}
-use Rattle.pst_base.specs.Shape.{type_at, field_count}
+use Rattle.pst_base.specs.Shape.{type_at, element_count}
 use Rattle.pst_order.specs.Places.{rank}
 use Rattle.pst_mirror.specs.Charts.{AllRows}
 use Rattle.pst_mirror.specs.Degree.{is_other_entry}
@@ -51,7 +51,7 @@ pub record IsNodeAdded (shape : List TypeShape) (old new : List Node) (id : ℕ)
 
 -- each inverse slot of node y holds the entry of another field than the field f of node x
 abbrev pub AreOthers : List TypeShape → Arena → (y b x f : ℕ) → Type 0
-AreOthers shape w y b x f = (u : ℕ) → u < (type_at shape (w.ty y)).limit → is_other_entry x f (w.chart.holds y (field_count (type_at shape (w.ty y)) + u) b) ≡ true
+AreOthers shape w y b x f = (u : ℕ) → u < (type_at shape (w.ty y)).limit → is_other_entry x f (w.chart.holds y (element_count (type_at shape (w.ty y)) + u) b) ≡ true
 
 -- an inverse slot of node y holds no entry of another field than the field f of node x
 pub record IsOpenTo (shape : List TypeShape) (w : Arena) (y b x f s : ℕ) : Type 0 where

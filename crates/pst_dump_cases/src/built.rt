@@ -113,6 +113,7 @@ fn program(alloc: Global, shape: &Shape) -> Result<Program, NoMemory>
     let root = entry(alloc, b"root")?;
     let items = entry(alloc, b"N")?;
     Ok(Program {
+        language: 1,
         shape: shape.copy(alloc)?,
         names: TypeNames::from_vec(vec![in alloc; root, items]?),
         procedures: TypedProcs {

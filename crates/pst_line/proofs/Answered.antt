@@ -7,7 +7,7 @@ use Rattle.pst_base.specs.declared.names.TypeNo.{TypeNo}
 use Rattle.pst_base.specs.declared.names.Kind.{Kind}
 use Rattle.pst_base.specs.declared.names.Kind.TheVariants.{Int}
 use Rattle.pst_base.specs.declared.shape.TypeShape.{TypeShape}
-use Rattle.pst_base.specs.Shape.{type_at, field_count}
+use Rattle.pst_base.specs.Shape.{type_at, element_count}
 use Rattle.pst_base.specs.Heap.{IsPointer, type_in, kind_in, value_in, pointer_in}
 use Rattle.pst_line_nodes.specs.declared.content.Content.{Content}
 use Rattle.pst_line_nodes.specs.declared.content.Content.TheVariants.{Number, Null, Target}
@@ -28,10 +28,10 @@ covers_all made more nodes x n c = record { there = c.there; begun = c.begun; st
 pub linked : (shape : List TypeShape) (t : ℕ) (made : ℕ → Bool) (nodes : List Seen) → IsLine shape t (line_of made nodes) → AreLinked (line_of (λ i. true) nodes)
 linked shape t made nodes l = record { next = l.chained.next }
 
-pub slot_there : (shape : List TypeShape) (t : ℕ) (made : ℕ → Bool) (nodes : List Seen) (x f : ℕ) → AreKept shape t nodes → f < field_count (type_at shape ((line_of made nodes).ty x)) → HasSlot nodes x f
+pub slot_there : (shape : List TypeShape) (t : ℕ) (made : ℕ → Bool) (nodes : List Seen) (x f : ℕ) → AreKept shape t nodes → f < element_count (type_at shape ((line_of made nodes).ty x)) → HasSlot nodes x f
 slot_there shape t made nodes x f k l n e =
     let w = (k.each x n e).width in
-    let same : field_count (type_at shape ((line_of made nodes).ty x)) ≡ field_count (type_at shape n.ty) = ap (λ (u : TypeNo). field_count (type_at shape u)) (of_node-at (λ (n : Seen). n.ty) (record { 0 = 0 }) nodes x n e) in
+    let same : element_count (type_at shape ((line_of made nodes).ty x)) ≡ element_count (type_at shape n.ty) = ap (λ (u : TypeNo). element_count (type_at shape u)) (of_node-at (λ (n : Seen). n.ty) (record { 0 = 0 }) nodes x n e) in
     omega (arith, l, w, same)
 
 -- a store, as it is seen and as it is

@@ -4,7 +4,7 @@ use Rattle.pst_base.specs.declared.names.NodeId.{NodeId}
 use Rattle.pst_base.specs.declared.names.Kind.{Kind}
 use Rattle.pst_base.specs.declared.names.Kind.TheVariants.{Int, Pointer}
 use Rattle.pst_base.specs.declared.shape.TypeShape.{TypeShape}
-use Rattle.pst_base.specs.Shape.{type_at, field_kind, field_count}
+use Rattle.pst_base.specs.Shape.{type_at, field_kind, element_count}
 use Rattle.pst_base.specs.Heap.{IsPointer, kind_in}
 use Rattle.pst_places.specs.State.{HasRoom, Unchanged, WritesStay, ValueStored, PointerStored}
 use Rattle.pst_line_nodes.specs.declared.content.Content.TheVariants.{Number}
@@ -26,7 +26,7 @@ use Rattle.pst_line.proofs.Entering.{newest_all}
 use Rattle.pst_line.proofs.Roots.{stay_same, root_anew}
 use Rattle.pst_line.proofs.Fields.{field_of, number_held, number_done, null_held, null_done}
 
-pub kind_below : (t : TypeShape) (f : ℕ) (k : Kind) → field_kind t f ≡ Some k → f < field_count t
+pub kind_below : (t : TypeShape) (f : ℕ) (k : Kind) → field_kind t f ≡ Some k → f < element_count t
 kind_below t f Int e = let v = value_below t f e in omega (arith, v)
 kind_below t f (Pointer ty) e = (pointer_field t f ty e).1
 

@@ -2,7 +2,7 @@
 use Rattle.std.proofs.Common.{◌≡◌, ℕ, ◌<◌, ◌++◌, Bool, true, false, List, [], ◌∷◌, length, Some, IsSome, sym, ap, ◌∙◌, subst, ◌⊎◌, arith}
 use Rattle.pst_base.specs.declared.names.TypeNo.{TypeNo}
 use Rattle.pst_base.specs.declared.names.Kind.{Kind}
-use Rattle.pst_base.specs.Shape.{type_at, field_count}
+use Rattle.pst_base.specs.Shape.{type_at, element_count}
 use Rattle.pst_base.specs.Heap.{kind_in}
 use Rattle.pst_places.specs.State.{Unchanged}
 use Rattle.pst_line_nodes.specs.declared.content.Content.{Content}
@@ -114,7 +114,7 @@ module _ (s g : Held) (e : s ≡ g) (h : IsHeld s) (t : ℕ) (t_is : t ≡ lengt
           let is = subst (λ (g : Held). kind_in g.shape ((state_of (stored_of g)).heap (record { stamp = length g.versions })) ((line_in g).name r) f ≡ Some kind.0) (sym e) kind.1 in
           let below = field_there (stored_of s) h.stored (record { stamp = length s.versions }) r n.node live_s n.alive.covers n.home f kind.0 is in
           let same : (line_with s ns).ty x ≡ (line_in s).ty n.node = (carried_s.line.chained.same x r x_covers.there there_r home_x).1 ∙ carried_s.went.nodes.ty r live_s.1.there ∙ sym n.ty in
-          slot_there s.shape (length s.versions) (is_made s.versions s.opened) ns x f kept_s (let q : field_count (type_at s.shape ((line_with s ns).ty x)) ≡ field_count (type_at s.shape ((line_in s).ty n.node)) = ap (λ (u : TypeNo). field_count (type_at s.shape u)) same in omega (arith, q, below))
+          slot_there s.shape (length s.versions) (is_made s.versions s.opened) ns x f kept_s (let q : element_count (type_at s.shape ((line_with s ns).ty x)) ≡ element_count (type_at s.shape ((line_in s).ty n.node)) = ap (λ (u : TypeNo). element_count (type_at s.shape u)) same in omega (arith, q, below))
 
       pub entered : (y : ℕ) → Covers (line_of (λ i. true) ns) y t → (line_of (λ i. true) ns).home y ≡ (line_of (λ i. true) ns).home s.root.0 → (us : List Undo) (content : Content) → content ≡ (line_of (λ i. true) ns).holds x f t → us ≡ s.undo ++ record { node = record { 0 = x }; slot = f; content = content } ∷ []
           → HasEntered g (record s { nodes = ns; undo = us; failed = true; root = record { 0 = y } }) r f x

@@ -5,7 +5,7 @@ use Rattle.std.specs.Option.{option_map}
 use Rattle.std.specs.FinMap.{get}
 use Rattle.pst_base.specs.declared.names.Kind.{Kind}
 use Rattle.pst_base.specs.declared.names.Kind.TheVariants.{Int, Pointer}
-use Rattle.pst_base.specs.Shape.{type_at, field_kind, field_count}
+use Rattle.pst_base.specs.Shape.{type_at, field_kind, element_count}
 use Rattle.pst_base.specs.Heap.{Rec, IsPointer, type_in, kind_in, kind_from, value_in, value_from, pointer_in, pointer_from}
 use Rattle.pst_line_nodes.specs.declared.content.Content.TheVariants.{Target}
 use Rattle.pst_line_nodes.specs.Line.{Covers, IsIn, IsLive, heap_at, record_at, number, denoted}
@@ -39,7 +39,7 @@ module _ (s : Stored) (h : IsStored s) (p : LinePlace) (r x : ℕ) (l : IsPlace 
   number_there f k = ap (value_from f) shown_there ∙ get_or-listed (type_at s.shape (s.line.ty x)).values (λ g. number (s.line.holds x g p.stamp)) f (pos 0) (value_below (type_at s.shape (s.line.ty x)) f (sym (kind_there f) ∙ k))
 
   -- which of the pointer fields
-  pub pointer_at_field : (f : ℕ) → IsPointer (kind_in s.shape (heap_at s.shape s.line p.stamp) (s.line.name r) f) → ((type_at s.shape (s.line.ty x)).values ≤ f) × (f < field_count (type_at s.shape (s.line.ty x)))
+  pub pointer_at_field : (f : ℕ) → IsPointer (kind_in s.shape (heap_at s.shape s.line p.stamp) (s.line.name r) f) → ((type_at s.shape (s.line.ty x)).values ≤ f) × (f < element_count (type_at s.shape (s.line.ty x)))
   pointer_at_field f k =
       let e = pointer_kind (field_kind (type_at s.shape (s.line.ty x)) f) (subst IsPointer (kind_there f) k) in
       pointer_field (type_at s.shape (s.line.ty x)) f e.0 e.1
@@ -54,7 +54,7 @@ module _ (s : Stored) (h : IsStored s) (p : LinePlace) (r x : ℕ) (l : IsPlace 
       ∙ ap (λ k. denoted s.line.name (s.line.holds x k p.stamp)) (let e : (type_at s.shape (s.line.ty x)).values + (f - (type_at s.shape (s.line.ty x)).values) ≡ f = omega (arith, at.0) in e)
 
   -- a field of a kind is one of the fields
-  pub field_there : (f : ℕ) (k : Kind) → kind_in s.shape (heap_at s.shape s.line p.stamp) (s.line.name r) f ≡ Some k → f < field_count (type_at s.shape (s.line.ty x))
+  pub field_there : (f : ℕ) (k : Kind) → kind_in s.shape (heap_at s.shape s.line p.stamp) (s.line.name r) f ≡ Some k → f < element_count (type_at s.shape (s.line.ty x))
   field_there f Int e = let v = value_below (type_at s.shape (s.line.ty x)) f (sym (kind_there f) ∙ e) in omega (arith, v)
   field_there f (Pointer ty) e = (pointer_field (type_at s.shape (s.line.ty x)) f ty (sym (kind_there f) ∙ e)).1
 

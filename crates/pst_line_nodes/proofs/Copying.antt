@@ -7,7 +7,7 @@ use Rattle.std.proofs.Math.Seq.{get_or-append_seam}
 use Rattle.std.proofs.lemmas.Option.{get_or_from_slice_get, slice_get-get_or, slice_get_within}
 use Rattle.pst_base.specs.declared.names.TypeNo.{TypeNo}
 use Rattle.pst_base.specs.declared.shape.TypeShape.{TypeShape}
-use Rattle.pst_base.specs.Shape.{type_at, field_count}
+use Rattle.pst_base.specs.Shape.{type_at, element_count}
 use Rattle.pst_line_nodes.specs.declared.content.Content.{Content}
 use Rattle.pst_line_nodes.specs.declared.content.Content.TheVariants.{Number, Null, Target}
 use Rattle.pst_line_nodes.specs.declared.content.Entry.{Entry}
@@ -124,8 +124,8 @@ module _ (old mid : List Seen) (x t : ℕ) (contents : List Content) (there : x 
     below g q e =
         let kind : HasKind (type_at shape (w.ty x)) w.ty g (Target q) = subst (HasKind (type_at shape (w.ty x)) w.ty g) e (l.kinds x g t (omega arith) (last_covers shape t w x l nx)) in
         let type_is : w.ty x ≡ (node_at old x).ty = of-get (λ n. n.ty) old x in
-        let more : g < field_count (type_at shape (w.ty x)) = (pointer_field (type_at shape (w.ty x)) g (w.ty q) kind).1 in
-        omega (arith, subst (λ (u : TypeNo). g < field_count (type_at shape u)) type_is more, c.width, kept_x.width)
+        let more : g < element_count (type_at shape (w.ty x)) = (pointer_field (type_at shape (w.ty x)) g (w.ty q) kind).1 in
+        omega (arith, subst (λ (u : TypeNo). g < element_count (type_at shape u)) type_is more, c.width, kept_x.width)
 
     -- what is held beyond the type's fields is null
     beyond : (g : ℕ) (d : Content) → w.holds x g t ≡ d → length contents ≤ g → d ≡ Null

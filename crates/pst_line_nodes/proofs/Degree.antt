@@ -10,7 +10,7 @@ use Rattle.pst_base.specs.declared.names.Name.{Name}
 use Rattle.pst_base.specs.declared.names.TypeNo.{TypeNo}
 use Rattle.pst_base.specs.declared.names.Kind.TheVariants.{Pointer}
 use Rattle.pst_base.specs.declared.shape.TypeShape.{TypeShape}
-use Rattle.pst_base.specs.Shape.{type_at, field_count, field_kind}
+use Rattle.pst_base.specs.Shape.{type_at, element_count, field_kind}
 use Rattle.pst_base.specs.Name.{name_cmp, same_name}
 use Rattle.pst_base.specs.Heap.{Rec, holds, holding, held_by, in_degree, in_field, with_record, pointer_at, limit_in, limit_from, IsFull}
 use Rattle.pst_base.proofs.NameLemmas.{same_name-true, same_name-same}
@@ -167,7 +167,7 @@ leads_true w y (Target z) e = (z, refl, eqb-true (newest w z) y e)
 
 module _ (shape : List TypeShape) (t : ℕ) (w : Line) (l : IsLine shape t w) (y : ℕ) (h : IsIn w y t) where
   abbrev width : ℕ → ℕ
-  width i = field_count (type_at shape (w.ty i))
+  width i = element_count (type_at shape (w.ty i))
 
   abbrev leads : ℕ → ℕ → Bool
   leads x f = cond (is_in w x t) (leads_to w y (w.holds x f t)) false

@@ -6,7 +6,7 @@ use Rattle.std.specs.Prelude.{slice_get, OnOk, OnErr}
 use Rattle.pst_base.specs.Name.{root_name}
 use Rattle.pst_base.specs.declared.names.TypeNo.{TypeNo}
 use Rattle.pst_base.specs.declared.shape.TypeShape.{TypeShape}
-use Rattle.pst_base.specs.Shape.{root_type, type_at, field_count}
+use Rattle.pst_base.specs.Shape.{root_type, type_at, element_count}
 use Rattle.pst_line_nodes.specs.declared.content.Content.{Content}
 use Rattle.pst_line_nodes.specs.declared.content.Content.TheVariants.{Null}
 use Rattle.pst_line_nodes.specs.Line.{Line, is_over, ends_by, sum_below}
@@ -51,7 +51,7 @@ kept_set shape t xs i n r k = record { each = λ j m e. elim (slice_get-set xs i
 pub kept_row : (shape : List TypeShape) (t : ℕ) (old new : Seen) → IsSameHead old new → IsKept shape t old → IsRow t new → IsKept shape t new
 kept_row shape t old new h k row = record {
   row = row;
-  width = h.width ∙ k.width ∙ ap (λ (u : TypeNo). field_count (type_at shape u)) (sym h.ty);
+  width = h.width ∙ k.width ∙ ap (λ (u : TypeNo). element_count (type_at shape u)) (sym h.ty);
   slots = λ e. ap length h.inverse ∙ k.slots (sym h.later ∙ e) ∙ ap (λ (u : TypeNo). (type_at shape u).limit) (sym h.ty);
   bare = λ j e. h.inverse ∙ k.bare j (sym h.later ∙ e);
 }

@@ -6,7 +6,7 @@ use Rattle.std.proofs.Math.Seq.{get_or-append_seam}
 use Rattle.pst_base.specs.declared.names.Name.{Name}
 use Rattle.pst_base.specs.declared.names.TypeNo.{TypeNo}
 use Rattle.pst_base.specs.declared.shape.TypeShape.{TypeShape}
-use Rattle.pst_base.specs.Shape.{type_at, field_count}
+use Rattle.pst_base.specs.Shape.{type_at, element_count}
 use Rattle.pst_line_nodes.specs.declared.content.Stamp.{Stamp}
 use Rattle.pst_line_nodes.specs.declared.content.Entry.{Entry}
 use Rattle.pst_line_nodes.specs.Seen.{Seen}
@@ -77,7 +77,7 @@ module _ (shape : List TypeShape) (old new : List Seen) (n : Seen) (name : Name)
       let same : i ≡ z = omega (arith, m, new_count) in
       subst (IsKept shape t) (sym (ap (node_at new) same ∙ at_z)) (record {
         row = record { first = omega (arith, d.first); rising = subst (AreRising n.first t) (sym d.stamped) tt };
-        width = d.base.width ∙ ap (λ (u : TypeNo). field_count (type_at shape u)) (sym d.ty_is);
+        width = d.base.width ∙ ap (λ (u : TypeNo). element_count (type_at shape u)) (sym d.ty_is);
         slots = λ e. ap length d.inverse ∙ length-replicate (type_at shape ty).limit None ∙ ap (λ (u : TypeNo). (type_at shape u).limit) (sym d.ty_is);
         bare = λ j e. absurd (let no : None ≡ Some j = sym d.later ∙ e in cc);
       }))

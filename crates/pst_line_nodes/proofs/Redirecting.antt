@@ -4,7 +4,7 @@ use Rattle.std.proofs.lemmas.Bool.{cases_lt, cases_eq}
 use Rattle.std.specs.Prelude.{slice_get}
 use Rattle.pst_base.specs.declared.names.TypeNo.{TypeNo}
 use Rattle.pst_base.specs.declared.shape.TypeShape.{TypeShape}
-use Rattle.pst_base.specs.Shape.{type_at, field_count, root_type}
+use Rattle.pst_base.specs.Shape.{type_at, element_count, root_type}
 use Rattle.pst_line_nodes.specs.declared.content.Content.{Content}
 use Rattle.pst_line_nodes.specs.declared.content.Content.TheVariants.{Target}
 use Rattle.pst_line_nodes.specs.Seen.{Seen}
@@ -256,8 +256,8 @@ module _ (shape : List TypeShape) (t : ℕ) (nodes : List Seen) (made : ℕ → 
       let w : Line = line_of made nodes in
       let kind : HasKind (type_at shape (w.ty x)) w.ty f (Target of.held) = subst (HasKind (type_at shape (w.ty x)) w.ty f) of.holds (l.kinds x f t (omega arith) (last_covers shape t w x l of.newest_is)) in
       let type_is : w.ty x ≡ n.ty = of_node-at (λ n. n.ty) root_type nodes x n at in
-      let more : f < field_count (type_at shape (w.ty x)) = (pointer_field (type_at shape (w.ty x)) f (w.ty of.held) kind).1 in
-      omega (arith, subst (λ (u : TypeNo). f < field_count (type_at shape u)) type_is more, (k.each x n at).width)
+      let more : f < element_count (type_at shape (w.ty x)) = (pointer_field (type_at shape (w.ty x)) f (w.ty of.held) kind).1 in
+      omega (arith, subst (λ (u : TypeNo). f < element_count (type_at shape u)) type_is more, (k.each x n at).width)
 
   pub x_known : ((line_of (λ i. true) nodes).ty x).0 < length shape
   x_known = l.known x of.newest_is.there

@@ -11,7 +11,7 @@ use Rattle.pst_base.specs.declared.names.TypeNo.{TypeNo}
 use Rattle.pst_base.specs.declared.names.Name.{Name}
 use Rattle.pst_base.specs.declared.names.Kind.TheVariants.{Int, Pointer}
 use Rattle.pst_base.specs.declared.shape.TypeShape.{TypeShape}
-use Rattle.pst_base.specs.Shape.{type_at, field_count, field_kind}
+use Rattle.pst_base.specs.Shape.{type_at, element_count, field_kind}
 use Rattle.pst_base.specs.Heap.{Rec, with_value, with_pointer, value_set, pointer_set}
 use Rattle.pst_base.proofs.Degrees.{with_value-at, with_pointer-at}
 use Rattle.pst_line_nodes.specs.declared.content.Content.{Content}
@@ -28,11 +28,11 @@ same_field i g x f = ⊎_elim
     (cases_eq i x)
 
 -- a pointer field is behind the values
-pub pointer_field : (t : TypeShape) (g : ℕ) (u : TypeNo) → field_kind t g ≡ Some (Pointer u) → (t.values ≤ g) × (g < field_count t)
-pointer_field t g u e = elim (nat_lt g t.values) as (λ b. nat_lt g t.values ≡ b → cond b (Some Int) (option_map Pointer (slice_get t.targets (g - t.values))) ≡ Some (Pointer u) → (t.values ≤ g) × (g < field_count t)) [
+pub pointer_field : (t : TypeShape) (g : ℕ) (u : TypeNo) → field_kind t g ≡ Some (Pointer u) → (t.values ≤ g) × (g < element_count t)
+pointer_field t g u e = elim (nat_lt g t.values) as (λ b. nat_lt g t.values ≡ b → cond b (Some Int) (option_map Pointer (slice_get t.targets (g - t.values))) ≡ Some (Pointer u) → (t.values ≤ g) × (g < element_count t)) [
   | true ↦ λ x h. absurd (cc)
   | false ↦ λ x h. let low : t.values ≤ g = ltb-false g t.values x in
-      elim (slice_get t.targets (g - t.values)) as (λ (o : Option TypeNo). slice_get t.targets (g - t.values) ≡ o → option_map Pointer o ≡ Some (Pointer u) → (t.values ≤ g) × (g < field_count t)) [
+      elim (slice_get t.targets (g - t.values)) as (λ (o : Option TypeNo). slice_get t.targets (g - t.values) ≡ o → option_map Pointer o ≡ Some (Pointer u) → (t.values ≤ g) × (g < element_count t)) [
         | None ↦ λ y k. absurd (cc)
         | Some v ↦ λ y k. let w : g - t.values < length t.targets = slice_get_within t.targets (g - t.values) v y in (low, omega arith)
       ] refl h
@@ -137,7 +137,7 @@ module _ (shape : List TypeShape) (t : ℕ) (old new : Line) (l : IsLine shape t
         here h ∙ ap (λ (r : Rec). insert (heap_at shape old t) (old.name x) r) rec ∙ sym (with_value-at (heap_at shape old t) (old.name x) f v (record_at shape old x t) (heap_has shape old t l.chained x h))
 
     -- a pointer is written
-    pub pointer_here : (p : Option Name) → IsIn old x t → (type_at shape (old.ty x)).values ≤ f → f < field_count (type_at shape (old.ty x)) → denoted old.name c ≡ p
+    pub pointer_here : (p : Option Name) → IsIn old x t → (type_at shape (old.ty x)).values ≤ f → f < element_count (type_at shape (old.ty x)) → denoted old.name c ≡ p
         → heap_at shape new t ≡ with_pointer (heap_at shape old t) (old.name x) f p
     pointer_here p h low high den =
         let at : (type_at shape (old.ty x)).values + (f - (type_at shape (old.ty x)).values) ≡ f = omega arith in

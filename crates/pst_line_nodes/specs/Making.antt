@@ -3,7 +3,7 @@ use Rattle.std.specs.Prelude.{◌≡◌, ◌≢◌, ℕ, true, List, [], length,
 use Rattle.pst_base.specs.declared.names.Name.{Name}
 use Rattle.pst_base.specs.declared.names.TypeNo.{TypeNo}
 use Rattle.pst_base.specs.declared.shape.TypeShape.{TypeShape}
-use Rattle.pst_base.specs.Shape.{field_count}
+use Rattle.pst_base.specs.Shape.{element_count}
 use Rattle.pst_line_nodes.specs.declared.content.Content.{Content}
 use Rattle.pst_line_nodes.specs.declared.content.Content.TheVariants.{Null, Target}
 use Rattle.pst_line_nodes.specs.declared.content.Entry.{Entry}
@@ -15,7 +15,7 @@ use Rattle.pst_line_nodes.specs.Copying.{node_at, bare}
 
 -- a base for each field of a new record
 pub record AreDefault (shape : TypeShape) (contents : List Content) : Type 0 where
-  pub width : length contents ≡ field_count shape
+  pub width : length contents ≡ element_count shape
   pub each : (g : ℕ) → get_or contents g Null ≡ default_content shape g
 
 -- the first node of a new record

@@ -3,7 +3,7 @@ use Rattle.std.specs.Prelude.{◌≡◌, ℕ, zero, suc, ◌<◌, ◌≤◌, Boo
 use Rattle.std.specs.Option.{option_map}
 use Rattle.pst_base.specs.Name.{root_name}
 use Rattle.pst_base.specs.declared.shape.TypeShape.{TypeShape}
-use Rattle.pst_base.specs.Shape.{root_type, type_at, field_count}
+use Rattle.pst_base.specs.Shape.{root_type, type_at, element_count}
 use Rattle.pst_line_nodes.specs.declared.content.Content.{Content}
 use Rattle.pst_line_nodes.specs.declared.content.Content.TheVariants.{Null}
 use Rattle.pst_line_nodes.specs.declared.content.Entry.{Entry}
@@ -54,7 +54,7 @@ line_of made nodes = record {
 -- that its limit allows, and an older one has none.
 pub record IsKept (shape : List TypeShape) (t : ℕ) (n : Seen) : Type 0 where
   pub row : IsRow t n
-  pub width : length n.base ≡ field_count (type_at shape n.ty)
+  pub width : length n.base ≡ element_count (type_at shape n.ty)
   pub slots : n.later ≡ None → length n.inverse ≡ (type_at shape n.ty).limit
   pub bare : (j : ℕ) → n.later ≡ Some j → n.inverse ≡ []
 

@@ -2,7 +2,7 @@
 
 ghost use Rattle.std.specs.Prelude.{OnOk, OnErr, IfOk, IsOk, IfSome, IfNone, ◌≡◌, ◌≢◌, ◌+◌, ◌<◌, ◌≤◌, ℕ, Bool, true, false, List, length, Some, None};
 ghost use Rattle.pst_base.specs.declared.shape.TypeShape.{TypeShape};
-ghost use Rattle.pst_base.specs.Shape.{type_at, field_count};
+ghost use Rattle.pst_base.specs.Shape.{type_at, element_count};
 ghost use Rattle.pst_line_nodes.specs.declared.content.Content.TheVariants.{Null, Target};
 ghost use Rattle.pst_line_nodes.specs.Line.{IsNewest, IsLine, newest};
 ghost use Rattle.pst_line_nodes.specs.Changes.{IsMade};

@@ -1,7 +1,7 @@
 //! The redirection of pointers to copied nodes, which may copy more nodes.
 
 ghost use Rattle.std.specs.Prelude.{OnOk, OnErr, IfOk, ◌≡◌, ◌≢◌, ◌+◌, ◌<◌, ◌≤◌, ◌↔◌, IsTrue, ℕ, Bool, true, List, length, Some, None};
-ghost use Rattle.pst_base.specs.Shape.{type_at, field_count};
+ghost use Rattle.pst_base.specs.Shape.{type_at, element_count};
 ghost use Rattle.pst_line_nodes.specs.declared.content.Content.TheVariants.{Target};
 ghost use Rattle.pst_line_nodes.specs.Line.{IsNewest, IsLine, IsQuiet};
 ghost use Rattle.pst_line_nodes.specs.Nodes.{line_of, AreKept, HasSlot};

@@ -8,7 +8,7 @@ use Rattle.std.proofs.lemmas.Bool.{cases_eq, cases_Bool, eq-eqb, ne_eqb, false_f
 use Rattle.std.specs.FinMap.{get, empty, get-empty}
 use Rattle.pst_base.specs.declared.names.Name.{Name}
 use Rattle.pst_base.specs.declared.shape.TypeShape.{TypeShape}
-use Rattle.pst_base.specs.Shape.{type_at, field_count}
+use Rattle.pst_base.specs.Shape.{type_at, element_count}
 use Rattle.pst_base.specs.Name.{name_cmp, same_name}
 use Rattle.pst_base.specs.Heap.{Rec, holds, holding, held_by, in_degree, with_record}
 use Rattle.pst_base.proofs.NameLemmas.{same_name-true, same_name-same}
@@ -80,7 +80,7 @@ holding_none q = refl
 
 module _ (shape : List TypeShape) (end : ℕ) (w : Arena) (n : ℕ) (a : IsArena shape end w) (d : IsDrawn w) (y : ℕ) (h : IsIn w y n) where
   abbrev width : ℕ → ℕ
-  width i = field_count (type_at shape (w.ty i))
+  width i = element_count (type_at shape (w.ty i))
 
   pub holding_is : (c : Content) → ((z : ℕ) → c ≡ Target z → IsIn w z n) → holding (w.name y) (denoted w.name c) ≡ one_if (leads_to y c)
   holding_is (Number k) t = refl
@@ -121,7 +121,7 @@ module _ (shape : List TypeShape) (end : ℕ) (w : Arena) (n : ℕ) (a : IsArena
       (cases_Bool (is_in w i n))
 
   abbrev first : ℕ
-  first = field_count (type_at shape (w.ty y))
+  first = element_count (type_at shape (w.ty y))
 
   abbrev limit : ℕ
   limit = (type_at shape (w.ty y)).limit

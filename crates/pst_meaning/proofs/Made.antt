@@ -7,7 +7,7 @@ use Rattle.std.specs.FinMap.{insert}
 use Rattle.pst_base.specs.declared.names.TypeNo.{TypeNo}
 use Rattle.pst_base.specs.declared.names.Name.{Name}
 use Rattle.pst_base.specs.declared.shape.TypeShape.{TypeShape}
-use Rattle.pst_base.specs.Shape.{type_at, field_count, root_type}
+use Rattle.pst_base.specs.Shape.{type_at, element_count, root_type}
 use Rattle.pst_base.specs.Heap.{Rec, with_record, new_record}
 use Rattle.pst_rows.specs.declared.content.Content.{Content}
 use Rattle.pst_rows.specs.declared.content.Content.TheVariants.{Number, Null, Free}
@@ -33,29 +33,29 @@ default_value t g l = rw (lt-ltb g t.values l) refl
 ltb-none : (a b : ℕ) → b ≤ a → ltb a b ≡ false
 ltb-none a b l = false_from_ne_true (ltb a b) (λ e. let m = ltb-true a b e in omega arith)
 
-pub default_pointer : (t : TypeShape) (g : ℕ) → t.values ≤ g → g < field_count t → default_content t g ≡ Null
+pub default_pointer : (t : TypeShape) (g : ℕ) → t.values ≤ g → g < element_count t → default_content t g ≡ Null
 default_pointer t g l m = rw (ltb-none g t.values l, lt-ltb g (t.values + length t.targets) m) refl
 
 pub default_kind : (t : TypeShape) (ty : ℕ → TypeNo) (g : ℕ) → HasKind t ty g (default_content t g)
-default_kind t ty g = elim (ltb g t.values) as (λ b. ltb g t.values ≡ b → HasKind t ty g (cond b (Number (pos 0)) (cond (ltb g (field_count t)) Null (cond (ltb g (field_count t + t.limit)) Free Null)))) [
+default_kind t ty g = elim (ltb g t.values) as (λ b. ltb g t.values ≡ b → HasKind t ty g (cond b (Number (pos 0)) (cond (ltb g (element_count t)) Null (cond (ltb g (element_count t + t.limit)) Free Null)))) [
   | true ↦ λ e. ltb-true g t.values e
   | false ↦ λ e. let low : t.values ≤ g = ltb-false g t.values e in
-      elim (ltb g (field_count t)) as (λ b. ltb g (field_count t) ≡ b → HasKind t ty g (cond b Null (cond (ltb g (field_count t + t.limit)) Free Null))) [
-        | true ↦ λ u. (low, inl (ltb-true g (field_count t) u))
-        | false ↦ λ u. let from : field_count t ≤ g = ltb-false g (field_count t) u in
-            elim (ltb g (field_count t + t.limit)) as (λ b. ltb g (field_count t + t.limit) ≡ b → HasKind t ty g (cond b Free Null)) [
-              | true ↦ λ w. record { from = from; below = ltb-true g (field_count t + t.limit) w }
-              | false ↦ λ w. (low, inr (ltb-false g (field_count t + t.limit) w))
+      elim (ltb g (element_count t)) as (λ b. ltb g (element_count t) ≡ b → HasKind t ty g (cond b Null (cond (ltb g (element_count t + t.limit)) Free Null))) [
+        | true ↦ λ u. (low, inl (ltb-true g (element_count t) u))
+        | false ↦ λ u. let from : element_count t ≤ g = ltb-false g (element_count t) u in
+            elim (ltb g (element_count t + t.limit)) as (λ b. ltb g (element_count t + t.limit) ≡ b → HasKind t ty g (cond b Free Null)) [
+              | true ↦ λ w. record { from = from; below = ltb-true g (element_count t + t.limit) w }
+              | false ↦ λ w. (low, inr (ltb-false g (element_count t + t.limit) w))
             ] refl
       ] refl
 ] refl
 
 pub default_plain : (t : TypeShape) (g : ℕ) → (default_content t g ≡ Number (pos 0)) ⊎ ((default_content t g ≡ Null) ⊎ (default_content t g ≡ Free))
-default_plain t g = elim (ltb g t.values) as (λ b. (cond b (Number (pos 0)) (cond (ltb g (field_count t)) Null (cond (ltb g (field_count t + t.limit)) Free Null)) ≡ Number (pos 0)) ⊎ ((cond b (Number (pos 0)) (cond (ltb g (field_count t)) Null (cond (ltb g (field_count t + t.limit)) Free Null)) ≡ Null) ⊎ (cond b (Number (pos 0)) (cond (ltb g (field_count t)) Null (cond (ltb g (field_count t + t.limit)) Free Null)) ≡ Free))) [
+default_plain t g = elim (ltb g t.values) as (λ b. (cond b (Number (pos 0)) (cond (ltb g (element_count t)) Null (cond (ltb g (element_count t + t.limit)) Free Null)) ≡ Number (pos 0)) ⊎ ((cond b (Number (pos 0)) (cond (ltb g (element_count t)) Null (cond (ltb g (element_count t + t.limit)) Free Null)) ≡ Null) ⊎ (cond b (Number (pos 0)) (cond (ltb g (element_count t)) Null (cond (ltb g (element_count t + t.limit)) Free Null)) ≡ Free))) [
   | true ↦ inl refl
-  | false ↦ inr (elim (ltb g (field_count t)) as (λ b. (cond b Null (cond (ltb g (field_count t + t.limit)) Free Null) ≡ Null) ⊎ (cond b Null (cond (ltb g (field_count t + t.limit)) Free Null) ≡ Free)) [
+  | false ↦ inr (elim (ltb g (element_count t)) as (λ b. (cond b Null (cond (ltb g (element_count t + t.limit)) Free Null) ≡ Null) ⊎ (cond b Null (cond (ltb g (element_count t + t.limit)) Free Null) ≡ Free)) [
     | true ↦ inl refl
-    | false ↦ elim (ltb g (field_count t + t.limit)) as (λ b. (cond b Free Null ≡ Null) ⊎ (cond b Free Null ≡ Free)) [ true ↦ inr refl | false ↦ inl refl ]
+    | false ↦ elim (ltb g (element_count t + t.limit)) as (λ b. (cond b Free Null ≡ Null) ⊎ (cond b Free Null ≡ Free)) [ true ↦ inr refl | false ↦ inl refl ]
   ])
 ]
 

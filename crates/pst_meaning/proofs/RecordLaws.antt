@@ -5,7 +5,7 @@ use Rattle.pst_base.specs.declared.names.TypeNo.{TypeNo}
 use Rattle.pst_base.specs.declared.names.Name.{Name}
 use Rattle.pst_base.specs.declared.names.Kind.TheVariants.{Pointer}
 use Rattle.pst_base.specs.declared.shape.TypeShape.{TypeShape}
-use Rattle.pst_base.specs.Shape.{type_at, field_count}
+use Rattle.pst_base.specs.Shape.{type_at, element_count}
 use Rattle.pst_rows.specs.declared.content.Content.{Content}
 use Rattle.pst_rows.specs.declared.content.Content.TheVariants.{Number, Null, Free, Target as TargetOf, From as FromOf}
 use Rattle.pst_mirror.specs.Contents.{Target, From}
@@ -36,8 +36,8 @@ listed-set (suc n) f g (suc k) v l here others = λ i. others 0 (omega arith) (�
 
 -- two nodes of one type show the same record where the fields show the same
 pub record_of-same : (shape : List TypeShape) (t u : TypeNo) (name name' : ℕ → Name) (slots slots' : ℕ → Content) → u ≡ t
-    → ((g : ℕ) → g < field_count (type_at shape t) → number (slots' g) ≡ number (slots g))
-    → ((g : ℕ) → g < field_count (type_at shape t) → denoted name' (slots' g) ≡ denoted name (slots g))
+    → ((g : ℕ) → g < element_count (type_at shape t) → number (slots' g) ≡ number (slots g))
+    → ((g : ℕ) → g < element_count (type_at shape t) → denoted name' (slots' g) ≡ denoted name (slots g))
     → record_of shape u name' slots' ≡ record_of shape t name slots
 record_of-same shape t u name name' slots slots' e n d =
     ap (λ (t : TypeNo). record_of shape t name' slots') e ∙

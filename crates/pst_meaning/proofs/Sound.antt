@@ -12,7 +12,7 @@ use Rattle.pst_base.specs.declared.names.TypeNo.{TypeNo}
 use Rattle.pst_base.specs.declared.names.Name.{Name}
 use Rattle.pst_base.specs.declared.names.Kind.TheVariants.{Int, Pointer}
 use Rattle.pst_base.specs.declared.shape.TypeShape.{TypeShape}
-use Rattle.pst_base.specs.Shape.{type_at, field_count, field_kind, root_type}
+use Rattle.pst_base.specs.Shape.{type_at, element_count, field_kind, root_type}
 use Rattle.pst_base.specs.Heap.{Rec, IsWellFormed, HasFields, HasTargets, type_in, in_degree, IsFull, in_field, limit_in, limit_from, holding, pointer_at}
 use Rattle.pst_base.proofs.Fields.{found}
 use Rattle.pst_rows.specs.declared.content.Content.{Content}
@@ -98,7 +98,7 @@ module _ (shape : List TypeShape) (end : ℕ) (w : Arena) (n : ℕ) (a : IsArena
         let t = typed q ty e in
         let deg : in_degree (heap_at shape w n) q ≡ in_degree (heap_at shape w n) (w.name t.node) = ap (in_degree (heap_at shape w n)) (sym t.named) in
         let lim : (type_at shape (w.ty t.node)).limit ≡ (type_at shape ty).limit = ap (λ (u : TypeNo). (type_at shape u).limit) t.typed in
-        omega (arith, deg, lim, degree_is shape end w n a d t.node t.alive, count_le (λ u. is_entry (w.chart.holds t.node (field_count (type_at shape (w.ty t.node)) + u) n)) (type_at shape (w.ty t.node)).limit);
+        omega (arith, deg, lim, degree_is shape end w n a d t.node t.alive, count_le (λ u. is_entry (w.chart.holds t.node (element_count (type_at shape (w.ty t.node)) + u) n)) (type_at shape (w.ty t.node)).limit);
   }
 
 pub sound_law : SoundLaw
@@ -135,7 +135,7 @@ leads_is y (FromOf znode fslot) e = let z : ℕ = znode.0 in let f : ℕ = fslot
 
 module _ (shape : List TypeShape) (end : ℕ) (w : Arena) (n x f y : ℕ) (a : IsArena shape end w) (d : IsDrawn w) (hx : IsIn w x n) (hy : IsIn w y n) (k : field_kind (type_at shape (w.ty x)) f ≡ Some (Pointer (w.ty y))) where
   abbrev slot : ℕ → Content
-  slot u = w.chart.holds y (field_count (type_at shape (w.ty y)) + u) n
+  slot u = w.chart.holds y (element_count (type_at shape (w.ty y)) + u) n
 
   abbrev limit : ℕ
   limit = (type_at shape (w.ty y)).limit
@@ -164,11 +164,11 @@ module _ (shape : List TypeShape) (end : ℕ) (w : Arena) (n x f y : ℕ) (a : I
   own_slot e =
       let s = a.mirrored.found x f n y e in
       let i : IsInverse (type_at shape (w.ty y)) s.0 = subst (λ (c : Content). HasKind (type_at shape (w.ty y)) w.ty s.0 c) s.1 (a.kinds y s.0 n hy) in
-      let at : field_count (type_at shape (w.ty y)) + (s.0 - field_count (type_at shape (w.ty y))) ≡ s.0 = omega (arith, i.from) in
-      (s.0 - field_count (type_at shape (w.ty y)), omega (arith, i.from, i.below), ap (λ (g : ℕ). w.chart.holds y g n) at ∙ s.1)
+      let at : element_count (type_at shape (w.ty y)) + (s.0 - element_count (type_at shape (w.ty y))) ≡ s.0 = omega (arith, i.from) in
+      (s.0 - element_count (type_at shape (w.ty y)), omega (arith, i.from, i.below), ap (λ (g : ℕ). w.chart.holds y g n) at ∙ s.1)
 
   not_own : (w.chart.holds x f n ≡ Target y → ⊥) → (u : ℕ) → slot u ≢ From x f
-  not_own off u e = off (a.mirrored.back y (field_count (type_at shape (w.ty y)) + u) n x f e)
+  not_own off u e = off (a.mirrored.back y (element_count (type_at shape (w.ty y)) + u) n x f e)
 
   full_slots : IsFull shape (heap_at shape w n) (w.name x) f (Some (w.name y)) → (u : ℕ) → u < limit → is_other_entry x f (slot u) ≡ true
   full_slots full u l = ⊎_elim
@@ -201,7 +201,7 @@ full_law shape end w n x f y a d hx hy k = (full_slots shape end w n x f y a d h
 
 open_content : (t : TypeShape) (ty : ℕ → TypeNo) (g x f : ℕ) (c : Content) → IsInverse t g → HasKind t ty g c → is_other_entry x f c ≡ false → (c ≡ Free) ⊎ (c ≡ From x f)
 open_content t ty g x f (Number n) i k e = absurd (omega (arith, i.from, k))
-open_content t ty g x f Null i k e = absurd (⊎_elim (λ (l : g < field_count t). omega (arith, i.from)) (λ (l : field_count t + t.limit ≤ g). omega (arith, i.below)) k.1)
+open_content t ty g x f Null i k e = absurd (⊎_elim (λ (l : g < element_count t). omega (arith, i.from)) (λ (l : element_count t + t.limit ≤ g). omega (arith, i.below)) k.1)
 open_content t ty g x f (TargetOf ynode) i k e = let y : ℕ = ynode.0 in absurd (let p = pointer_field t g (ty y) k in omega (arith, i.from, p.1))
 open_content t ty g x f Free i k e = inl refl
 open_content t ty g x f (FromOf znode hslot) i k e = let z : ℕ = znode.0 in let h : ℕ = hslot.0 in inr (⊎_elim

@@ -3,7 +3,7 @@ use Rattle.std.proofs.Common.{◌≡◌, ℕ, ◌<◌, true, false, eqb, Some, N
 use Rattle.std.proofs.lemmas.Bool.{cases_Bool, and_parts, eqb-true, false_from_ne_true}
 use Rattle.pst_base.specs.declared.shape.TypeShape.{TypeShape}
 use Rattle.pst_base.specs.declared.names.Kind.TheVariants.{Pointer}
-use Rattle.pst_base.specs.Shape.{type_at, field_count, field_kind}
+use Rattle.pst_base.specs.Shape.{type_at, element_count, field_kind}
 use Rattle.pst_base.specs.Heap.{with_value, with_pointer}
 use Rattle.pst_rows.specs.declared.content.Content.{Content}
 use Rattle.pst_rows.specs.declared.content.Content.TheVariants.{Number, Null, Free}
@@ -84,7 +84,7 @@ module _ (shape : List TypeShape) (end : ℕ) (old new : Arena) (x f b : ℕ) (v
       (λ (t : is_there x f b i g n ≡ false). subst (λ (c : Content). HasKind (type_at shape (old.ty i)) old.ty g c) (sym (other_new i g n t)) (a.kinds i g n k))
       (cases_Bool (is_there x f b i g n))
 
-  number_others : (i g n : ℕ) → g < field_count (type_at shape (old.ty i)) → (i ≡ x → g ≡ f → n ≡ b → ⊥) → new.chart.holds i g n ≡ old.chart.holds i g n
+  number_others : (i g n : ℕ) → g < element_count (type_at shape (old.ty i)) → (i ≡ x → g ≡ f → n ≡ b → ⊥) → new.chart.holds i g n ≡ old.chart.holds i g n
   number_others i g n k off = other_new i g n (not_there x f b i g n off)
 
   number_keeps : WriteKeeps shape end old new b (with_value (heap_at shape old b) (old.name x) f v)
@@ -114,9 +114,9 @@ module _ (shape : List TypeShape) (end : ℕ) (old new : Arena) (x f : ℕ) (c :
     ]
   ])
 
-  put_others : (i g n : ℕ) → g < field_count (type_at shape (old.ty i)) → (i ≡ x → g ≡ f → n ≡ b → ⊥) → new.chart.holds i g n ≡ old.chart.holds i g n
+  put_others : (i g n : ℕ) → g < element_count (type_at shape (old.ty i)) → (i ≡ x → g ≡ f → n ≡ b → ⊥) → new.chart.holds i g n ≡ old.chart.holds i g n
   put_others i g n l off = put i g n ∙ put_other old.chart x f c y s e b i g n (not_there x f b i g n off)
-      (not_there y s b i g n (λ p q r. let l' : g < field_count (type_at shape (old.ty y)) = subst (λ (i : ℕ). g < field_count (type_at shape (old.ty i))) p l in absurd (omega (arith, inverse.from))))
+      (not_there y s b i g n (λ p q r. let l' : g < element_count (type_at shape (old.ty y)) = subst (λ (i : ℕ). g < element_count (type_at shape (old.ty i))) p l in absurd (omega (arith, inverse.from))))
 
 module _ (shape : List TypeShape) (end : ℕ) (old new : Arena) (x f y s b : ℕ) (a : IsArena shape end old) (d : IsDrawn old) (e : IsDrawn new) where
   taken_keeps : IsPointerTaken old new x f y s b → WriteKeeps shape end old new b (with_pointer (heap_at shape old b) (old.name x) f None)

@@ -11,7 +11,7 @@ use Rattle.pst_base.specs.declared.names.TypeNo.{TypeNo}
 use Rattle.pst_base.specs.declared.names.Name.{Name}
 use Rattle.pst_base.specs.declared.names.Kind.TheVariants.{Int, Pointer}
 use Rattle.pst_base.specs.declared.shape.TypeShape.{TypeShape}
-use Rattle.pst_base.specs.Shape.{type_at, field_count, field_kind}
+use Rattle.pst_base.specs.Shape.{type_at, element_count, field_kind}
 use Rattle.pst_base.specs.Heap.{Rec, with_value, with_pointer, value_set, pointer_set}
 use Rattle.pst_base.proofs.Degrees.{with_value-at, with_pointer-at}
 use Rattle.pst_rows.specs.declared.content.Content.{Content}
@@ -27,11 +27,11 @@ use Rattle.pst_meaning.proofs.RecordLaws.{listed-same, listed-set, length-listed
 -- ---- kinds
 
 -- a pointer field is behind the values
-pub pointer_field : (t : TypeShape) (g : ℕ) (u : TypeNo) → field_kind t g ≡ Some (Pointer u) → (t.values ≤ g) × (g < field_count t)
-pointer_field t g u e = elim (nat_lt g t.values) as (λ b. nat_lt g t.values ≡ b → cond b (Some Int) (option_map Pointer (slice_get t.targets (g - t.values))) ≡ Some (Pointer u) → (t.values ≤ g) × (g < field_count t)) [
+pub pointer_field : (t : TypeShape) (g : ℕ) (u : TypeNo) → field_kind t g ≡ Some (Pointer u) → (t.values ≤ g) × (g < element_count t)
+pointer_field t g u e = elim (nat_lt g t.values) as (λ b. nat_lt g t.values ≡ b → cond b (Some Int) (option_map Pointer (slice_get t.targets (g - t.values))) ≡ Some (Pointer u) → (t.values ≤ g) × (g < element_count t)) [
   | true ↦ λ x h. absurd (cc)
   | false ↦ λ x h. let low : t.values ≤ g = ltb-false g t.values x in
-      elim (slice_get t.targets (g - t.values)) as (λ (o : Option TypeNo). slice_get t.targets (g - t.values) ≡ o → option_map Pointer o ≡ Some (Pointer u) → (t.values ≤ g) × (g < field_count t)) [
+      elim (slice_get t.targets (g - t.values)) as (λ (o : Option TypeNo). slice_get t.targets (g - t.values) ≡ o → option_map Pointer o ≡ Some (Pointer u) → (t.values ≤ g) × (g < element_count t)) [
         | None ↦ λ y k. absurd (cc)
         | Some v ↦ λ y k. let w : g - t.values < length t.targets = slice_get_within t.targets (g - t.values) v y in (low, omega arith)
       ] refl h
@@ -88,7 +88,7 @@ module _ (shape : List TypeShape) (end : ℕ) (old new : Arena) (x f b : ℕ) (a
     one_root = λ i h t. o.name i ∙ a.one_root i (was i h) (sym (o.ty i) ∙ t);
   }
 
-  module _ (others : (i g n : ℕ) → g < field_count (type_at shape (old.ty i)) → (i ≡ x → g ≡ f → n ≡ b → ⊥) → new.chart.holds i g n ≡ old.chart.holds i g n) where
+  module _ (others : (i g n : ℕ) → g < element_count (type_at shape (old.ty i)) → (i ≡ x → g ≡ f → n ≡ b → ⊥) → new.chart.holds i g n ≡ old.chart.holds i g n) where
     other_record : (i n : ℕ) → (i ≡ x → n ≡ b → ⊥) → record_at shape new i n ≡ record_at shape old i n
     other_record i n off = record_of-same shape (old.ty i) (new.ty i) old.name new.name (λ g. old.chart.holds i g n) (λ g. new.chart.holds i g n) (o.ty i)
         (λ g l. ap number (others i g n l (λ p q r. off p r)))
@@ -123,7 +123,7 @@ module _ (shape : List TypeShape) (end : ℕ) (old new : Arena) (x f b : ℕ) (a
         here h ∙ ap (λ (r : Rec). insert (heap_at shape old b) (old.name x) r) rec ∙ sym (with_value-at (heap_at shape old b) (old.name x) f v (record_at shape old x b) (heap_has shape old b a.chained x h))
 
     -- a pointer is written
-    pub pointer_here : (c : Content) (p : Option Name) → IsIn old x b → (type_at shape (old.ty x)).values ≤ f → f < field_count (type_at shape (old.ty x)) → new.chart.holds x f b ≡ c → denoted old.name c ≡ p
+    pub pointer_here : (c : Content) (p : Option Name) → IsIn old x b → (type_at shape (old.ty x)).values ≤ f → f < element_count (type_at shape (old.ty x)) → new.chart.holds x f b ≡ c → denoted old.name c ≡ p
         → heap_at shape new b ≡ with_pointer (heap_at shape old b) (old.name x) f p
     pointer_here c p h low high is den =
         let k : ℕ = f - (type_at shape (old.ty x)).values in

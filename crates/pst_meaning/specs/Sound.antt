@@ -3,7 +3,7 @@ use Rattle.pst_mirror.specs.Degree.{is_other_entry}
 use Rattle.std.specs.Prelude.{◌≡◌, ℕ, ◌+◌, ◌<◌, true, false, ◌↔◌, List, Some}
 use Rattle.pst_base.specs.declared.names.Kind.TheVariants.{Pointer}
 use Rattle.pst_base.specs.declared.shape.TypeShape.{TypeShape}
-use Rattle.pst_base.specs.Shape.{type_at, field_kind, field_count}
+use Rattle.pst_base.specs.Shape.{type_at, field_kind, element_count}
 use Rattle.pst_base.specs.Heap.{IsWellFormed, IsFull}
 use Rattle.pst_rows.specs.declared.content.Content.TheVariants.{Free}
 use Rattle.pst_meaning.specs.Arena.{Arena, IsIn, IsArena, IsDrawn, heap_at}
@@ -18,7 +18,7 @@ SoundLaw = (shape : List TypeShape) (end : ℕ) (w : Arena) (n : ℕ) → IsAren
 abbrev pub FullLaw : Type 0
 FullLaw = (shape : List TypeShape) (end : ℕ) (w : Arena) (n x f y : ℕ) → IsArena shape end w → IsDrawn w → IsIn w x n → IsIn w y n → field_kind (type_at shape (w.ty x)) f ≡ Some (Pointer (w.ty y))
     → IsFull shape (heap_at shape w n) (w.name x) f (Some (w.name y))
-    ↔ ((u : ℕ) → u < (type_at shape (w.ty y)).limit → is_other_entry x f (w.chart.holds y (field_count (type_at shape (w.ty y)) + u) n) ≡ true)
+    ↔ ((u : ℕ) → u < (type_at shape (w.ty y)).limit → is_other_entry x f (w.chart.holds y (element_count (type_at shape (w.ty y)) + u) n) ≡ true)
 
 -- a slot of y that does not hold the entry of another field is free once the old pointer is taken away
 abbrev pub OpenSlotLaw : Type 0

@@ -5,7 +5,7 @@ use Rattle.pst_base.specs.declared.names.NodeId.{NodeId}
 use Rattle.pst_base.specs.declared.names.Counts.{Counts}
 use Rattle.pst_base.specs.declared.shape.TypeShape.{TypeShape}
 use Rattle.pst_base.specs.Name.{root_name}
-use Rattle.pst_base.specs.Shape.{type_at, root_type, field_count, IsValid}
+use Rattle.pst_base.specs.Shape.{type_at, root_type, element_count, IsValid}
 use Rattle.pst_versions.specs.Rows.{IsVersionTree}
 use Rattle.pst_places.specs.declared.versioned.TheConstants.{MOST_FORKS}
 use Rattle.pst_places.specs.State.{State, ForkRow}
@@ -116,7 +116,7 @@ state_of s = record {
 
 -- how many slots a node of a type has: its fields, and one inverse slot for each unit of the limit
 abbrev pub width : TypeShape → ℕ
-width t = field_count t + t.limit
+width t = element_count t + t.limit
 
 -- each node has one base value for each slot of its type
 abbrev pub AreWide : List TypeShape → List Node → Type 0

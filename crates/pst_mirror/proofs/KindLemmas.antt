@@ -5,18 +5,18 @@ use Rattle.std.specs.Option.{option_map}
 use Rattle.pst_base.specs.declared.names.TypeNo.{TypeNo}
 use Rattle.pst_base.specs.declared.names.Kind.TheVariants.{Int, Pointer}
 use Rattle.pst_base.specs.declared.shape.TypeShape.{TypeShape}
-use Rattle.pst_base.specs.Shape.{field_kind, field_count}
+use Rattle.pst_base.specs.Shape.{field_kind, element_count}
 use Rattle.pst_rows.specs.declared.content.Content.{Content}
 use Rattle.pst_rows.specs.declared.content.Content.TheVariants.{Number, Null, Free, Target as TargetOf, From as FromOf}
 use Rattle.pst_mirror.specs.Contents.{Target}
 use Rattle.pst_mirror.specs.Mirror.{moved, renamed}
 use Rattle.pst_mirror.specs.Kinds.{HasKind}
 
-pub pointer_field : (t : TypeShape) (g : ℕ) (u : TypeNo) → field_kind t g ≡ Some (Pointer u) → (t.values ≤ g) × (g < field_count t)
-pointer_field t g u e = elim (nat_lt g t.values) as (λ b. nat_lt g t.values ≡ b → cond b (Some Int) (option_map Pointer (slice_get t.targets (g - t.values))) ≡ Some (Pointer u) → (t.values ≤ g) × (g < field_count t)) [
+pub pointer_field : (t : TypeShape) (g : ℕ) (u : TypeNo) → field_kind t g ≡ Some (Pointer u) → (t.values ≤ g) × (g < element_count t)
+pointer_field t g u e = elim (nat_lt g t.values) as (λ b. nat_lt g t.values ≡ b → cond b (Some Int) (option_map Pointer (slice_get t.targets (g - t.values))) ≡ Some (Pointer u) → (t.values ≤ g) × (g < element_count t)) [
   | true ↦ λ x h. absurd (cc)
   | false ↦ λ x h. let low : t.values ≤ g = ltb-false g t.values x in
-      elim (slice_get t.targets (g - t.values)) as (λ (o : Option TypeNo). slice_get t.targets (g - t.values) ≡ o → option_map Pointer o ≡ Some (Pointer u) → (t.values ≤ g) × (g < field_count t)) [
+      elim (slice_get t.targets (g - t.values)) as (λ (o : Option TypeNo). slice_get t.targets (g - t.values) ≡ o → option_map Pointer o ≡ Some (Pointer u) → (t.values ≤ g) × (g < element_count t)) [
         | None ↦ λ y k. absurd (cc)
         | Some v ↦ λ y k. let w : g - t.values < length t.targets = slice_get_within t.targets (g - t.values) v y in (low, omega arith)
       ] refl h

@@ -2,7 +2,7 @@
 
 ghost use Rattle.std.specs.Prelude.{◌≡◌, ◌<◌, length, IfSome, IfNone, ◌↔◌, IsTrue};
 ghost use Rattle.pst_order.specs.Places.{rank};
-ghost use Rattle.pst_base.specs.Shape.{type_at, field_count};
+ghost use Rattle.pst_base.specs.Shape.{type_at, element_count};
 ghost use Rattle.pst_rows.specs.Changes.{slot_count};
 ghost use Rattle.pst_mirror.specs.Degree.{is_other_entry};
 ghost use Rattle.pst_nodes.specs.Arena.{AreRows, IsAlive, type_of, IsTyped, AreInverse, IsFreeSlot, AreFull, IsOpenSlot, AreFullApart};
@@ -69,7 +69,7 @@ impl Nodes {
     fn inverse_slots(&self, shape: &Shape, id: NodeId) -> (usize, usize)
         requires there { id.0 < length self.now.list.items }
         requires typed { IsTyped shape.now self.now.list.items id.0 }
-        ensures first { result.0 ≡ field_count (type_of shape.now self.now.list.items id.0) }
+        ensures first { result.0 ≡ element_count (type_of shape.now self.now.list.items id.0) }
         ensures end { result.1 ≡ slot_count (type_of shape.now self.now.list.items id.0) }
     {
         let end = self.row(id).width();

@@ -16,7 +16,7 @@ use Rattle.pst_mirror.specs.Kinds.{HasKind}
 use Rattle.pst_mirror.specs.Potential.{half}
 use Rattle.pst_mirror.proofs.KindLemmas.{pointer_field, kind-renamed, kind-types}
 use Rattle.pst_base.specs.declared.names.TypeNo.{TypeNo}
-use Rattle.pst_base.specs.Shape.{type_at, field_count}
+use Rattle.pst_base.specs.Shape.{type_at, element_count}
 use Rattle.pst_rows.specs.Changes.{slot_count, IsSplitStamp}
 use Rattle.pst_split.proofs.RenameLemmas.{link_held}
 use Rattle.pst_mirror.specs.SplitBody.{finished, ArePartnersCut}
@@ -216,7 +216,7 @@ width_typed types ns i d t = omega (arith, t.width d)
 link_slot : (t : TypeShape) (ty : ℕ → TypeNo) (s : ℕ) (c : Content) → is_link c ≡ true → HasKind t ty s c → (t.values ≤ s) × (s < t.values + half t)
 link_slot t ty s (Number n) e k = absurd (cc)
 link_slot t ty s Null e k = absurd (cc)
-link_slot t ty s (TargetOf y) e k = let p : (t.values ≤ s) × (s < field_count t) = pointer_field t s (ty y.0) k in (p.0, omega (arith, p.1))
+link_slot t ty s (TargetOf y) e k = let p : (t.values ≤ s) × (s < element_count t) = pointer_field t s (ty y.0) k in (p.0, omega (arith, p.1))
 link_slot t ty s Free e k = absurd (cc)
 link_slot t ty s (FromOf x f) e k = (omega (arith, k.from), omega (arith, k.below))
 
