@@ -19,17 +19,20 @@ class Procedure:
 
 
 class Program:
-    """A typed program. `text` is its canonical form; no statement of it is refused."""
+    """A typed program, of language 2 now and then. `text` is its canonical form; no statement of it is refused."""
 
     def __init__(self, draw):
         self.draw = draw
+        self.arrays = {}
+        self.language = draw.choice([1, 1, 2])
         self.records = {}
         self.roots = []
         self.procedures = []
         self.make_records()
         self.make_roots()
         self.make_heads()
-        lines = [self.record_line(name) for name in self.records]
+        lines = ['language 2'] if self.language == 2 else []
+        lines += [self.record_line(name) for name in self.records]
         lines += [f'root {name}: {kind};' for name, kind in self.roots]
         for procedure in self.procedures:
             lines += Body(self, procedure).lines()
@@ -47,11 +50,24 @@ class Program:
             fields += [(f'p{k}', self.draw.choice(names)) for k in range(self.draw.choice([0, 1, 2, 2, 3, 8]))]
             self.draw.shuffle(fields)
             self.records[name] = (self.draw.choice([1, 1, 2, 2, 3, 4, 16]), fields)
+            self.make_arrays(name, fields)
+
+    def make_arrays(self, name, fields):
+        """Makes arrays of some fields of language 2; a type has at most 64 elements."""
+        left = 64 - len(fields)
+        for field, _ in fields if self.language == 2 else []:
+            elements = self.draw.choice([1, 2, 2, 3, 4, 16])
+            if self.chance(0.5) and elements - 1 <= left:
+                self.arrays[name, field] = elements
+                left -= elements - 1
 
     def record_line(self, name):
         limit, fields = self.records[name]
-        inside = ''.join(f'val {field}: int; ' if kind == 'int' else f'ptr {field}: {kind}; ' for field, kind in fields)
+        inside = ''.join(f'{"val" if kind == "int" else "ptr"} {field}: {kind}{self.size_text(name, field)}; ' for field, kind in fields)
         return f'record {name} {limit} {{ {inside}}}'
+
+    def size_text(self, name, field):
+        return f' * {self.arrays[name, field]}' if (name, field) in self.arrays else ''
 
     def make_roots(self):
         self.roots = [(f'sum{k}', 'int') for k in range(self.draw.choice([0, 1, 1, 2]))]
@@ -138,7 +154,7 @@ class Body:
         lines = [f'  {made} = new {kind};']
         for field, of in self.program.records[kind][1]:
             if self.chance(0.7):
-                lines.append(f'  {made}.{field} = {"a0" if of == "int" else self.draw.choice(self.names[of])};')
+                lines.append(f'  {self.field(kind, made, field, 1)} = {"a0" if of == "int" else self.draw.choice(self.names[of])};')
         for root, of in self.program.roots:
             if of == kind and (self.chance(0.5) or root.endswith(kind[-1])):
                 lines.append(f'  {root} = {made};')
@@ -153,11 +169,11 @@ class Body:
                 continue
             lines.append(f'  if {root} != null {{')
             lines.append('    print 1;')
-            for field, kind in self.program.records[of][1]:
+            for place, kind in self.places(of, root):
                 if kind == 'int':
-                    lines.append(f'    print {root}.{field};')
+                    lines.append(f'    print {place};')
                     continue
-                lines.append(f'    if {root}.{field} != null and {root}.{field} == {self.draw.choice(self.names[kind])} {{')
+                lines.append(f'    if {place} != null and {place} == {self.draw.choice(self.names[kind])} {{')
                 lines.append('      print 2;')
                 lines.append('    }')
             lines.append('  }')
@@ -206,7 +222,7 @@ class Body:
         if lists and self.chance(0.4):
             kind, field = self.draw.choice(lists)
             name = self.draw.choice(self.own[kind])
-            step, test = f'{name} = {name}.{field};', f'{name} != null'
+            step, test = f'{name} = {self.field(kind, name, field, 0)};', f'{name} != null'
         elif self.chance(0.1):
             return [f'while {self.truth(1)} {{'] + self.inner(indent, depth) + ['}']
         else:
@@ -237,9 +253,9 @@ class Body:
         place = self.draw.choice(self.names[kind])
         own = [of for of in self.fields(kind) if of[1] == kind]
         if own and self.chance(0.2):
-            place = f'{place}.{self.draw.choice(own)[0]}'
+            place = self.field(kind, place, self.draw.choice(own)[0], 1)
         field, of = self.draw.choice(self.fields(kind))
-        write = f'{place}.{field} = {self.whole(of, 2)};'
+        write = f'{self.field(kind, place, field, 2)} = {self.whole(of, 2)};'
         if self.chance(0.75):
             return [f'if {place} != null {{', f'  {write}', '}']
         return [write]
@@ -261,6 +277,26 @@ class Body:
     def fields(self, kind):
         return self.program.records[kind][1] if kind != 'int' else []
 
+    def field(self, kind, pointer, field, depth):
+        """A field of what a pointer to records of a type leads to: of an array one element, most often one that is there."""
+        elements = self.program.arrays.get((kind, field))
+        if elements is None:
+            return f'{pointer}.{field}'
+        if self.chance(0.75):
+            index = str(self.draw.randrange(elements))
+        elif self.chance(0.5):
+            index = self.draw.choice(['-1', str(elements), str(elements - 1), '9223372036854775807', f'{elements} - 1'])
+        else:
+            index = self.sum(max(depth - 1, 0))
+        return f'{pointer}.{field}({index})'
+
+    def places(self, kind, pointer):
+        """All that a record holds, with its kinds: each element of an array."""
+        for field, of in self.fields(kind):
+            elements = self.program.arrays.get((kind, field))
+            for index in range(elements or 1):
+                yield f'{pointer}.{field}' + (f'({index})' if elements else ''), of
+
     def whole(self, kind, depth):
         """An expression that fits a place of this kind."""
         return self.sum(depth) if kind == 'int' else 'null' if self.chance(0.2) else self.pointer(kind, depth)
@@ -271,7 +307,7 @@ class Body:
         steps = [(of, field) for of in self.program.records for field, to in self.fields(of) if to == kind and self.names.get(of)]
         if steps and (self.chance(0.3) or not self.names.get(kind)):
             of, field = self.draw.choice(steps)
-            return f'{self.pointer(of, depth - 1) if depth > 1 else self.draw.choice(self.names[of])}.{field}'
+            return self.field(of, self.pointer(of, depth - 1) if depth > 1 else self.draw.choice(self.names[of]), field, depth)
         return self.draw.choice(self.names.get(kind) or ['null'])
 
     def sum(self, depth):
@@ -295,7 +331,7 @@ class Body:
         if loads and self.chance(0.25):
             kind, field = self.draw.choice(loads)
             pointer = self.pointer(kind, depth)
-            return f'{pointer}.{field}' if 'null' not in pointer else '5'
+            return self.field(kind, pointer, field, depth) if not is_null(pointer) else '5'
         return self.draw.choice(self.names.get('int') or ['4'])
 
     def truth(self, depth):
@@ -325,6 +361,11 @@ class Body:
             sides[0] = self.draw.choice(self.names[kind])
         self.draw.shuffle(sides)
         return f'{sides[0]} {self.draw.choice(COMPARISONS[:2])} {sides[1]}'
+
+
+def is_null(pointer):
+    """Whether a pointer is null in parentheses, or a field of that."""
+    return re.match(r'\(*null', pointer) is not None
 
 
 def tokens_of(text):
