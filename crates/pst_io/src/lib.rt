@@ -18,8 +18,6 @@ mod memory_sink;
 mod memory_source;
 mod room;
 mod standard;
-#[cfg(test)]
-mod tests;
 mod traits;
 
 pub use fault::LinesFault;

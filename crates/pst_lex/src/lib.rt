@@ -16,8 +16,6 @@ mod gaps;
 mod laws;
 mod lexer;
 mod pieces;
-#[cfg(test)]
-mod tests;
 mod types;
 mod words;
 

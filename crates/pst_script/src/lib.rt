@@ -15,8 +15,6 @@ mod laws;
 mod numerals;
 mod read;
 mod reply;
-#[cfg(test)]
-mod tests;
 mod text;
 mod verb;
 mod words;

@@ -1,0 +1,138 @@
+//! Texts with their tokens.
+
+use pst_lex::{FirstTokens, Mark, Token, TokenKind, first_tokens, mark_at, tokens};
+use std::alloc::{AllocError, Global};
+use std::test::Fail;
+
+/// A text that is read here has fewer bytes.
+const SMALL: usize = 1_000;
+
+/// The line of a token, its first byte and the one behind its last, and what it is: a name by its bytes, a number, or the
+/// position of a keyword (`k`) or symbol (`s`).
+fn shown(alloc: Global, token: &Token) -> Result<String, AllocError> {
+    let line = token.line;
+    let from = token.span.from;
+    let to = token.span.to;
+    match &token.kind {
+        TokenKind::Name(name) => {
+            let text = std::str::from_utf8(name.as_slice()).unwrap_or("?");
+            format!(in alloc; "{line}:{from}-{to} {text}; ")
+        }
+        TokenKind::Number(value) => format!(in alloc; "{line}:{from}-{to} {value}; "),
+        TokenKind::Keyword(index) => format!(in alloc; "{line}:{from}-{to} k{index}; "),
+        TokenKind::Symbol(index) => format!(in alloc; "{line}:{from}-{to} s{index}; "),
+    }
+}
+
+/// The tokens of a small text, and the line of its end.
+fn all_shown(alloc: Global, text: &[u8]) -> Result<String, Fail> {
+    let mut all = String::new(alloc);
+    if text.len() >= SMALL {
+        return Ok(all);
+    }
+    let read = tokens(alloc, text)?;
+    for token in read.list.as_slice() {
+        all.push_str(shown(alloc, token)?.as_str())?;
+    }
+    all.push_str(read.end.to_string(alloc)?.as_str())?;
+    Ok(all)
+}
+
+#[test]
+fn symbols_are_as_long_as_they_can_be(rt: HostRuntime) -> Result<(), Fail> {
+    let alloc = rt.alloc();
+    assert_eq!(rt; all_shown(alloc, b"===")?.as_str(), "1:0-2 s9; 1:2-3 s8; 1");
+    assert_eq!(rt;
+        all_shown(alloc, b"<==")?.as_str(),
+        "1:0-2 s12; 1:2-3 s8; 1"
+    );
+    assert_eq!(rt; all_shown(alloc, b"=<")?.as_str(), "1:0-1 s8; 1:1-2 s11; 1");
+    assert_eq!(rt;
+        all_shown(alloc, b"!=>=>%")?.as_str(),
+        "1:0-2 s10; 1:2-4 s14; 1:4-5 s13; 1:5-6 s19; 1"
+    );
+    Ok(())
+}
+
+#[test]
+fn words_are_as_long_as_they_can_be(rt: HostRuntime) -> Result<(), Fail> {
+    let alloc = rt.alloc();
+    assert_eq!(rt;
+        all_shown(alloc, b"5.x")?.as_str(),
+        "1:0-1 5; 1:1-2 s7; 1:2-3 x; 1"
+    );
+    assert_eq!(rt;
+        all_shown(alloc, b"9223372036854775807 0")?.as_str(),
+        "1:0-19 9223372036854775807; 1:20-21 0; 1"
+    );
+    assert_eq!(rt;
+        all_shown(alloc, b"int ints _ Int")?.as_str(),
+        "1:0-3 k18; 1:4-8 ints; 1:9-10 _; 1:11-14 Int; 1"
+    );
+    assert_eq!(rt;
+        all_shown(alloc, b"a1234567890123456789012345678901:")?.as_str(),
+        "1:0-32 a1234567890123456789012345678901; 1:32-33 s5; 1"
+    );
+    Ok(())
+}
+
+#[test]
+fn blanks_and_comments_are_no_tokens(rt: HostRuntime) -> Result<(), Fail> {
+    let alloc = rt.alloc();
+    assert_eq!(rt; all_shown(alloc, b"")?.as_str(), "1");
+    assert_eq!(rt; all_shown(alloc, b" \t\r\n")?.as_str(), "2");
+    assert_eq!(rt; all_shown(alloc, b"# a comment ! & ~")?.as_str(), "1");
+    assert_eq!(rt;
+        all_shown(alloc, b"a#b\nc")?.as_str(),
+        "1:0-1 a; 2:4-5 c; 2"
+    );
+    Ok(())
+}
+
+#[test]
+fn tokens_stand_in_their_places(rt: HostRuntime) -> Result<(), Fail> {
+    let alloc = rt.alloc();
+    assert_eq!(rt;
+        all_shown(alloc, b"proc p() {\n")?.as_str(),
+        "1:0-4 k4; 1:5-6 p; 1:6-7 s2; 1:7-8 s3; 1:9-10 s0; 2"
+    );
+    assert_eq!(rt;
+        all_shown(alloc, b"}),;+-*/")?.as_str(),
+        "1:0-1 s1; 1:1-2 s3; 1:2-3 s6; 1:3-4 s4; 1:4-5 s15; 1:5-6 s16; 1:6-7 s17; 1:7-8 s18; 1"
+    );
+    Ok(())
+}
+
+#[test]
+fn marks_are_keywords_and_symbols(rt: HostRuntime) {
+    assert_eq!(rt; mark_at(&TokenKind::Keyword(18)), Some(Mark::Int));
+    assert_eq!(rt; mark_at(&TokenKind::Keyword(19)), None);
+    assert_eq!(rt; mark_at(&TokenKind::Symbol(12)), Some(Mark::LessEqual));
+    assert_eq!(rt; mark_at(&TokenKind::Symbol(20)), None);
+    assert_eq!(rt; mark_at(&TokenKind::Number(7)), None);
+}
+
+/// How many of the first tokens of a text of four there are, and whether these are all.
+fn first(alloc: Global, most: usize) -> Result<(usize, bool), Fail> {
+    match first_tokens(alloc, b"a = 1; # of four", most)? {
+        FirstTokens::All(tokens) => Ok((tokens.list.as_slice().len(), true)),
+        FirstTokens::Front(list) => Ok((list.as_slice().len(), false)),
+    }
+}
+
+#[test]
+fn first_tokens_are_as_many_as_are_asked_for(rt: HostRuntime) -> Result<(), Fail> {
+    let alloc = rt.alloc();
+    assert_eq!(rt; first(alloc, 0)?, (0, false));
+    assert_eq!(rt; first(alloc, 3)?, (3, false));
+    assert_eq!(rt; first(alloc, 4)?, (4, true));
+    assert_eq!(rt; first(alloc, 5)?, (4, true));
+    // The fault behind them is found.
+    assert!(rt; first_tokens(alloc, b"a = 007", 1).is_err());
+    Ok(())
+}
+
+#[test]
+fn token_takes_48_bytes(rt: HostRuntime) {
+    assert_eq!(rt; size_of::<Token>(), 48);
+}

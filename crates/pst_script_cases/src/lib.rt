@@ -1,0 +1,5 @@
+//! Replies that no script brings about.
+#![tactic(auto)]
+
+#[cfg(test)]
+mod replies;
