@@ -6,12 +6,12 @@ use Rattle.pst_lex.specs.declared.words.Mark.TheVariants as mark
 use Rattle.pst_lex.specs.Words as word
 use Rattle.pst_lex.specs.Words.{Word, Fixed}
 use Rattle.pst_tree.specs.Syntax as tree
-use Rattle.pst_parse.specs.declared.lexeme.Label.{Label}
-use Rattle.pst_parse.specs.declared.lexeme.Sign.TheVariants as sign
-use Rattle.pst_parse.specs.declared.lexeme.Lead.TheVariants as lead
-use Rattle.pst_parse.specs.Lexemes as token
-use Rattle.pst_parse.specs.Lexemes.{Lexeme, Plain, Leading}
-use Rattle.pst_parse.specs.Spelling.{TypeText, Int, Named, type_word, spelled_type, spelled_count, FieldText, Val, Ptr, field, spelled_field, Parameter, parameter, spelled_parameter, Local, local, spelled_local, spelled_result, head, Block, phrases, spelled_block, Item, Record, Root, Procedure, item, spelled_item, each, listed, Opening, First, Second, language, language_word, spelled_opening, Program, program, spelled_program}
+use Rattle.pst_grammar.specs.declared.lexeme.Label.{Label}
+use Rattle.pst_grammar.specs.declared.lexeme.Sign.TheVariants as sign
+use Rattle.pst_grammar.specs.declared.lexeme.Lead.TheVariants as lead
+use Rattle.pst_grammar.specs.Lexemes as token
+use Rattle.pst_grammar.specs.Lexemes.{Lexeme, Plain, Leading}
+use Rattle.pst_grammar.specs.Spelling.{TypeText, Int, Named, type_word, spelled_type, spelled_count, FieldText, Val, Ptr, field, spelled_field, Parameter, parameter, spelled_parameter, Local, local, spelled_local, spelled_result, head, Block, phrases, spelled_block, Item, Record, Root, Procedure, item, spelled_item, each, listed, Opening, First, Second, language, language_word, spelled_opening, Program, program, spelled_program}
 use Rattle.pst_notation.specs.Lines.{block_lineless, field_lineless, local_lineless, item_lineless, lineless}
 use Rattle.pst_notation.specs.Tokens.{words_of, program_words, lead_mark}
 use Rattle.pst_notation.proofs.Fronts.{front, Relined, lexeme_at}

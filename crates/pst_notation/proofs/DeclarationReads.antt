@@ -8,12 +8,12 @@ use Rattle.pst_base.specs.declared.names.Op.TheVariants as op
 use Rattle.pst_lex.specs.declared.words.Mark.TheVariants as mark
 use Rattle.pst_lex.specs.Bytes.{EndsWord}
 use Rattle.pst_lex.specs.Lexing.{AreWords, LexedAs}
-use Rattle.pst_parse.specs.declared.lexeme.Label.{Label}
-use Rattle.pst_parse.specs.declared.lexeme.Sign.TheVariants as sign
-use Rattle.pst_parse.specs.declared.lexeme.Lead.TheVariants as lead
-use Rattle.pst_parse.specs.Lexemes.{Lexeme, Name, Plain, Leading}
-use Rattle.pst_parse.specs.Spelling.{listed as spelled_list}
-use Rattle.pst_parse.specs.Spelling.{TypeText, Int, Named, type_word, spelled_type, spelled_count, FieldText, Val, Ptr, field, spelled_field, Parameter, parameter, spelled_parameter, Local, local, spelled_local, spelled_result, head, Item, Record, Root, Procedure, item, spelled_item, each, Opening, First, Second, language, language_word, spelled_opening, Program, program}
+use Rattle.pst_grammar.specs.declared.lexeme.Label.{Label}
+use Rattle.pst_grammar.specs.declared.lexeme.Sign.TheVariants as sign
+use Rattle.pst_grammar.specs.declared.lexeme.Lead.TheVariants as lead
+use Rattle.pst_grammar.specs.Lexemes.{Lexeme, Name, Plain, Leading}
+use Rattle.pst_grammar.specs.Spelling.{listed as spelled_list}
+use Rattle.pst_grammar.specs.Spelling.{TypeText, Int, Named, type_word, spelled_type, spelled_count, FieldText, Val, Ptr, field, spelled_field, Parameter, parameter, spelled_parameter, Local, local, spelled_local, spelled_result, head, Item, Record, Root, Procedure, item, spelled_item, each, Opening, First, Second, language, language_word, spelled_opening, Program, program}
 use Rattle.pst_notation.specs.Canonical.{line, listed, type_text, typed_text, elements_text, field_text, parameter_text, local_text, gives_text, sort_text, item_text, language_text, canonical}
 use Rattle.pst_notation.specs.Tokens.{program_words}
 use Rattle.pst_notation.proofs.Pieces.{Reads, written, space, feed, on_line, name, number, fixed, open_ends, operator}

@@ -5,10 +5,10 @@ use Rattle.pst_lex.specs.declared.words.Mark.TheVariants as mark
 use Rattle.pst_lex.specs.Words as word
 use Rattle.pst_lex.specs.Words.{Word, Fixed}
 use Rattle.pst_tree.specs.Syntax as tree
-use Rattle.pst_parse.specs.declared.lexeme.Sign.TheVariants as sign
-use Rattle.pst_parse.specs.Lexemes as token
-use Rattle.pst_parse.specs.Lexemes.{Lexeme, Operator, Plain, Leading}
-use Rattle.pst_parse.specs.Spelling.{Expr, Number, Null, Name, Parens, Field, Indexed, Negate, Not, Binary, expr, spelled, each, after_comma, listed}
+use Rattle.pst_grammar.specs.declared.lexeme.Sign.TheVariants as sign
+use Rattle.pst_grammar.specs.Lexemes as token
+use Rattle.pst_grammar.specs.Lexemes.{Lexeme, Operator, Plain, Leading}
+use Rattle.pst_grammar.specs.Spelling.{Expr, Number, Null, Name, Parens, Field, Indexed, Negate, Not, Binary, expr, spelled, each, after_comma, listed}
 use Rattle.pst_notation.specs.Tokens.{words_of, op_mark}
 use Rattle.pst_notation.proofs.Fronts.{front, Relined, lexeme_at}
 use Rattle.pst_base.specs.declared.names.Op.{Op}

@@ -5,9 +5,9 @@ use Rattle.std.proofs.Common.{refl, append_assoc}
 use Rattle.pst_base.specs.declared.names.Op.TheVariants as op
 use Rattle.pst_lex.specs.declared.words.Mark.TheVariants as mark
 use Rattle.pst_lex.specs.Bytes.{EndsWord}
-use Rattle.pst_parse.specs.declared.lexeme.Sign.TheVariants as sign
-use Rattle.pst_parse.specs.Lexemes.{Lexeme, Operator, Plain}
-use Rattle.pst_parse.specs.Spelling.{Expr, Number, Null, Name, Parens, Field, Indexed, Negate, Not, Binary, expr, spelled, each, after_comma, listed}
+use Rattle.pst_grammar.specs.declared.lexeme.Sign.TheVariants as sign
+use Rattle.pst_grammar.specs.Lexemes.{Lexeme, Operator, Plain}
+use Rattle.pst_grammar.specs.Spelling.{Expr, Number, Null, Name, Parens, Field, Indexed, Negate, Not, Binary, expr, spelled, each, after_comma, listed}
 use Rattle.pst_notation.specs.Canonical as canonical
 use Rattle.pst_notation.specs.Canonical.{expr_text, behind_comma}
 use Rattle.pst_notation.proofs.Pieces.{Reads, written, space, name, number, fixed, open_ends, close_ends, minus_ends, dot_ends, operator}

@@ -9,8 +9,8 @@ use Rattle.pst_lex.specs.declared.words.Mark.TheVariants as mark
 use Rattle.pst_lex.specs.Bytes.{EndsWord, NoPair}
 use Rattle.pst_lex.specs.Words.{Word, Fixed, mark_text}
 use Rattle.pst_lex.specs.Lexing.{AreWords, LexedAs, EndsMark}
-use Rattle.pst_parse.specs.declared.lexeme.Label.{Label}
-use Rattle.pst_parse.specs.Lexemes.{Lexeme, Name, Number, Operator}
+use Rattle.pst_grammar.specs.declared.lexeme.Label.{Label}
+use Rattle.pst_grammar.specs.Lexemes.{Lexeme, Name, Number, Operator}
 use Rattle.pst_notation.specs.Canonical.{op_text, line}
 use Rattle.pst_notation.specs.Tokens.{word_of, words_of}
 

@@ -14,10 +14,10 @@ use Rattle.pst_lex.proofs.Unique.{its_words, no_fault, are_words}
 use Rattle.pst_tree.specs.declared.declaration.Tree.{Tree}
 use Rattle.pst_tree.specs.View.{text_of}
 use Rattle.pst_tree.specs.Syntax as tree
-use Rattle.pst_parse.specs.Lexemes.{lexeme_in, lexemes, marked_if}
-use Rattle.pst_parse.specs.Spelling.{Program, program}
-use Rattle.pst_parse.specs.Grammar.{Spells}
-use Rattle.pst_parse.proofs.Faults.{unique}
+use Rattle.pst_grammar.specs.Lexemes.{lexeme_in, lexemes, marked_if}
+use Rattle.pst_grammar.specs.Spelling.{Program, program}
+use Rattle.pst_grammar.specs.Grammar.{Spells}
+use Rattle.pst_grammar.proofs.Faults.{unique}
 use Rattle.pst_notation.specs.Canonical.{canonical}
 use Rattle.pst_notation.specs.Lines.{lineless}
 use Rattle.pst_notation.specs.Tokens.{word_of, words_of, program_words}

@@ -5,11 +5,11 @@ use Rattle.pst_lex.specs.declared.words.Mark.TheVariants as mark
 use Rattle.pst_lex.specs.Words as word
 use Rattle.pst_lex.specs.Words.{Word, Fixed}
 use Rattle.pst_tree.specs.Syntax as tree
-use Rattle.pst_parse.specs.declared.lexeme.Label.{Label}
-use Rattle.pst_parse.specs.declared.lexeme.Sign.TheVariants as sign
-use Rattle.pst_parse.specs.declared.lexeme.Lead.TheVariants as lead
-use Rattle.pst_parse.specs.Lexemes.{Lexeme, Plain, Leading}
-use Rattle.pst_parse.specs.Spelling.{Expr, expr, spelled, listed, ended, spelled_call, Statement, New, Call, Result, Write, Print, If, Either, While, Return, Block, Empty, Then, phrase, phrases, spelled_statement, spelled_block}
+use Rattle.pst_grammar.specs.declared.lexeme.Label.{Label}
+use Rattle.pst_grammar.specs.declared.lexeme.Sign.TheVariants as sign
+use Rattle.pst_grammar.specs.declared.lexeme.Lead.TheVariants as lead
+use Rattle.pst_grammar.specs.Lexemes.{Lexeme, Plain, Leading}
+use Rattle.pst_grammar.specs.Spelling.{Expr, expr, spelled, listed, ended, spelled_call, Statement, New, Call, Result, Write, Print, If, Either, While, Return, Block, Empty, Then, phrase, phrases, spelled_statement, spelled_block}
 use Rattle.pst_notation.specs.Lines.{phrase_lineless, block_lineless}
 use Rattle.pst_notation.specs.Tokens.{words_of}
 use Rattle.pst_notation.proofs.Fronts.{front, Relined}

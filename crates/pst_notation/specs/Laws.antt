@@ -7,10 +7,11 @@ use Rattle.pst_lex.specs.Lexing.{AreWords, LexedAs, Lexes, Faults, words_of}
 use Rattle.pst_tree.specs.declared.declaration.Tree.{Tree}
 use Rattle.pst_tree.specs.Syntax as tree
 use Rattle.pst_tree.specs.View.{text_of}
-use Rattle.pst_parse.specs.Lexemes.{lexemes}
-use Rattle.pst_parse.specs.Forms.{IsProgram, IsShallow}
-use Rattle.pst_parse.specs.Spelling.{Program, program}
-use Rattle.pst_parse.specs.Grammar.{Spells, Found}
+use Rattle.pst_grammar.specs.Lexemes.{lexemes}
+use Rattle.pst_grammar.specs.Forms.{IsProgram, IsShallow}
+use Rattle.pst_grammar.specs.Spelling.{Program, program}
+use Rattle.pst_grammar.specs.Grammar.{Spells}
+use Rattle.pst_parse.specs.Answers.{Found}
 use Rattle.pst_notation.specs.Canonical.{canonical}
 use Rattle.pst_notation.specs.Lines.{lineless}
 use Rattle.pst_notation.specs.Tokens.{program_words}

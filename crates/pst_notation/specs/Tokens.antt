@@ -6,12 +6,12 @@ use Rattle.pst_lex.specs.declared.words.Mark.{Mark}
 use Rattle.pst_lex.specs.declared.words.Mark.TheVariants as mark
 use Rattle.pst_lex.specs.Words as word
 use Rattle.pst_lex.specs.Words.{Word, Fixed}
-use Rattle.pst_parse.specs.declared.lexeme.Sign.{Sign}
-use Rattle.pst_parse.specs.declared.lexeme.Sign.TheVariants as sign
-use Rattle.pst_parse.specs.declared.lexeme.Lead.{Lead}
-use Rattle.pst_parse.specs.declared.lexeme.Lead.TheVariants as lead
-use Rattle.pst_parse.specs.Lexemes.{Lexeme, Name, Number, Operator, Plain, Leading, Unknown}
-use Rattle.pst_parse.specs.Spelling.{Program, spelled_program}
+use Rattle.pst_grammar.specs.declared.lexeme.Sign.{Sign}
+use Rattle.pst_grammar.specs.declared.lexeme.Sign.TheVariants as sign
+use Rattle.pst_grammar.specs.declared.lexeme.Lead.{Lead}
+use Rattle.pst_grammar.specs.declared.lexeme.Lead.TheVariants as lead
+use Rattle.pst_grammar.specs.Lexemes.{Lexeme, Name, Number, Operator, Plain, Leading, Unknown}
+use Rattle.pst_grammar.specs.Spelling.{Program, spelled_program}
 
 abbrev pub op_mark : Op → Mark
 op_mark op.Add = mark.Plus

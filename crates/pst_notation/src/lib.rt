@@ -15,8 +15,6 @@ mod declarations;
 mod expressions;
 mod laws;
 mod statements;
-#[cfg(test)]
-mod tests;
 
 pub use declarations::print_program;
 pub use laws::{canonical_text_keeps_what_was_read, canonical_text_reads_as_its_tree};

@@ -1,15 +1,3 @@
-pub mod Equations
 pub mod Loops
 pub mod StatementEquations
 pub mod Parsed
-pub mod Laws
-pub mod ReadLaw
-pub mod Wider
-pub mod Again
-pub mod Many
-pub mod StatementLaw
-pub mod DeclarationLaw
-pub mod ProgramLaw
-pub mod StatementAgain
-pub mod DeclarationAgain
-pub mod Faults

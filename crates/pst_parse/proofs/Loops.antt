@@ -1,13 +1,15 @@
 -- What loops that read many parts keep.
 use Rattle.std.specs.Prelude.{◌≡◌, Bool, true, false, List, [], ◌∷◌, ◌++◌, map}
 use Rattle.std.proofs.Common.{refl, sym, ap, ◌∙◌, subst, append-nil, append_assoc}
-use Rattle.pst_parse.specs.declared.lexeme.Sign.TheVariants as sign
-use Rattle.pst_parse.specs.declared.stop.Stop.{Stop}
-use Rattle.pst_parse.specs.declared.stop.Stop.TheVariants as stop
-use Rattle.pst_parse.specs.Lexemes.{Lexeme, Plain}
-use Rattle.pst_parse.specs.Reader.{Read, Got, Bad, and_then, is, expect, after, many}
-use Rattle.pst_parse.specs.View.{Stops, Lacks, begins}
-use Rattle.pst_parse.proofs.Many.{Shortens, many-start, many-stop, many-end}
+use Rattle.pst_grammar.specs.declared.lexeme.Sign.TheVariants as sign
+use Rattle.pst_expressions.specs.declared.stop.Stop.{Stop}
+use Rattle.pst_expressions.specs.declared.stop.Stop.TheVariants as stop
+use Rattle.pst_grammar.specs.Lexemes.{Lexeme, Plain}
+use Rattle.pst_grammar.specs.Declarations.{any}
+use Rattle.pst_grammar.specs.Reader.{Read, Got, Bad, and_then, is, expect, after, many}
+use Rattle.pst_expressions.specs.View.{Stops, Lacks}
+use Rattle.pst_parse.specs.View.{begins}
+use Rattle.pst_grammar.proofs.Many.{Shortens, many-start, many-stop, many-end}
 
 pub map-append : {A B : Type 0} (f : A → B) (xs : List A) (a : A) → map f (xs ++ (a ∷ [])) ≡ map f xs ++ (f a ∷ [])
 map-append f [] a = refl
@@ -104,3 +106,8 @@ pub stops_bind : {A B : Type 0} (r : Read A) (f : A → List Lexeme → Read B) 
 stops_bind r f (stop.Unexpected s) bad = rw bad refl
 stops_bind r f (stop.TooDeep s) bad = rw bad refl
 stops_bind r f stop.Memory bad = tt
+
+-- where no token stands, the end is
+pub no_token : (ts : List Lexeme) → false ≡ begins any ts → ts ≡ []
+no_token [] e = refl
+no_token (t ∷ ts) e = cc

@@ -1,18 +1,19 @@
 -- From what reading a program gives to what parsing answers.
-use Rattle.std.specs.Prelude.{◌≡◌, ℕ, ◌≤◌, ◌+◌, ◌-◌, List, ◌++◌, length, take, drop}
+use Rattle.std.specs.Prelude.{◌≡◌, ℕ, ◌≤◌, ◌+◌, ◌-◌, List, [], ◌∷◌, ◌++◌, length, take, drop}
 use Rattle.std.proofs.Common.{refl, sym, ap, ◌∙◌, subst, arith, length-append}
 use Rattle.std.proofs.Math.Seq.{drop-append_seam, take-append_seam}
 use Rattle.std.proofs.lemmas.List.{take-append-drop, take-map, drop-map, length-map}
 use Rattle.pst_lex.specs.declared.types.Token.{Token}
 use Rattle.pst_lex.specs.declared.types.Tokens.{Tokens}
 use Rattle.pst_tree.specs.Syntax as tree
-use Rattle.pst_parse.specs.Lexemes.{Lexeme, lexeme, lexemes}
-use Rattle.pst_parse.specs.Forms.{IsShallow}
-use Rattle.pst_parse.specs.Spelling.{Program, program}
-use Rattle.pst_parse.specs.Grammar.{Spells, IsUnexpected, IsTooDeep, IsFirstFaultOn, line_at}
-use Rattle.pst_parse.specs.Reader.{Got, Bad, Fault, Unexpected, TooDeep}
-use Rattle.pst_parse.specs.Declarations.{reading_program}
-use Rattle.pst_parse.proofs.Faults.{only, unexpected, deep}
+use Rattle.pst_grammar.specs.Lexemes.{Lexeme, Name, lexeme, lexemes}
+use Rattle.pst_grammar.specs.Forms.{IsShallow}
+use Rattle.pst_grammar.specs.Spelling.{Program, program}
+use Rattle.pst_grammar.specs.Grammar.{Spells, IsUnexpected, IsTooDeep, IsFirstFaultOn, line_at}
+use Rattle.pst_grammar.specs.Reader.{Got, Bad, Fault, Unexpected, TooDeep}
+use Rattle.pst_grammar.specs.Declarations.{declarations, reading_program}
+use Rattle.pst_parse.specs.View.{BeginsOtherwise}
+use Rattle.pst_grammar.proofs.Faults.{only, unexpected, deep}
 
 place_length : (list s : List Token) (u : List Lexeme) → lexemes list ≡ u ++ lexemes s → length list ≡ length u + length s
 place_length list s u at =
@@ -59,3 +60,9 @@ same_program h d ts rest q p e shallow sp = let o = only h d ts p shallow sp in 
 
 pub no_fault : {X : Type 0} (h d : ℕ) (ts rest : List Lexeme) (k : Fault) (p : Program) → reading_program h d ts ≡ Bad k rest → IsShallow h d (program p) → Spells ts p → X
 no_fault h d ts rest k p e shallow sp = absurd (let o = only h d ts p shallow sp in cc)
+
+-- where the first token is not the word of language 2, what stands there is read in language 1
+pub otherwise : (h d : ℕ) (ts : List Lexeme) → BeginsOtherwise ts → reading_program h d ts ≡ declarations 1 h d ts
+otherwise h d [] other = refl
+otherwise h d (Name x ∷ ts) other = rw other refl
+otherwise h d (t ∷ ts) other = refl

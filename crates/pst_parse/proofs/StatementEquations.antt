@@ -8,18 +8,19 @@ use Rattle.pst_tree.specs.declared.statement.Block as coded
 use Rattle.pst_tree.specs.View.{phrase_of, phrases_of, row_of}
 use Rattle.pst_tree.specs.Syntax as tree
 use Rattle.pst_tree.specs.Syntax.{Expr, Phrase, Phrases}
-use Rattle.pst_parse.specs.declared.lexeme.Label.{Label}
-use Rattle.pst_parse.specs.declared.lexeme.Lexeme as lexed
-use Rattle.pst_parse.specs.declared.lexeme.Lexeme.TheVariants as seen
-use Rattle.pst_parse.specs.declared.lexeme.Sign.TheVariants as sign
-use Rattle.pst_parse.specs.declared.lexeme.Lead.{Lead}
-use Rattle.pst_parse.specs.declared.lexeme.Lead.TheVariants as lead
-use Rattle.pst_parse.specs.Lexemes.{Lexeme, Name, Plain, Leading, as_read}
-use Rattle.pst_parse.specs.Reader.{Read, Got, Bad, Unexpected, TooDeep, and_then, within}
-use Rattle.pst_parse.specs.Reading.{read}
-use Rattle.pst_parse.specs.Statements.{assigned, braced, choice, led, on_line, statement, block_of, reading_statement, reading_block, inner}
-use Rattle.pst_parse.specs.View.{Lacks, stated_of}
-use Rattle.pst_parse.proofs.Again.{test_true, test_false}
+use Rattle.pst_grammar.specs.declared.lexeme.Label.{Label}
+use Rattle.pst_expressions.specs.declared.lexeme.Lexeme as lexed
+use Rattle.pst_expressions.specs.declared.lexeme.Lexeme.TheVariants as seen
+use Rattle.pst_grammar.specs.declared.lexeme.Sign.TheVariants as sign
+use Rattle.pst_grammar.specs.declared.lexeme.Lead.{Lead}
+use Rattle.pst_grammar.specs.declared.lexeme.Lead.TheVariants as lead
+use Rattle.pst_grammar.specs.Lexemes.{Lexeme, Name, Plain, Leading}
+use Rattle.pst_grammar.specs.Reader.{Read, Got, Bad, Unexpected, TooDeep, and_then, within}
+use Rattle.pst_grammar.specs.Reading.{read}
+use Rattle.pst_grammar.specs.Statements.{assigned, braced, choice, led, on_line, statement, block_of, reading_statement, reading_block, inner}
+use Rattle.pst_expressions.specs.View.{as_read, Lacks}
+use Rattle.pst_parse.specs.View.{stated_of}
+use Rattle.pst_grammar.proofs.Again.{test_true, test_false}
 
 -- a statement by its first token
 statement_is : (j h d : ℕ) (ts : List Lexeme) → reading_statement j h d ts ≡ statement j (inner j h d) h d ts

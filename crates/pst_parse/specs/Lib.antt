@@ -1,9 +1,2 @@
-pub mod Lexemes
-pub mod Forms
-pub mod Spelling
-pub mod Grammar
-pub mod Reader
-pub mod Reading
-pub mod Statements
-pub mod Declarations
+pub mod Answers
 pub mod View

@@ -1,8 +1,6 @@
--- What the code's answers say of a reading.
+-- What the code's answers say of a reading, of declarations and of whole programs.
 use Rattle.std.specs.Prelude.{◌≡◌, ℕ, Bool, true, false, bytes_eq, List, [], ◌∷◌, map, Option, Result, Ok, Err}
 use Rattle.std.specs.Option.{option_map}
-use Rattle.std.specs.Borrow.{Bor}
-use Rattle.pst_lex.specs.declared.types.Token.{Token}
 use Rattle.pst_tree.specs.declared.expression.Expression.{Expression}
 use Rattle.pst_tree.specs.declared.statement.Statement.{Statement}
 use Rattle.pst_tree.specs.declared.declaration.Declarations.{Declarations}
@@ -12,45 +10,14 @@ use Rattle.pst_tree.specs.declared.declaration.Tree.{Tree}
 use Rattle.pst_tree.specs.declared.declaration.TypeName.{TypeName}
 use Rattle.pst_tree.specs.Syntax as tree
 use Rattle.pst_tree.specs.View.{expr_of, phrase_of, field_of, local_of, item_of, text_of, type_word_of}
-use Rattle.pst_parse.specs.declared.stop.Stop.{Stop}
-use Rattle.pst_parse.specs.declared.stop.Stop.TheVariants as stop
-use Rattle.pst_parse.specs.declared.lexeme.Sign.{Sign}
-use Rattle.pst_parse.specs.Lexemes.{Lexeme, Name, lexemes}
-use Rattle.pst_parse.specs.Spelling.{language_word}
-use Rattle.pst_tree.specs.Depth.{height}
-use Rattle.pst_parse.specs.Reader.{Read, Got, Bad, Unexpected, TooDeep, is}
-
--- the fault that stopped the code is the reading's, unless memory ran out
-abbrev pub Stops : {A : Type 0} → Stop → Read A → Type 0
-Stops (stop.Unexpected s) read = read ≡ Bad Unexpected (lexemes s.now)
-Stops (stop.TooDeep s) read = read ≡ Bad TooDeep (lexemes s.now)
-Stops stop.Memory read = Unit {0}
-
--- the code's answer, seen as a definition's value, is the reading's, with the tokens after it
-abbrev pub Gives : {X A : Type 0} → (X → A) → Result (X × Bor (List Token)) Stop → Read A → Type 0
-Gives view (Ok x) read = read ≡ Got (view x.0) (lexemes x.1.now)
-Gives view (Err e) read = Stops e read
-
--- the same where only the tokens after it are given
-abbrev pub GivesRest : Result (Bor (List Token)) Stop → Read (Unit {0}) → Type 0
-GivesRest (Ok rest) read = read ≡ Got tt (lexemes rest.now)
-GivesRest (Err e) read = Stops e read
-
--- the same of an expression, with its height
-abbrev pub GivesTree : Result (Expression × ℕ × Bor (List Token)) Stop → Read tree.Expr → Type 0
-GivesTree (Ok x) read = (read ≡ Got (expr_of x.0) (lexemes x.2.now)) × (x.1 ≡ height (expr_of x.0))
-GivesTree (Err e) read = Stops e read
-
-abbrev pub itself : {A : Type 0} → A → A
-itself a = a
+use Rattle.pst_grammar.specs.Lexemes.{Lexeme, Name}
+use Rattle.pst_grammar.specs.Spelling.{language_word}
+use Rattle.pst_grammar.specs.Reader.{Read, Got}
+use Rattle.pst_expressions.specs.declared.stop.Stop.{Stop}
+use Rattle.pst_expressions.specs.View.{Stops}
 
 abbrev pub exprs_of : List Expression → List tree.Expr
 exprs_of es = map expr_of es
-
--- the sign does not stand there
-abbrev pub Lacks : Sign → List Lexeme → Type 0
-Lacks s [] = Unit {0}
-Lacks s (t ∷ ts) = is s t ≡ false
 
 -- whether such a token stands there
 abbrev pub begins : (Lexeme → Bool) → List Lexeme → Bool

@@ -3,16 +3,16 @@
 ghost use Rattle.std.specs.Prelude.{◌≡◌, ◌≤◌, ◌<◌, length, map, IfOk, MatchOption, Option};
 ghost use Rattle.std.specs.Option.{option_map};
 ghost use Rattle.pst_tree.specs.View.{field_of, local_of, item_of, type_word_of};
-ghost use Rattle.pst_parse.specs.Lexemes.{lexemes};
-ghost use Rattle.pst_parse.specs.Reader.{listed, many};
-ghost use Rattle.pst_parse.specs.Declarations as read;
-ghost use Rattle.pst_parse.specs.View.{Gives, GivesRest, GivesDeclarations, GivesAll, BeginsWithWord, BeginsOtherwise, itself, begins, fields_of, locals_of, result_of};
+ghost use Rattle.pst_grammar.specs.Lexemes.{lexemes};
+ghost use Rattle.pst_grammar.specs.Reader.{listed, many};
+ghost use Rattle.pst_grammar.specs.Declarations as read;
+ghost use Rattle.pst_expressions.specs.View.{Gives, GivesRest, itself};
+ghost use Rattle.pst_parse.specs.View.{GivesDeclarations, GivesAll, BeginsWithWord, BeginsOtherwise, begins, fields_of, locals_of, result_of};
 
-use crate::lexeme::{Lead, Lexeme, Sign, peek};
 use crate::statement::block;
-use crate::stop::Stop;
-use crate::token::{after, expect, name, number, type_name};
 use pst_base::Op;
+use pst_expressions::{Lexeme, Stop, after, expect, name, number, peek, type_name};
+use pst_grammar::{Lead, Sign};
 use pst_lex::Token;
 use pst_tree::{Declaration, Declarations, Field, Fields, Local, Locals, Tree, TypeName};
 use std::alloc::Global;

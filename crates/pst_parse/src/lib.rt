@@ -1,7 +1,7 @@
 //! The parser: from the tokens of a program to its tree, or to the exact place of its first fault.
 //!
-//! The model is the grammar as a spelling: each tree of the grammar spells one list of tokens, and tokens have at most one
-//! tree. [`parse`] gives the tree that spells the tokens, where it is within the limits of depth; and else the line of the
+//! The model is the grammar as a spelling, of `pst_grammar`: each tree of the grammar spells one list of tokens, and tokens have
+//! at most one tree. [`parse`] gives the tree that spells the tokens, where it is within the limits of depth; and else the line of the
 //! first token with which no program goes on, or only programs that are too deep.
 //!
 //! ```text
@@ -11,15 +11,7 @@
 #![tactic(auto)]
 
 mod declaration;
-mod expression;
-mod lexeme;
 mod program;
 mod statement;
-mod stop;
-#[cfg(test)]
-mod tests;
-mod token;
-mod uniqueness;
 
 pub use program::{ParseFault, parse};
-pub use uniqueness::tokens_have_one_tree;

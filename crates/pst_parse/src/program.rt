@@ -1,10 +1,11 @@
 //! Parsing a whole program.
 
 ghost use Rattle.std.specs.Prelude.{◌≡◌, ◌≤◌, ◌-◌, length, drop};
-ghost use Rattle.pst_parse.specs.Grammar.{line_at, Found, FindsOnly, FaultsUnexpected, FaultsTooDeep};
+ghost use Rattle.pst_grammar.specs.Grammar.{line_at};
+ghost use Rattle.pst_parse.specs.Answers.{Found, FindsOnly, FaultsUnexpected, FaultsTooDeep};
 
 use crate::declaration::program;
-use crate::stop::Stop;
+use pst_expressions::Stop;
 use pst_lex::Tokens;
 use pst_tree::Tree;
 use std::alloc::Global;

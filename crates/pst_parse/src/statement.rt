@@ -1,18 +1,17 @@
 //! Reading statements and blocks, in a language, 1 or 2.
 
-ghost use Rattle.std.specs.Prelude.{◌≡◌, ◌≤◌, ◌<◌, ◌++◌, [], ◌∷◌, length, IfOk, OnOk, MatchOption, Option, Some, None};
+ghost use Rattle.std.specs.Prelude.{◌≡◌, ◌≤◌, ◌<◌, ◌++◌, [], ◌∷◌, length, IfOk, OnOk, Option, Some, None};
 ghost use Rattle.pst_tree.specs.View.{expr_of, phrase_of, phrases_of};
-ghost use Rattle.pst_parse.specs.Lexemes.{lexemes};
-ghost use Rattle.pst_parse.specs.Reader.{within};
-ghost use Rattle.pst_parse.specs.Reading.{read};
-ghost use Rattle.pst_parse.specs.Statements.{ended as ending, arguments as listing, call as calling, made as making, set as setting, written as writing, assigned as assigning, returned as returning, braced as bracing, led as leading, inner, reading_statement, reading_block, starts_statement as starting, starts};
-ghost use Rattle.pst_parse.specs.View.{Gives, exprs_of, stated_of, begins};
+ghost use Rattle.pst_grammar.specs.Lexemes.{lexemes};
+ghost use Rattle.pst_grammar.specs.Reader.{within};
+ghost use Rattle.pst_grammar.specs.Reading.{read};
+ghost use Rattle.pst_grammar.specs.Statements.{ended as ending, arguments as listing, call as calling, made as making, set as setting, written as writing, assigned as assigning, returned as returning, braced as bracing, led as leading, inner, reading_statement, reading_block, starts_statement as starting, starts};
+ghost use Rattle.pst_expressions.specs.View.{Gives};
+ghost use Rattle.pst_parse.specs.View.{exprs_of, stated_of, begins};
 
-use crate::expression::{more, operand};
-use crate::lexeme::{Label, Lead, Lexeme, Sign, peek};
-use crate::stop::Stop;
-use crate::token::{after, expect, name};
 use pst_base::Text;
+use pst_expressions::{Lexeme, Stop, after, expect, more, name, operand, peek};
+use pst_grammar::{Lead, Sign};
 use pst_lex::Token;
 use pst_tree::{Block, Expression, Expressions, Form, Statement};
 use std::alloc::{AllocError, Global};
@@ -87,7 +86,7 @@ fn made<'a>(tokens: &'a [Token], name: Text) -> Result<(Form, &'a [Token]), Stop
     ensures given { Gives phrase_of result (making name (lexemes tokens.now)) }
     ensures shorter { IfOk result (λ x. length x.1.now < length tokens.now) }
 {
-    let (ty, rest) = crate::token::name(tokens)?;
+    let (ty, rest) = pst_expressions::name(tokens)?;
     let rest = expect(rest, Sign::Semicolon)?;
     let ty = ty.name;
     Ok((Form::New { name, ty }, rest))

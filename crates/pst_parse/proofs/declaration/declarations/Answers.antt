@@ -2,10 +2,10 @@ use Rattle.std.proofs.Common.{arith, ◌∙◌, ap}
 use Rattle.std.specs.Prelude.{map}
 use Rattle.std.proofs.lemmas.Result.{err_from_is_err_and}
 use Rattle.pst_tree.specs.View.{item_of}
-use Rattle.pst_parse.specs.Reader.{Got, and_then}
-use Rattle.pst_parse.specs.Declarations.{item, any}
-use Rattle.pst_parse.proofs.Loops.{loop_more, loop_done, loop_bad, stops_bind}
-use Rattle.pst_parse.proofs.DeclarationLaw.{item_short, no_token}
+use Rattle.pst_grammar.specs.Reader.{Got, and_then}
+use Rattle.pst_grammar.specs.Declarations.{item, any}
+use Rattle.pst_parse.proofs.Loops.{loop_more, loop_done, loop_bad, no_token, stops_bind}
+use Rattle.pst_grammar.proofs.DeclarationLaw.{item_short}
 use Rattle.pst_parse.proofs.declaration.declarations.Goals as goal
 
 pub returns-in_err-declaration : goal.returns-in_err-declaration

@@ -1,9 +1,9 @@
 use Rattle.std.proofs.Common.{◌≡◌, ◌≤◌, length}
 use Rattle.std.specs.Prelude.{map}
 use Rattle.pst_tree.specs.View.{item_of}
-use Rattle.pst_parse.specs.Lexemes.{lexemes}
-use Rattle.pst_parse.specs.Reader.{many}
-use Rattle.pst_parse.specs.Declarations.{item, any}
+use Rattle.pst_grammar.specs.Lexemes.{lexemes}
+use Rattle.pst_grammar.specs.Reader.{many}
+use Rattle.pst_grammar.specs.Declarations.{item, any}
 use Rattle.pst_parse.proofs.Loops.{behind}
 use Rattle.pst_parse.proofs.declaration.declarations.Given as goal
 

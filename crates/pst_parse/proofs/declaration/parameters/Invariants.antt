@@ -1,9 +1,9 @@
 use Rattle.std.proofs.Common.{◌≡◌, ◌<◌, length}
 use Rattle.std.specs.Prelude.{map}
 use Rattle.pst_tree.specs.View.{local_of}
-use Rattle.pst_parse.specs.Lexemes.{lexemes}
-use Rattle.pst_parse.specs.Reader.{listed}
-use Rattle.pst_parse.specs.Declarations.{parameter}
+use Rattle.pst_grammar.specs.Lexemes.{lexemes}
+use Rattle.pst_grammar.specs.Reader.{listed}
+use Rattle.pst_grammar.specs.Declarations.{parameter}
 use Rattle.pst_parse.proofs.Loops.{closing}
 use Rattle.pst_parse.proofs.declaration.parameters.Given as goal
 

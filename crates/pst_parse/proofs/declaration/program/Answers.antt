@@ -1,7 +1,7 @@
 use Rattle.std.proofs.Common.{◌∙◌}
 use Rattle.std.proofs.lemmas.Result.{err_from_is_err_and}
-use Rattle.pst_parse.specs.Lexemes.{lexemes}
-use Rattle.pst_parse.proofs.ProgramLaw.{otherwise}
+use Rattle.pst_grammar.specs.Lexemes.{lexemes}
+use Rattle.pst_parse.proofs.Parsed.{otherwise}
 use Rattle.pst_parse.proofs.declaration.program.Goals as goal
 
 pub returns-in_err-declarations : goal.returns-in_err-declarations

@@ -1,8 +1,8 @@
 use Rattle.std.specs.Prelude.{[]}
 use Rattle.pst_tree.specs.View.{text_of}
-use Rattle.pst_parse.specs.Lexemes.{lexemes}
-use Rattle.pst_parse.specs.Reader.{Unexpected, TooDeep}
-use Rattle.pst_parse.proofs.Faults.{found}
+use Rattle.pst_grammar.specs.Lexemes.{lexemes}
+use Rattle.pst_grammar.specs.Reader.{Unexpected, TooDeep}
+use Rattle.pst_grammar.proofs.Faults.{found}
 use Rattle.pst_parse.proofs.Parsed.{unexpected_on, deep_on, unexpected_short, deep_short, same_program, no_fault}
 use Rattle.pst_parse.proofs.program.parse.Goals as goal
 

@@ -1,11 +1,11 @@
 use Rattle.std.proofs.Common.{arith, ◌∙◌, ap, sym}
 use Rattle.std.proofs.lemmas.Result.{err_from_is_err_and}
-use Rattle.pst_parse.specs.Reader.{Got, and_then}
-use Rattle.pst_parse.specs.Statements.{reading_statement, starts, block_of}
+use Rattle.pst_grammar.specs.Reader.{Got, and_then}
+use Rattle.pst_grammar.specs.Statements.{reading_statement, starts, block_of}
 use Rattle.pst_parse.specs.View.{stated_of}
-use Rattle.pst_parse.specs.Lexemes.{lexemes}
+use Rattle.pst_grammar.specs.Lexemes.{lexemes}
 use Rattle.pst_parse.proofs.Loops.{loop_more, loop_done, loop_bad, stops_bind}
-use Rattle.pst_parse.proofs.StatementAgain.{statement_short}
+use Rattle.pst_grammar.proofs.StatementAgain.{statement_short}
 use Rattle.pst_parse.proofs.StatementEquations.{made_block, statement-other}
 use Rattle.pst_parse.proofs.statement.+statement.Goals as goal
 

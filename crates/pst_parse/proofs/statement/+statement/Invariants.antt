@@ -1,8 +1,8 @@
 use Rattle.std.proofs.Common.{◌≡◌, ◌≤◌, length, ◌+◌, ◌*◌}
 use Rattle.std.specs.Prelude.{map}
-use Rattle.pst_parse.specs.Lexemes.{lexemes}
-use Rattle.pst_parse.specs.Reader.{many}
-use Rattle.pst_parse.specs.Statements.{reading_statement, starts}
+use Rattle.pst_grammar.specs.Lexemes.{lexemes}
+use Rattle.pst_grammar.specs.Reader.{many}
+use Rattle.pst_grammar.specs.Statements.{reading_statement, starts}
 use Rattle.pst_parse.specs.View.{stated_of}
 use Rattle.pst_parse.proofs.Loops.{behind}
 use Rattle.pst_parse.proofs.statement.+statement.Given as goal

@@ -1,9 +1,9 @@
 use Rattle.std.proofs.Common.{◌≡◌, ◌<◌, length}
 use Rattle.std.specs.Prelude.{map}
 use Rattle.pst_tree.specs.View.{expr_of}
-use Rattle.pst_parse.specs.Lexemes.{lexemes}
-use Rattle.pst_parse.specs.Reading.{read}
-use Rattle.pst_parse.specs.Statements.{arguments}
+use Rattle.pst_grammar.specs.Lexemes.{lexemes}
+use Rattle.pst_grammar.specs.Reading.{read}
+use Rattle.pst_grammar.specs.Statements.{arguments}
 use Rattle.pst_parse.proofs.Loops.{closing}
 use Rattle.pst_parse.proofs.statement.arguments.Given as goal
 

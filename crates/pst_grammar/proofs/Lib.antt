@@ -1,0 +1,11 @@
+pub mod ReaderLaws
+pub mod ReadLaw
+pub mod Wider
+pub mod Again
+pub mod Many
+pub mod StatementLaw
+pub mod DeclarationLaw
+pub mod ProgramLaw
+pub mod StatementAgain
+pub mod DeclarationAgain
+pub mod Faults

@@ -1,0 +1,26 @@
+-- Reading answers as the grammar does, within any limits of depth. Each statement is what a function without code ensures.
+use Rattle.std.specs.Prelude.{◌≡◌, ℕ, List, [], ◌++◌}
+use Rattle.pst_tree.specs.Syntax as tree
+use Rattle.pst_grammar.specs.Lexemes.{Lexeme}
+use Rattle.pst_grammar.specs.Forms.{IsShallow}
+use Rattle.pst_grammar.specs.Spelling.{Program, program}
+use Rattle.pst_grammar.specs.Grammar.{Spells, IsUnexpected, IsTooDeep}
+use Rattle.pst_grammar.specs.Reader.{Got, Bad, Unexpected, TooDeep}
+use Rattle.pst_grammar.specs.Declarations.{reading_program}
+
+-- what is read is a program within the limits, up to the end
+abbrev pub ReadsPrograms : Type 0
+ReadsPrograms = (h d : ℕ) (ts rest : List Lexeme) (whole : tree.ProgramText) → reading_program h d ts ≡ Got whole rest
+    → (rest ≡ []) × ((p : Program) × (program p ≡ whole) × IsShallow h d whole × Spells ts p)
+
+-- each program within the limits is read
+abbrev pub ReadsEachProgram : Type 0
+ReadsEachProgram = (h d : ℕ) (ts : List Lexeme) (p : Program) → IsShallow h d (program p) → Spells ts p → reading_program h d ts ≡ Got (program p) []
+
+-- where an unexpected token or end is found, no program goes on so
+abbrev pub FindsUnexpected : Type 0
+FindsUnexpected = (h d : ℕ) (ts rest : List Lexeme) → reading_program h d ts ≡ Bad Unexpected rest → (before : List Lexeme) × (ts ≡ before ++ rest) × IsUnexpected h d before rest
+
+-- where a token is found too deep, only programs beyond the limits go on so
+abbrev pub FindsTooDeep : Type 0
+FindsTooDeep = (h d : ℕ) (ts rest : List Lexeme) → reading_program h d ts ≡ Bad TooDeep rest → (before : List Lexeme) × (ts ≡ before ++ rest) × IsTooDeep h d before rest

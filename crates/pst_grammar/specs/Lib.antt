@@ -1,0 +1,9 @@
+pub mod Lexemes
+pub mod Forms
+pub mod Spelling
+pub mod Grammar
+pub mod Reader
+pub mod Reading
+pub mod Statements
+pub mod Declarations
+pub mod Laws

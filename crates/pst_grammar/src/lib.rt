@@ -1,0 +1,24 @@
+//! The grammar: which tokens are a program, of which tree, and where their first fault stands. The functions have no code.
+//!
+//! Model: the grammar is a spelling. A program has lines for its names and for the words that begin something, and one list of
+//! tokens; the tree that is kept has fewer lines. Which trees are of the grammar, and within limits of depth, is said of each
+//! form (`IsProgram`, `IsShallow`); a fault stands at the first token with which no program begins (`IsUnexpected`), or only
+//! programs beyond the limits (`IsTooDeep`). A text has a tree where its tokens are those of a program with it (`HasTree`).
+//! Beside the grammar stands a reading of tokens from the front by precedence climbing, which a
+//! parser carries out.
+//!
+//! Contract: laws alone. Tokens are those of at most one program, whatever its depth; and reading gives exactly the programs
+//! within the limits, and else the first fault where it stands.
+//!
+//! For example `1 - 2 - 3` is spelled by the difference of `1 - 2` and 3 alone, since an operator's right side binds more
+//! tightly than the operator; and in `print 1 == 2 == 3;` the second `==` is unexpected, since comparisons form no chain.
+//!
+//!     tokens_have_one_tree(&tokens);
+//!     reading_answers_as_the_grammar();
+#![tactic(auto)]
+
+mod laws;
+mod lexeme;
+
+pub use laws::{reading_answers_as_the_grammar, tokens_have_one_tree};
+pub use lexeme::{Label, Lead, Sign};

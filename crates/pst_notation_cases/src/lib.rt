@@ -1,0 +1,5 @@
+//! Canonical texts of trees, also of one that no text gives.
+#![tactic(auto)]
+
+#[cfg(test)]
+mod trees;

@@ -1,0 +1,61 @@
+//! Trees with their canonical texts.
+
+use pst_base::{NoMemory, Text};
+use pst_lex::tokens;
+use pst_notation::{
+    canonical_text_keeps_what_was_read, canonical_text_reads_as_its_tree, print_program,
+};
+use pst_parse::parse;
+use pst_tree::{
+    Block, Declaration, Declarations, Expression, Form, Locals, Statement, Tree, TypeName,
+};
+use std::alloc::Global;
+use std::test::Fail;
+
+#[test]
+fn text_that_was_read_keeps_its_tokens(rt: HostRuntime) -> Result<(), Fail> {
+    let text = b"language # of arrays\n 2";
+    let read = tokens(rt.alloc(), text)?;
+    let tree = parse(rt.alloc(), &read)?;
+    canonical_text_keeps_what_was_read(text, &read, &tree);
+    let canonical = print_program(rt.alloc(), &tree)?;
+    assert_eq!(rt; canonical.as_slice(), b"language 2\n".as_slice());
+    Ok(())
+}
+
+/// A procedure `p` without locals, which gives a number.
+fn procedure_of(alloc: Global, statement: Statement) -> Result<Tree, NoMemory> {
+    let procedure = Declaration::Procedure {
+        line: 1,
+        query: false,
+        name: Text::from_vec(vec![in alloc; b'p']?),
+        parameters: Locals::from_vec(Vec::new(alloc)),
+        result: Some(TypeName::Int),
+        locals: Locals::from_vec(Vec::new(alloc)),
+        body: Block {
+            items: vec![in alloc; statement]?,
+        },
+    };
+    Ok(Tree {
+        language: 1,
+        declarations: Declarations {
+            items: vec![in alloc; procedure]?,
+        },
+    })
+}
+
+#[test]
+fn tree_that_was_not_read_prints_too(rt: HostRuntime) -> Result<(), Fail> {
+    let statement = Statement {
+        line: 0,
+        form: Form::Return(Some(Expression::Number(i64::MIN))),
+    };
+    let tree = procedure_of(rt.alloc(), statement)?;
+    canonical_text_reads_as_its_tree(&tree);
+    let text = print_program(rt.alloc(), &tree)?;
+    assert_eq!(rt;
+        text.as_slice(),
+        b"proc p(): int {\n  return -9223372036854775808;\n}\n".as_slice()
+    );
+    Ok(())
+}
