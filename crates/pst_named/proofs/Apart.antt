@@ -12,7 +12,7 @@ use Rattle.pst_lex.specs.Lexing.{IsName}
 use Rattle.pst_tree.specs.Syntax as tree
 use Rattle.pst_program.specs.declared.program.TypeEntry.{TypeEntry}
 use Rattle.pst_program.specs.Names.{entry_name}
-use Rattle.pst_types.specs.Declarations.{NamedProgram, root_type_name}
+use Rattle.pst_typing.specs.Declarations.{NamedProgram, root_type_name}
 use Rattle.pst_dump.specs.Laws.{DumpsTellHeaps}
 use Rattle.pst_dump.specs.Renaming.{colon, AreNamedApart}
 use Rattle.pst_named.specs.Accepted.{declared_name, record_names, HasDeclaredTypes}

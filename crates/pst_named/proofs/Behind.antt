@@ -1,8 +1,8 @@
 -- What holds of each token of a part of a program and of the tokens behind it, holds of those behind it.
 use Rattle.std.specs.Prelude.{ℤ, List, [], ◌∷◌, Option, Some, None}
 use Rattle.std.specs.List.{AllByRecursion}
-use Rattle.pst_parse.specs.Lexemes.{Lexeme}
-use Rattle.pst_parse.specs.Spelling.{Expr, Number, Null, Name, Parens, Field, Indexed, Negate, Not, Binary, spelled, each, after_comma, listed, Statement, New, Call, Result, Write, Print, If, Either, While, Return, Block, Empty, Then, spelled_statement, spelled_block, TypeText, Int, Named, spelled_type, spelled_count, FieldText, Val, Ptr, spelled_field, Parameter, spelled_parameter, Local, spelled_local, spelled_result, Opening, First, Second, spelled_opening}
+use Rattle.pst_grammar.specs.Lexemes.{Lexeme}
+use Rattle.pst_grammar.specs.Spelling.{Expr, Number, Null, Name, Parens, Field, Indexed, Negate, Not, Binary, spelled, each, after_comma, listed, Statement, New, Call, Result, Write, Print, If, Either, While, Return, Block, Empty, Then, spelled_statement, spelled_block, TypeText, Int, Named, spelled_type, spelled_count, FieldText, Val, Ptr, spelled_field, Parameter, spelled_parameter, Local, spelled_local, spelled_result, Opening, First, Second, spelled_opening}
 
 module _ (P : Lexeme → Type 0) where
   -- it holds of each

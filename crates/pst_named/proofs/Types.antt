@@ -9,11 +9,11 @@ use Rattle.std.proofs.lemmas.Slice.Eq.{bytes_eq-Decides}
 use Rattle.pst_base.specs.declared.shape.TheConstants.{MOST_ROOTS}
 use Rattle.pst_tree.specs.Syntax as tree
 use Rattle.pst_program.specs.declared.program.TypeEntry.{TypeEntry}
-use Rattle.pst_types.specs.declared.fault.TypeFault.{TypeFault}
-use Rattle.pst_types.specs.declared.fault.TypeFault.TheVariants.{Unknown, Duplicate, Limit, TooMany}
-use Rattle.pst_types.specs.Answers.{and_then, check, found, through}
-use Rattle.pst_types.specs.Names.{no_members, with_member, members_from, Scope, RecordType, nothing_declared, named, is_named, is_free, is_known}
-use Rattle.pst_types.specs.Declarations.{noted, limit_of, field, shape_of, names_of, procedure, NamedProgram, declared, root_alone}
+use Rattle.pst_typing.specs.declared.fault.TypeFault.{TypeFault}
+use Rattle.pst_typing.specs.declared.fault.TypeFault.TheVariants.{Unknown, Duplicate, Limit, TooMany}
+use Rattle.pst_typing.specs.Answers.{and_then, check, found, through}
+use Rattle.pst_typing.specs.Names.{no_members, with_member, members_from, Scope, RecordType, nothing_declared, named, is_named, is_free, is_known}
+use Rattle.pst_typing.specs.Declarations.{noted, limit_of, field, shape_of, names_of, procedure, NamedProgram, declared, root_alone}
 use Rattle.pst_named.specs.Accepted.{record_names}
 use Rattle.pst_named.specs.Laws.{TypesAreDeclared}
 

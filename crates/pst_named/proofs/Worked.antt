@@ -12,10 +12,11 @@ use Rattle.pst_lex.specs.declared.words.Mark.TheVariants as mark
 use Rattle.pst_lex.specs.Words.{mark_text}
 use Rattle.pst_lex.specs.Lexing.{IsName, LexedTo, EndsAt, Lexes}
 use Rattle.pst_tree.specs.Syntax as tree
-use Rattle.pst_parse.specs.Forms.{IsShallow}
-use Rattle.pst_parse.specs.Spelling.{First, Second, Record, Ptr}
+use Rattle.pst_grammar.specs.Forms.{IsShallow}
+use Rattle.pst_grammar.specs.Spelling.{First, Second, Record, Ptr}
+use Rattle.pst_grammar.specs.Grammar.{HasTree}
 use Rattle.pst_dump.specs.Renaming.{AreNamedApart}
-use Rattle.pst_named.specs.Accepted.{HasTree, declared_name}
+use Rattle.pst_named.specs.Accepted.{declared_name}
 use Rattle.pst_named.specs.Worked.{called, called_typed, paired, WorkedNames}
 use Rattle.pst_named.proofs.Names.{declared_names}
 

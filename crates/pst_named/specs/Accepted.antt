@@ -1,18 +1,9 @@
 -- Texts of accepted programs, and the names that they declare.
 use Rattle.std.specs.Prelude.{◌≡◌, ◌≢◌, ℕ, List, [], ◌∷◌, length, map, Ok}
 use Rattle.std.specs.List.{AllPairs}
-use Rattle.pst_lex.specs.declared.types.Tokens.{Tokens}
-use Rattle.pst_lex.specs.Lexing.{Lexes}
 use Rattle.pst_tree.specs.Syntax as tree
-use Rattle.pst_parse.specs.Lexemes.{lexemes}
-use Rattle.pst_parse.specs.Forms.{IsShallow}
-use Rattle.pst_parse.specs.Spelling.{Program, program}
-use Rattle.pst_parse.specs.Grammar.{Spells}
-use Rattle.pst_types.specs.Declarations.{NamedProgram, root_type_name, checked}
-
--- the text has tokens, and they are those of a program with this tree, which keeps the limits of depth
-abbrev pub HasTree : List ℕ → tree.ProgramText → Type 0
-HasTree text whole = (tokens : Tokens) × Lexes text tokens.list tokens.end × ((p : Program) × (program p ≡ whole) × IsShallow 63 15 whole × Spells (lexemes tokens.list) p)
+use Rattle.pst_grammar.specs.Grammar.{HasTree}
+use Rattle.pst_typing.specs.Declarations.{NamedProgram, root_type_name, checked}
 
 -- the text has this tree, and typing accepts it as this program
 abbrev pub IsAcceptedAs : List ℕ → tree.ProgramText → NamedProgram → Type 0

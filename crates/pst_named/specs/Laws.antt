@@ -4,10 +4,11 @@ use Rattle.pst_base.specs.declared.names.Name.{Name}
 use Rattle.pst_base.specs.Heap.{Heap}
 use Rattle.pst_lex.specs.Lexing.{IsName}
 use Rattle.pst_tree.specs.Syntax as tree
-use Rattle.pst_types.specs.Declarations.{NamedProgram, checked}
+use Rattle.pst_grammar.specs.Grammar.{HasTree}
+use Rattle.pst_typing.specs.Declarations.{NamedProgram, checked}
 use Rattle.pst_dump.specs.Dump.{IsDump}
 use Rattle.pst_dump.specs.Renaming.{IsRenaming, IsHeapOf, AreNamedApart}
-use Rattle.pst_named.specs.Accepted.{HasTree, IsAcceptedAs, declared_name, HasDeclaredTypes}
+use Rattle.pst_named.specs.Accepted.{IsAcceptedAs, declared_name, HasDeclaredTypes}
 
 -- what a text declares has a name: letters, digits and `_`, and no keyword
 abbrev pub DeclaredAreNames : Type 0

@@ -1,9 +1,10 @@
 -- The names of small programs, by hand.
 use Rattle.std.specs.Prelude.{◌≡◌, ℕ, List, [], ◌∷◌, codes, pos, Some, Ok}
 use Rattle.pst_tree.specs.Syntax as tree
-use Rattle.pst_types.specs.Declarations.{NamedProgram, checked}
+use Rattle.pst_grammar.specs.Grammar.{HasTree}
+use Rattle.pst_typing.specs.Declarations.{NamedProgram, checked}
 use Rattle.pst_dump.specs.Renaming.{AreNamedApart}
-use Rattle.pst_named.specs.Accepted.{HasTree, IsAcceptedAs}
+use Rattle.pst_named.specs.Accepted.{IsAcceptedAs}
 
 -- a record type without fields, in language 1
 abbrev pub called : List ℕ → tree.ProgramText

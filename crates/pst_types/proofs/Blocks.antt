@@ -10,11 +10,11 @@ use Rattle.pst_program.specs.declared.block.TypedBlock as typed
 use Rattle.pst_program.specs.declared.block.TypedStatement.{TypedStatement}
 use Rattle.pst_program.specs.declared.block.TypedForm.{TypedForm}
 use Rattle.std.proofs.Math.Seq.{drop-length}
-use Rattle.pst_types.specs.declared.fault.TypeFault.{TypeFault}
-use Rattle.pst_types.specs.Answers.{and_then}
-use Rattle.pst_types.specs.Names.{Setting}
-use Rattle.pst_types.specs.Statements.{statement, block}
-use Rattle.pst_types.proofs.Through.{at_index}
+use Rattle.pst_typing.specs.declared.fault.TypeFault.{TypeFault}
+use Rattle.pst_typing.specs.Answers.{and_then}
+use Rattle.pst_typing.specs.Names.{Setting}
+use Rattle.pst_typing.specs.Statements.{statement, block}
+use Rattle.pst_typing.proofs.Through.{at_index}
 
 -- ---- arguments
 

@@ -1,15 +1,6 @@
-pub mod Lookups
-pub mod Fields
-pub mod Through
-pub mod Targets
+pub mod Held
+pub mod Parts
 pub mod Blocks
 pub mod Few
 pub mod Noted
-pub mod Laid
-pub mod Sorts
-pub mod Acts
-pub mod Deep
-pub mod Locals
-pub mod Whole
 pub mod Accepted
-pub mod Plain

@@ -1,21 +1,11 @@
 -- Declarations that are noted.
-use Rattle.std.proofs.Common.{◌≡◌, ℕ, ◌+◌, ◌<◌, Bool, true, false, not, ◌&&◌, List, [], ◌∷◌, ◌++◌, length, nat_lt, ℤ, Result, Ok, refl, sym, ap, ◌∙◌}
+use Rattle.std.proofs.Common.{◌≡◌, ℕ, ◌+◌, ◌<◌, Bool, true, List, [], ◌∷◌, ◌++◌, length, nat_lt, ℤ, Result, Ok, sym, ap, ◌∙◌}
 use Rattle.std.proofs.lemmas.Bool.{lt-ltb}
 use Rattle.pst_tree.specs.Syntax as tree
-use Rattle.pst_types.specs.declared.fault.TypeFault.{TypeFault}
-use Rattle.pst_types.specs.Answers.{check}
-use Rattle.pst_types.specs.Names.{Scope, RecordType, Signature, no_members, members_from, is_free, is_named}
-use Rattle.pst_types.specs.Declarations.{noted}
-
-both_not : (a b c : Bool) → (not a && (not b && not c)) ≡ true → (a ≡ false) × (b ≡ false) × (c ≡ false)
-both_not false false false e = (refl, refl, refl)
-both_not false false true e = cc
-both_not false true c e = cc
-both_not true b c e = cc
-
--- a free name is no type's and no procedure's
-pub free_parts : (scope : Scope) (x : List ℕ) → is_free scope x ≡ true → (is_named x scope.types ≡ false) × (is_named x scope.roots.list ≡ false) × (is_named x scope.procedures ≡ false)
-free_parts scope x free = both_not _ _ _ free
+use Rattle.pst_typing.specs.declared.fault.TypeFault.{TypeFault}
+use Rattle.pst_typing.specs.Answers.{check}
+use Rattle.pst_typing.specs.Names.{Scope, RecordType, Signature, no_members, members_from, is_free}
+use Rattle.pst_typing.specs.Declarations.{noted}
 
 pass_two : {A : Type 0} (a b : Bool) (f g : TypeFault) (next : Result A TypeFault) → a ≡ true → b ≡ true → check a f (check b g next) ≡ next
 pass_two a b f g next p q = ap (λ c. check c f (check b g next)) p ∙ ap (λ c. check c g next) q

@@ -1,11 +1,2 @@
-pub mod Answers
-pub mod Names
-pub mod Expressions
-pub mod Statements
-pub mod Declarations
 pub mod View
-pub mod ExpressionView
-pub mod ProcedureView
-pub mod Laws
-pub mod Plain
-pub mod Worked
+pub mod Parts

@@ -1,66 +1,23 @@
--- What the checker's own types stand for in the definitions, and when an answer is right.
-use Rattle.std.specs.Prelude.{◌≡◌, ℕ, ◌⊎◌, List, map, Result, Ok, Err}
+-- What a procedure's text in the checker stands for in the definitions, and what a program in the making.
+use Rattle.std.specs.Prelude.{map}
 use Rattle.std.specs.Option.{option_map}
-use Rattle.std.specs.Borrow.{Bor}
 use Rattle.pst_tree.specs.Syntax as tree
 use Rattle.pst_tree.specs.View as tree_view
-use Rattle.pst_types.specs.declared.fault.TypeFault.{TypeFault}
-use Rattle.pst_types.specs.declared.fault.TypeFault.TheVariants.{Memory}
-use Rattle.pst_types.specs.Names as names
-use Rattle.pst_types.specs.declared.names.Word.{Word}
-use Rattle.pst_types.specs.declared.names.Word.TheVariants as word
-use Rattle.pst_types.specs.declared.names.Member.{Member}
-use Rattle.pst_types.specs.declared.names.Members.{Members}
-use Rattle.pst_types.specs.declared.names.Slot.{Slot}
-use Rattle.pst_types.specs.declared.names.RecordType.{RecordType}
-use Rattle.pst_types.specs.declared.names.Signature.{Signature}
-use Rattle.pst_types.specs.declared.names.Scope.{Scope}
-use Rattle.pst_types.specs.declared.names.Variable.{Variable}
-use Rattle.pst_types.specs.declared.names.Setting.{Setting}
-use Rattle.pst_types.specs.declared.names.Target.{Target}
-use Rattle.pst_types.specs.declared.names.Target.TheVariants as target
+use Rattle.pst_program.specs.View as typed_view
+use Rattle.pst_typing.specs.Declarations.{NamedProgram}
+use Rattle.pst_types.specs.declared.procedure.ProcedureText.{ProcedureText}
+use Rattle.pst_types.specs.declared.walks.Draft.{Draft}
 
--- a fault is the answer's; want of memory is free
-abbrev pub Fails : {A : Type 0} → TypeFault → Result A TypeFault → Type 0
-Fails fault answer = (fault ≡ Memory) ⊎ (answer ≡ Err fault)
+abbrev pub procedure_text_of : ProcedureText → tree.ProcedureText
+procedure_text_of p = record {
+  line = p.line;
+  query = p.query;
+  name = p.name.now;
+  parameters = map tree_view.local_of p.parameters.now;
+  result = option_map tree_view.type_word_of p.result.now;
+  locals = map tree_view.local_of p.locals.now;
+  body = tree_view.phrases_of p.body.now;
+}
 
--- a result is the answer, seen by its view; want of memory is free
-abbrev pub Answers : {T A : Type 0} → (T → A) → Result T TypeFault → Result A TypeFault → Type 0
-Answers view (Ok t) answer = answer ≡ Ok (view t)
-Answers view (Err fault) answer = Fails fault answer
-
-abbrev pub kind_word : Word → tree.TypeWord
-kind_word word.Int = tree.Int
-kind_word (word.Named t) = tree.Named t.now
-
-abbrev pub member_of : Member → names.Member
-member_of m = record { rank = m.rank; kind = kind_word m.kind; elements = m.elements }
-
--- the entries of a map from names
-abbrev pub entries_of : {V A : Type 0} → (V → A) → List (Bor (List ℕ) × V) → List (List ℕ × A)
-entries_of view es = map (λ e. (e.0.now, view e.1)) es
-
-abbrev pub members_of : Members → names.Members
-members_of m = record { values = m.values; pointers = m.pointers; list = entries_of member_of m.list.entries }
-
-abbrev pub slot_seen : Slot → names.Slot
-slot_seen s = record { slot = s.slot.0; kind = kind_word s.kind; elements = s.elements }
-
-abbrev pub record_type_of : RecordType → names.RecordType
-record_type_of r = record { number = r.number; members = members_of r.members }
-
-abbrev pub signature_of : Signature → names.Signature
-signature_of s = record { number = s.number; query = s.query; parameters = map tree_view.local_of s.parameters.now; result = option_map kind_word s.result }
-
-abbrev pub scope_of : Scope → names.Scope
-scope_of s = record { types = entries_of record_type_of s.types.entries; roots = members_of s.roots; procedures = entries_of signature_of s.procedures.entries }
-
-abbrev pub local_of : Variable → names.Local
-local_of v = record { number = v.number; kind = kind_word v.kind }
-
-abbrev pub setting_of : Setting → names.Setting
-setting_of p = record { scope = scope_of p.scope.now; query = p.query; result = option_map kind_word p.result; locals = entries_of local_of p.locals.entries }
-
-abbrev pub variable_of : Target → names.Variable
-variable_of (target.Local v) = names.IsLocal (local_of v)
-variable_of (target.Root s) = names.IsRoot (slot_seen s)
+abbrev pub draft_of : Draft → NamedProgram
+draft_of p = record { shape = p.shape.items; names = p.names.items; procedures = map typed_view.procedure_of p.procedures.items }

@@ -4,19 +4,21 @@ ghost use Rattle.std.specs.Prelude.{◌≡◌, ◌≤◌, Ok, Bool, OnOk, [], �
 ghost use Rattle.std.specs.Option.{option_map};
 ghost use Rattle.pst_tree.specs.View as tree_view;
 ghost use Rattle.pst_program.specs.View as typed_view;
-ghost use Rattle.pst_types.specs.Answers.{through};
-ghost use Rattle.pst_types.specs.Declarations.{variable, is_new, is_result_known, procedure};
-ghost use Rattle.pst_types.specs.Names.{kind_of, is_named};
-ghost use Rattle.pst_types.specs.View.{Answers, kind_word, entries_of, local_of, scope_of};
-ghost use Rattle.pst_types.specs.ProcedureView.{procedure_text_of};
+ghost use Rattle.pst_typing.specs.Answers.{through};
+ghost use Rattle.pst_typing.specs.Declarations.{variable, is_new, is_result_known, procedure};
+ghost use Rattle.pst_typing.specs.Names.{kind_of, is_named};
+ghost use Rattle.pst_typing.specs.View.{Answers};
+ghost use Rattle.pst_scope.specs.View.{kind_word, entries_of, local_of, scope_of, setting_of};
+ghost use Rattle.pst_types.specs.View.{procedure_text_of};
+ghost use Rattle.pst_types.specs.Parts.{counted, variables_in, procedure_in, by_parts};
 
-use crate::fault::TypeFault;
-use crate::names::{Scope, Setting, Variable, Word};
 use crate::statement::judge_block;
 use indexmap::IndexMap;
 use pst_base::{Kind, Kinds, Text};
 use pst_program::TypedProc;
+use pst_scope::{Scope, Setting, Variable, Word};
 use pst_tree::{Block, Local, TypeName};
+use pst_typing::TypeFault;
 use std::alloc::{AllocError, Global};
 
 /// A procedure as it was written.
@@ -32,7 +34,7 @@ pub(crate) struct ProcedureText<'t> {
 }
 
 /// Whether neither a parameter or local before nor a root has the name.
-#[tactic(auto, using(crate::proofs::Lookups::look_ups))]
+#[tactic(auto, using(pst_scope::proofs::Lookups::look_ups))]
 fn is_new<'t>(scope: &Scope<'t>, variables: &IndexMap<&'t [u8], Variable<'t>>, name: &[u8]) -> bool
     ensures { result ≡ is_new (scope_of scope.now) (entries_of local_of variables.now.entries) name.now }
 {
@@ -40,7 +42,7 @@ fn is_new<'t>(scope: &Scope<'t>, variables: &IndexMap<&'t [u8], Variable<'t>>, n
 }
 
 /// Adds a parameter or a local whose name is new.
-#[tactic(auto, using(crate::proofs::Lookups::look_ups))]
+#[tactic(auto, using(pst_scope::proofs::Lookups::look_ups))]
 fn insert<'t>(
     variables: &mut IndexMap<&'t [u8], Variable<'t>>,
     name: &'t [u8],
@@ -54,7 +56,7 @@ fn insert<'t>(
 }
 
 /// Judges a parameter or a local after those before it, of which there may be so many, and adds it.
-#[tactic(auto, using(crate::proofs::Lookups::look_ups))]
+#[tactic(auto, using(pst_scope::proofs::Lookups::look_ups))]
 fn add_variable<'t>(
     scope: &Scope<'t>,
     most: usize,
@@ -133,6 +135,63 @@ fn is_result_known(scope: &Scope, kind: Option<Word>) -> bool
     }
 }
 
+/// Judges the parameters of a procedure, what it gives, and its locals; gives how many are parameters.
+fn declare<'t>(
+    scope: &Scope<'t>,
+    variables: &mut IndexMap<&'t [u8], Variable<'t>>,
+    text: &ProcedureText<'t>,
+) -> Result<u8, TypeFault>
+    requires { variables.old.entries ≡ [] }
+    ensures { Answers (counted (entries_of local_of variables.new.entries)) result (variables_in (scope_of scope.now) (procedure_text_of text.now)) }
+{
+    add_variables(scope, 8, variables, text.parameters)?;
+    let parameters = variables.len();
+    if !is_result_known(scope, Word::of_result(text.result)) {
+        return Err(TypeFault::Unknown { line: text.line });
+    }
+    add_variables(scope, parameters + 64, variables, text.locals)?;
+    Ok(parameters as u8)
+}
+
+/// Judges the statements of a procedure with so many parameters, in the setting of its names.
+fn judge_in(
+    alloc: Global,
+    setting: &Setting,
+    arguments: u8,
+    text: &ProcedureText,
+) -> Result<TypedProc, TypeFault>
+    ensures { Answers typed_view.procedure_of result (procedure_in (setting_of setting.now) arguments (procedure_text_of text.now)) }
+{
+    let body = judge_block(alloc, setting, text.body)?;
+    Ok(TypedProc {
+        name: text.name.copy()?,
+        query: text.query,
+        arguments,
+        result: result_kind(setting.scope, setting.result),
+        kinds: kinds_of(alloc, setting.scope, &setting.locals)?,
+        body,
+    })
+}
+
+/// Judges a procedure by its parts: its names, and then its statements.
+fn judge_parts<'t>(
+    alloc: Global,
+    scope: &Scope<'t>,
+    text: &ProcedureText<'t>,
+) -> Result<TypedProc, TypeFault>
+    ensures { Answers typed_view.procedure_of result (by_parts (scope_of scope.now) (procedure_text_of text.now)) }
+{
+    let mut locals = IndexMap::new(alloc);
+    let arguments = declare(scope, &mut locals, text)?;
+    let setting = Setting {
+        scope,
+        query: text.query,
+        result: Word::of_result(text.result),
+        locals,
+    };
+    judge_in(alloc, &setting, arguments, text)
+}
+
 /// Judges a procedure.
 pub(crate) fn judge_procedure<'t>(
     alloc: Global,
@@ -141,28 +200,5 @@ pub(crate) fn judge_procedure<'t>(
 ) -> Result<TypedProc, TypeFault>
     ensures { Answers typed_view.procedure_of result (procedure (scope_of scope.now) (procedure_text_of text.now)) }
 {
-    let mut variables = IndexMap::new(alloc);
-    add_variables(scope, 8, &mut variables, text.parameters)?;
-    let arguments = variables.len();
-    let gives = Word::of_result(text.result);
-    if !is_result_known(scope, gives) {
-        return Err(TypeFault::Unknown { line: text.line });
-    }
-    add_variables(scope, arguments + 64, &mut variables, text.locals)?;
-    let kinds = kinds_of(alloc, scope, &variables)?;
-    let setting = Setting {
-        scope,
-        query: text.query,
-        result: gives,
-        locals: variables,
-    };
-    let body = judge_block(alloc, &setting, text.body)?;
-    Ok(TypedProc {
-        name: text.name.copy()?,
-        query: text.query,
-        arguments: arguments as u8,
-        result: result_kind(scope, gives),
-        kinds,
-        body,
-    })
+    judge_parts(alloc, scope, text)
 }

@@ -2,20 +2,22 @@
 
 ghost use Rattle.std.specs.Prelude.{◌≡◌, length, map};
 ghost use Rattle.std.specs.Option.{option_map};
+ghost use Rattle.pst_tree.specs.Syntax as tree;
 ghost use Rattle.pst_tree.specs.View as tree_view;
 ghost use Rattle.pst_program.specs.View as typed_view;
-ghost use Rattle.pst_types.specs.Answers.{found};
-ghost use Rattle.pst_types.specs.declared.fault.TypeFault.TheVariants as fault;
-ghost use Rattle.pst_types.specs.Names.{named};
-ghost use Rattle.pst_types.specs.Statements.{assigned, stored, element_stored, written, made, arguments, received, called, returned, statement, block};
-ghost use Rattle.pst_types.specs.View.{Answers, kind_word, setting_of, variable_of, signature_of};
+ghost use Rattle.pst_typing.specs.Answers.{found};
+ghost use Rattle.pst_typing.specs.declared.fault.TypeFault.TheVariants as fault;
+ghost use Rattle.pst_typing.specs.Names.{named};
+ghost use Rattle.pst_typing.specs.Statements.{assigned, stored, element_stored, written, made, arguments, received, called, returned, statement, block};
+ghost use Rattle.pst_typing.specs.View.{Answers};
+ghost use Rattle.pst_scope.specs.View.{kind_word, setting_of, variable_of, signature_of};
 
-use crate::expression::{Sort, array_field, as_object, fit, judge, of_sort, plain_field};
-use crate::fault::TypeFault;
-use crate::names::{Setting, Signature, Target, Word};
 use pst_base::Text;
 use pst_program::{TypedBlock, TypedForm, TypedList, TypedStatement};
+use pst_scope::{Setting, Signature, Target, Word};
+use pst_sorts::{Sort, array_field, as_object, fit, judge, of_sort, plain_field};
 use pst_tree::{Block, Expression, Expressions, Form, Local};
+use pst_typing::TypeFault;
 use std::alloc::Global;
 
 /// An assignment to a variable.
@@ -162,7 +164,7 @@ fn pass(
     requires { length values.now ≡ length parameters.now }
     ensures { Answers (map typed_view.expr_of) result (arguments (setting_of setting.now) line (map tree_view.local_of parameters.now) (map tree_view.expr_of values.now)) }
 {
-    let mut items = Vec::new(alloc);
+    let mut items = Vec::with_capacity(alloc, values.len())?;
     for (index, value) in values.iter().enumerate() {
         let kind = Word::of_type(&parameters[index].kind);
         items.push(fit(alloc, setting, line, kind, value)?)?;
@@ -239,6 +241,19 @@ fn give_back(
     }
 }
 
+/// A number that is printed.
+fn print(
+    alloc: Global,
+    setting: &Setting,
+    line: u32,
+    value: &Expression,
+) -> Result<TypedForm, TypeFault>
+    ensures { Answers typed_view.action_of result (statement (setting_of setting.now) line (tree.Print (tree_view.expr_of value.now))) }
+{
+    let value = of_sort(alloc, setting, line, Sort::Int, value)?;
+    Ok(TypedForm::Print(value))
+}
+
 /// A statement that begins on the line.
 #[cycle(block)]
 fn judge_form(
@@ -260,13 +275,7 @@ fn judge_form(
             Some(signature) => call(alloc, setting, line, signature, name, arguments.as_slice()),
         },
         Form::Write { place: to, value } => write(alloc, setting, line, to, value),
-        Form::Print(value) => Ok(TypedForm::Print(of_sort(
-            alloc,
-            setting,
-            line,
-            Sort::Int,
-            value,
-        )?)),
+        Form::Print(value) => print(alloc, setting, line, value),
         Form::If { condition, yes, no } => {
             let condition = of_sort(alloc, setting, line, Sort::Truth, condition)?;
             let yes = judge_block(alloc, setting, yes)?;
@@ -294,7 +303,7 @@ pub(crate) fn judge_block(
 ) -> Result<TypedBlock, TypeFault>
     ensures { Answers typed_view.actions_of result (block (setting_of setting.now) (tree_view.phrases_of statements.now)) }
 {
-    let mut items = Vec::new(alloc);
+    let mut items = Vec::with_capacity(alloc, statements.items.len())?;
     for statement in &statements.items {
         let form = judge_form(alloc, setting, statement.line, &statement.form)?;
         items.push(TypedStatement {

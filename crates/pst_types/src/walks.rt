@@ -6,19 +6,23 @@ ghost use Rattle.pst_tree.specs.View as tree_view;
 ghost use Rattle.pst_tree.specs.Depth.{IsShallow};
 ghost use Rattle.pst_program.specs.View.{routines_of};
 ghost use Rattle.pst_program.specs.Typed.{IsTyped};
-ghost use Rattle.pst_types.specs.Answers.{through};
-ghost use Rattle.pst_types.specs.Declarations.{noted, declared, root_alone, checked};
-ghost use Rattle.pst_types.specs.Names.{nothing_declared};
-ghost use Rattle.pst_types.specs.View.{Answers, scope_of};
-ghost use Rattle.pst_types.specs.ProcedureView.{procedure_text_of, draft_of, program_of};
+ghost use Rattle.pst_typing.specs.Answers.{through};
+ghost use Rattle.pst_typing.specs.Declarations.{noted, limit_of, declared, root_alone, checked};
+ghost use Rattle.pst_typing.specs.Names.{nothing_declared};
+ghost use Rattle.pst_typing.specs.View.{Answers};
+ghost use Rattle.pst_scope.specs.View.{members_of, scope_of};
+ghost use Rattle.pst_typing.specs.View.{program_of};
+ghost use Rattle.pst_types.specs.View.{procedure_text_of, draft_of};
+ghost use Rattle.pst_types.specs.Parts.{with_type};
 
-use crate::declaration::{judge_fields, lay_out, limit_of, names_of, shape_of};
-use crate::fault::TypeFault;
-use crate::names::{RecordType, Scope, Signature, Word};
 use crate::procedure::{ProcedureText, judge_procedure};
-use pst_base::{MOST_ROOTS, ProcNo, Shape, Text, TypeNo, TypeShape};
+use pst_base::{MOST_LIMIT, MOST_ROOTS, ProcNo, Shape, Text, TypeNo, TypeShape};
 use pst_program::{Program, TypeEntry, TypeNames, TypedProc, TypedProcs};
+use pst_scope::{
+    Members, RecordType, Scope, Signature, Word, judge_fields, lay_out, names_of, shape_of,
+};
 use pst_tree::{Declaration, Fields, Tree, TypeName};
+use pst_typing::{TypeFault, accepted_programs_are_typed};
 use std::alloc::Global;
 
 /// A typed program as far as it is made.
@@ -145,19 +149,44 @@ fn gather<'t>(alloc: Global, declarations: &'t [Declaration]) -> Result<Scope<'t
     Ok(scope)
 }
 
+/// Adds a record type and its names.
+fn add_type(
+    alloc: Global,
+    scope: &Scope,
+    draft: &mut Draft,
+    limit: u8,
+    name: &[u8],
+    members: &Members,
+) -> Result<(), TypeFault>
+    ensures { Answers (λ _. draft_of draft.new) result (Ok (with_type (scope_of scope.now) (draft_of draft.old) limit name.now (members_of members.now))) }
+{
+    draft.shape.push(shape_of(alloc, scope, limit, members)?)?;
+    draft.names.push(names_of(alloc, name, members)?)?;
+    Ok(())
+}
+
 /// What is there before the second walk: the root record.
 fn root_alone(alloc: Global, scope: &Scope) -> Result<Draft, TypeFault>
     ensures { Answers draft_of result (Ok (root_alone (scope_of scope.now))) }
 {
-    let mut shape = Vec::new(alloc);
-    shape.push(shape_of(alloc, scope, 1, &scope.roots)?)?;
-    let mut names = Vec::new(alloc);
-    names.push(names_of(alloc, b"root", &scope.roots)?)?;
-    Ok(Draft {
-        shape,
-        names,
+    let mut draft = Draft {
+        shape: Vec::new(alloc),
+        names: Vec::new(alloc),
         procedures: Vec::new(alloc),
-    })
+    };
+    add_type(alloc, scope, &mut draft, 1, b"root", &scope.roots)?;
+    Ok(draft)
+}
+
+/// The in-degree limit, if it is from 1 to 16.
+fn limit_of(limit: i64) -> Option<u8>
+    ensures { result ≡ limit_of limit }
+{
+    if (1..=i64::from(MOST_LIMIT)).contains(&limit) {
+        Some(limit as u8)
+    } else {
+        None
+    }
 }
 
 /// Judges a record type: its in-degree limit, then its fields from the first to the last, and adds it.
@@ -177,11 +206,7 @@ fn judge_record(
         Some(limit) => limit,
     };
     let members = judge_fields(alloc, scope, fields.as_slice())?;
-    draft.shape.push(shape_of(alloc, scope, limit, &members)?)?;
-    draft
-        .names
-        .push(names_of(alloc, name.as_slice(), &members)?)?;
-    Ok(())
+    add_type(alloc, scope, draft, limit, name.as_slice(), &members)
 }
 
 /// Judges a declaration after those before it, and adds what it says.
@@ -280,5 +305,6 @@ pub fn check(alloc: Global, tree: &Tree) -> Result<Program, TypeFault>
     ensures typed { IfOk result (λ p. IsTyped (routines_of p)) }
     ensures language { IfOk result (λ p. p.language ≡ tree.now.language) }
 {
+    accepted_programs_are_typed();
     walk(alloc, tree.language, tree.declarations.items.as_slice())
 }

@@ -1,9 +1,9 @@
 use Rattle.std.proofs.Common.{map}
 use Rattle.pst_tree.specs.View as tree_view
-use Rattle.pst_types.specs.Answers.{through}
-use Rattle.pst_types.specs.Declarations.{variable}
-use Rattle.pst_types.specs.View.{entries_of, local_of, scope_of}
-use Rattle.pst_types.proofs.Through.{Left}
+use Rattle.pst_typing.specs.Answers.{through}
+use Rattle.pst_typing.specs.Declarations.{variable}
+use Rattle.pst_scope.specs.View.{entries_of, local_of, scope_of}
+use Rattle.pst_typing.proofs.Through.{Left}
 use Rattle.pst_types.proofs.procedure.add_variables.Given as goal
 
 abbrev pub invariant-loop-local : goal.invariant-loop-local

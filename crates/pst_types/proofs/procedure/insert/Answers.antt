@@ -1,6 +1,6 @@
 use Rattle.std.proofs.Common.{ap, ◌∙◌}
-use Rattle.pst_types.specs.View.{entries_of, local_of}
-use Rattle.pst_types.proofs.Lookups.{inserted}
+use Rattle.pst_scope.specs.View.{entries_of, local_of}
+use Rattle.pst_scope.proofs.Lookups.{inserted}
 use Rattle.pst_types.proofs.procedure.insert.Goals as goal
 
 pub returns : goal.returns

@@ -1,10 +1,10 @@
-use Rattle.std.proofs.Common.{arith}
-use Rattle.pst_types.specs.View.{scope_of}
-use Rattle.pst_types.proofs.Few.{few_parameters}
+use Rattle.std.proofs.Common.{sym, subst}
+use Rattle.pst_program.specs.View as typed_view
+use Rattle.pst_typing.specs.View.{Answers}
+use Rattle.pst_scope.specs.View.{scope_of}
+use Rattle.pst_types.specs.View.{procedure_text_of}
+use Rattle.pst_types.proofs.Parts.{parts}
 use Rattle.pst_types.proofs.procedure.judge_procedure.Goals as goal
 
-pub add_variables-requires-2 : goal.add_variables-requires-2
-add_variables-requires-2 c = let few = few_parameters (scope_of c.args.scope.now) _ c.new-variables.result.entries c.add_variables.new.variables.entries c.len-arguments.result c.new-variables.ensures.empty c.in_ok-add_variables.ensures c.len-arguments.ensures.len in omega (arith, few)
-
-pub overflow_cast-result : goal.overflow_cast-result
-overflow_cast-result c = let few = few_parameters (scope_of c.args.scope.now) _ c.new-variables.result.entries c.add_variables.new.variables.entries c.len-arguments.result c.new-variables.ensures.empty c.in_ok-add_variables.ensures c.len-arguments.ensures.len in omega (arith, few)
+pub returns : goal.returns
+returns c = subst (λ answer. Answers typed_view.procedure_of c.judge_parts.result answer) (sym (parts (scope_of c.args.scope.now) (procedure_text_of c.args.text.now))) c.judge_parts.ensures

@@ -1,6 +1,6 @@
 use Rattle.std.proofs.Common.{◌≡◌, ◌∙◌, length, ap, arith, Ok}
-use Rattle.pst_types.specs.View.{scope_of}
-use Rattle.pst_types.proofs.Targets.{kinds_done}
+use Rattle.pst_scope.specs.View.{scope_of}
+use Rattle.pst_types.proofs.Held.{kinds_done}
 use Rattle.pst_types.proofs.procedure.kinds_of.Goals as goal
 
 pub returns : goal.returns

@@ -1,6 +1,6 @@
 use Rattle.std.proofs.Common.{◌≡◌, map, take}
-use Rattle.pst_types.specs.Names.{kind_of}
-use Rattle.pst_types.specs.View.{kind_word, scope_of}
+use Rattle.pst_typing.specs.Names.{kind_of}
+use Rattle.pst_scope.specs.View.{kind_word, scope_of}
 use Rattle.pst_types.proofs.procedure.kinds_of.Given as goal
 
 abbrev pub invariant-loop-variable : goal.invariant-loop-variable

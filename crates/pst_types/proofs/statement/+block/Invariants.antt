@@ -1,8 +1,8 @@
 use Rattle.std.proofs.Common.{◌≡◌, drop}
 use Rattle.pst_tree.specs.View as tree_view
 use Rattle.pst_program.specs.View as typed_view
-use Rattle.pst_types.specs.Statements.{block}
-use Rattle.pst_types.specs.View.{setting_of}
+use Rattle.pst_typing.specs.Statements.{block}
+use Rattle.pst_scope.specs.View.{setting_of}
 use Rattle.pst_types.proofs.Blocks.{behind}
 use Rattle.pst_types.proofs.statement.+block.Given as goal
 

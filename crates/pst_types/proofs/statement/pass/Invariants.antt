@@ -1,8 +1,8 @@
 use Rattle.std.proofs.Common.{◌≡◌, map, drop}
 use Rattle.pst_tree.specs.View as tree_view
 use Rattle.pst_program.specs.View as typed_view
-use Rattle.pst_types.specs.Statements.{arguments}
-use Rattle.pst_types.specs.View.{setting_of}
+use Rattle.pst_typing.specs.Statements.{arguments}
+use Rattle.pst_scope.specs.View.{setting_of}
 use Rattle.pst_types.proofs.Blocks.{ahead}
 use Rattle.pst_types.proofs.statement.pass.Given as goal
 

@@ -1,10 +1,10 @@
 use Rattle.std.proofs.Common.{map}
 use Rattle.pst_tree.specs.View as tree_view
-use Rattle.pst_types.specs.Answers.{through}
-use Rattle.pst_types.specs.Declarations.{declared, root_alone}
-use Rattle.pst_types.specs.View.{scope_of}
-use Rattle.pst_types.specs.ProcedureView.{draft_of}
-use Rattle.pst_types.proofs.Through.{Left}
+use Rattle.pst_typing.specs.Answers.{through}
+use Rattle.pst_typing.specs.Declarations.{declared, root_alone}
+use Rattle.pst_scope.specs.View.{scope_of}
+use Rattle.pst_types.specs.View.{draft_of}
+use Rattle.pst_typing.proofs.Through.{Left}
 use Rattle.pst_types.proofs.walks.judge_all.Given as goal
 
 abbrev pub invariant-loop-declaration : goal.invariant-loop-declaration

@@ -1,11 +1,11 @@
 use Rattle.std.proofs.Common.{◌≡◌, ◌+◌, ◌++◌, ◌∷◌, [], true, map, refl, ap, ◌∙◌, sym, subst}
 use Rattle.pst_tree.specs.View as tree_view
-use Rattle.pst_types.specs.declared.names.RecordType.{RecordType}
-use Rattle.pst_types.specs.Names.{is_free, no_members, members_from}
-use Rattle.pst_types.specs.View.{scope_of, entries_of, members_of, record_type_of}
-use Rattle.pst_types.proofs.Lookups.{inserted, length_entries}
-use Rattle.pst_types.proofs.Few.{same_ok}
-use Rattle.pst_types.proofs.Noted.{free_parts, noted_record}
+use Rattle.pst_scope.specs.declared.names.RecordType.{RecordType}
+use Rattle.pst_typing.specs.Names.{is_free, no_members, members_from}
+use Rattle.pst_scope.specs.View.{scope_of, entries_of, members_of, record_type_of}
+use Rattle.pst_scope.proofs.Lookups.{inserted, length_entries}
+use Rattle.pst_typing.proofs.Passed.{same_ok, free_parts}
+use Rattle.pst_types.proofs.Noted.{noted_record}
 use Rattle.pst_types.proofs.walks.note_record.Goals as goal
 
 pub returns : goal.returns

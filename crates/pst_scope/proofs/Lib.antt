@@ -1,0 +1,3 @@
+pub mod Lookups
+pub mod Added
+pub mod Targets

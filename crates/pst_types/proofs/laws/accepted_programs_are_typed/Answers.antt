@@ -1,5 +1,0 @@
-use Rattle.pst_types.proofs.Accepted.{accepted}
-use Rattle.pst_types.proofs.laws.accepted_programs_are_typed.Goals as goal
-
-pub returns : goal.returns
-returns c = accepted

@@ -1,5 +1,0 @@
-use Rattle.pst_types.proofs.Plain.{plain_stays}
-use Rattle.pst_types.proofs.laws.texts_without_arrays_stay_so.Goals as goal
-
-pub returns : goal.returns
-returns c = plain_stays

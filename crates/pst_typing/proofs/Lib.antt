@@ -1,0 +1,11 @@
+pub mod Passed
+pub mod Through
+pub mod Few
+pub mod Laid
+pub mod Sorts
+pub mod Acts
+pub mod Deep
+pub mod Locals
+pub mod Whole
+pub mod Accepted
+pub mod Plain

@@ -1,0 +1,9 @@
+pub mod Answers
+pub mod Names
+pub mod Expressions
+pub mod Statements
+pub mod Declarations
+pub mod View
+pub mod Laws
+pub mod Plain
+pub mod Worked
