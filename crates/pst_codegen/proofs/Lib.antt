@@ -1,7 +1,3 @@
-pub mod Bridge
 pub mod Lengths
-pub mod Noting
-pub mod Rows
-pub mod Turns
 pub mod Typed
 pub mod Whole

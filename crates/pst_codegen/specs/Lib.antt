@@ -1,5 +1,2 @@
-pub mod Rows
-pub mod Ready
 pub mod Sizes
-pub mod Counting
 pub mod Made

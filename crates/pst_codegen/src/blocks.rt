@@ -6,7 +6,7 @@ ghost use Rattle.pst_program.specs.Syntax.{If, Either, While};
 ghost use Rattle.pst_program.specs.View.{expr_of, action_of, actions_of};
 ghost use Rattle.pst_compiled.specs.Code.{block_code};
 ghost use Rattle.pst_compiled.specs.Needs.{temp_of};
-ghost use Rattle.pst_codegen.specs.Ready.{HasNoted, IsTest, IsReady, AreReady};
+ghost use Rattle.pst_registers.specs.Ready.{HasNoted, IsTest, IsReady, AreReady};
 ghost use Rattle.pst_codegen.specs.Made.{code_by};
 
 use crate::conditions::{after, emit_test, test_len};

@@ -6,30 +6,17 @@ ghost use Rattle.pst_program.specs.View.{routines_of, procedure_of};
 ghost use Rattle.pst_compiled.specs.Code.{end_code};
 ghost use Rattle.pst_compiled.specs.Needs.{table_of, temp_of};
 ghost use Rattle.pst_compiled.specs.Compiled.{procedure_code, code_of};
-ghost use Rattle.pst_codegen.specs.Ready.{HasNoted, HasEnd, IsReadyProcedure};
+ghost use Rattle.pst_registers.specs.Ready.{HasNoted, HasEnd, IsReadyProcedure};
 
 use crate::blocks::emit_block;
 use crate::expressions::put;
 use crate::layout::Layout;
-use crate::needs::{note_block, note_end};
-use crate::table::Table;
 use pst_base::{Kind, Kinds, NoMemory, TypeShape};
 use pst_code::{Code, Instr, Instrs, Parts, Procedure, ProcedureList};
 use pst_compiled::Need;
 use pst_program::{Program, TypedProc};
+use pst_registers::table_of;
 use std::alloc::Global;
-
-/// The temporary registers of a procedure.
-#[tactic(auto, using(crate::proofs::Noting::noted_append))]
-fn table_of(alloc: Global, shape: &[TypeShape], p: &TypedProc) -> Result<Table, NoMemory>
-    requires { IsReadyProcedure shape.now (procedure_of p.now) }
-    ensures { IfOk result (λ table. table ≡ table_of shape.now (procedure_of p.now)) }
-{
-    let mut table = Table::new(alloc);
-    note_block(alloc, &mut table, shape, &p.body)?;
-    note_end(alloc, &mut table, p.result)?;
-    Ok(table)
-}
 
 /// What the registers of a procedure hold.
 fn register_kinds(locals: &Kinds, table: &[Need]) -> Result<Kinds, NoMemory>
@@ -78,6 +65,7 @@ fn compile_procedure(
     };
     let mut instructions = emit_block(alloc, &layout, &p.body, 0)?;
     emit_end(&mut instructions, &layout, p.result)?;
+    instructions.shrink_to_fit();
     Ok(Procedure {
         name: p.name.copy()?,
         query: p.query,

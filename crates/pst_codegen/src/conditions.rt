@@ -4,7 +4,7 @@ ghost use Rattle.std.specs.Prelude.{◌≡◌, ◌+◌, ◌++◌, true, length, 
 ghost use Rattle.pst_program.specs.View.{expr_of};
 ghost use Rattle.pst_compiled.specs.Code.{reg, arithmetic, opposite, jump_of, compare_code, test_size, test_code};
 ghost use Rattle.pst_compiled.specs.Needs.{temp_of};
-ghost use Rattle.pst_codegen.specs.Ready.{HasNoted, IsOperand, IsTest};
+ghost use Rattle.pst_registers.specs.Ready.{HasNoted, IsOperand, IsTest};
 ghost use Rattle.pst_codegen.specs.Sizes.{expr_size, comparison_code};
 
 use crate::expressions::{emit_expr, put};

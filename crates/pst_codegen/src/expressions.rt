@@ -6,13 +6,13 @@ ghost use Rattle.pst_program.specs.Typed.{root_kind};
 ghost use Rattle.pst_program.specs.View.{expr_of};
 ghost use Rattle.pst_compiled.specs.Code.{kind_or, register, arithmetic, expr_code};
 ghost use Rattle.pst_compiled.specs.Needs.{temp_of};
-ghost use Rattle.pst_codegen.specs.Ready.{HasNoted, IsOperand};
+ghost use Rattle.pst_registers.specs.Ready.{HasNoted, IsOperand};
 
 use crate::layout::Layout;
-use crate::needs::root_kind;
 use pst_base::{Kind, NoMemory, Op, SlotNo, TypeNo};
 use pst_code::{Instr, Reg};
 use pst_program::Typed;
+use pst_registers::root_kind;
 
 /// Adds an instruction.
 pub fn put(code: &mut Vec<Instr>, instr: Instr) -> Result<(), NoMemory>

@@ -17,10 +17,6 @@ mod compiler;
 mod conditions;
 mod expressions;
 mod layout;
-mod needs;
 mod statements;
-mod table;
-#[cfg(test)]
-mod tests;
 
 pub use compiler::compile;

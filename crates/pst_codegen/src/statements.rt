@@ -4,8 +4,8 @@ ghost use Rattle.std.specs.Prelude.{◌≡◌, ◌++◌, map, IfOk, OnOk};
 ghost use Rattle.std.specs.Option.{option_map};
 ghost use Rattle.pst_program.specs.View.{expr_of};
 ghost use Rattle.pst_compiled.specs.Code.{arguments_code, registers, set_code, set_root_code, store_code, store_element_code, call_code, print_code, return_code};
-ghost use Rattle.pst_compiled.specs.Needs.{temp_of};
-ghost use Rattle.pst_codegen.specs.Ready.{HasNoted, IsOperand, AreArguments, IsResult};
+ghost use Rattle.pst_codegen.specs.Made.{temps_of};
+ghost use Rattle.pst_registers.specs.Ready.{HasNoted, IsOperand, AreArguments, IsResult};
 
 use crate::expressions::{emit_expr, put};
 use crate::layout::Layout;
@@ -23,7 +23,7 @@ pub fn emit_set(
     line: u32,
 ) -> Result<(), NoMemory>
     requires { IsOperand layout.now.shape.now (HasNoted layout.now.table) (expr_of e.now) 0 }
-    ensures { OnOk result (code.new.items ≡ code.old.items ++ set_code layout.now.shape.now (temp_of layout.now.locals layout.now.table) local (expr_of e.now) line) }
+    ensures { OnOk result (code.new.items ≡ code.old.items ++ set_code layout.now.shape.now (temps_of layout.now) local (expr_of e.now) line) }
 {
     put(code, Instr::Charge(line))?;
     let value = emit_expr(code, layout, e, 0)?;
@@ -39,7 +39,7 @@ pub fn emit_set_root(
     line: u32,
 ) -> Result<(), NoMemory>
     requires { IsOperand layout.now.shape.now (HasNoted layout.now.table) (expr_of e.now) 0 }
-    ensures { OnOk result (code.new.items ≡ code.old.items ++ set_root_code layout.now.shape.now (temp_of layout.now.locals layout.now.table) slot.0 (expr_of e.now) line) }
+    ensures { OnOk result (code.new.items ≡ code.old.items ++ set_root_code layout.now.shape.now (temps_of layout.now) slot.0 (expr_of e.now) line) }
 {
     put(code, Instr::Charge(line))?;
     let value = emit_expr(code, layout, e, 0)?;
@@ -57,7 +57,7 @@ pub fn emit_store(
 ) -> Result<(), NoMemory>
     requires object { IsOperand layout.now.shape.now (HasNoted layout.now.table) (expr_of object.now) 0 }
     requires value { IsOperand layout.now.shape.now (HasNoted layout.now.table) (expr_of e.now) 1 }
-    ensures { OnOk result (code.new.items ≡ code.old.items ++ store_code layout.now.shape.now (temp_of layout.now.locals layout.now.table) (expr_of object.now) slot.0 (expr_of e.now) line) }
+    ensures { OnOk result (code.new.items ≡ code.old.items ++ store_code layout.now.shape.now (temps_of layout.now) (expr_of object.now) slot.0 (expr_of e.now) line) }
 {
     put(code, Instr::Charge(line))?;
     let object = emit_expr(code, layout, object, 0)?;
@@ -81,7 +81,7 @@ pub fn emit_store_element(
     requires object { IsOperand layout.now.shape.now (HasNoted layout.now.table) (expr_of object.now) 0 }
     requires index { IsOperand layout.now.shape.now (HasNoted layout.now.table) (expr_of index.now) 1 }
     requires value { IsOperand layout.now.shape.now (HasNoted layout.now.table) (expr_of e.now) 2 }
-    ensures { OnOk result (code.new.items ≡ code.old.items ++ store_element_code layout.now.shape.now (temp_of layout.now.locals layout.now.table) (expr_of object.now) slot.0 elements (expr_of index.now) (expr_of e.now) line) }
+    ensures { OnOk result (code.new.items ≡ code.old.items ++ store_element_code layout.now.shape.now (temps_of layout.now) (expr_of object.now) slot.0 elements (expr_of index.now) (expr_of e.now) line) }
 {
     put(code, Instr::Charge(line))?;
     let object = emit_expr(code, layout, object, 0)?;
@@ -100,7 +100,7 @@ pub fn emit_print(
     line: u32,
 ) -> Result<(), NoMemory>
     requires { IsOperand layout.now.shape.now (HasNoted layout.now.table) (expr_of e.now) 0 }
-    ensures { OnOk result (code.new.items ≡ code.old.items ++ print_code layout.now.shape.now (temp_of layout.now.locals layout.now.table) (expr_of e.now) line) }
+    ensures { OnOk result (code.new.items ≡ code.old.items ++ print_code layout.now.shape.now (temps_of layout.now) (expr_of e.now) line) }
 {
     put(code, Instr::Charge(line))?;
     let value = emit_expr(code, layout, e, 0)?;
@@ -115,7 +115,7 @@ pub fn emit_return(
     line: u32,
 ) -> Result<(), NoMemory>
     requires { IsResult layout.now.shape.now (HasNoted layout.now.table) (option_map expr_of value.now) }
-    ensures { OnOk result (code.new.items ≡ code.old.items ++ return_code layout.now.shape.now (temp_of layout.now.locals layout.now.table) (option_map expr_of value.now) line) }
+    ensures { OnOk result (code.new.items ≡ code.old.items ++ return_code layout.now.shape.now (temps_of layout.now) (option_map expr_of value.now) line) }
 {
     put(code, Instr::Charge(line))?;
     match value {
@@ -135,8 +135,8 @@ fn emit_arguments(
     list: &[Typed],
 ) -> Result<Regs, NoMemory>
     requires { AreArguments layout.now.shape.now (HasNoted layout.now.table) (map expr_of list.now) 0 }
-    ensures code { OnOk result (code.new.items ≡ code.old.items ++ arguments_code layout.now.shape.now (temp_of layout.now.locals layout.now.table) (map expr_of list.now) 0) }
-    ensures registers { IfOk result (λ rs. rs ≡ registers layout.now.shape.now (temp_of layout.now.locals layout.now.table) (map expr_of list.now) 0) }
+    ensures code { OnOk result (code.new.items ≡ code.old.items ++ arguments_code layout.now.shape.now (temps_of layout.now) (map expr_of list.now) 0) }
+    ensures registers { IfOk result (λ rs. rs ≡ registers layout.now.shape.now (temps_of layout.now) (map expr_of list.now) 0) }
 {
     let mut values = Vec::with_capacity(alloc, list.len())?;
     let mut level = 0;
@@ -158,7 +158,7 @@ pub fn emit_call(
     line: u32,
 ) -> Result<(), NoMemory>
     requires { AreArguments layout.now.shape.now (HasNoted layout.now.table) (map expr_of arguments.now) 0 }
-    ensures { OnOk result (code.new.items ≡ code.old.items ++ call_code layout.now.shape.now (temp_of layout.now.locals layout.now.table) local procedure.0 (map expr_of arguments.now) line) }
+    ensures { OnOk result (code.new.items ≡ code.old.items ++ call_code layout.now.shape.now (temps_of layout.now) local procedure.0 (map expr_of arguments.now) line) }
 {
     put(code, Instr::Charge(line))?;
     let values = emit_arguments(alloc, code, layout, arguments.as_slice())?;

@@ -1,17 +1,11 @@
 -- A run may go on after each step of it.
-use Rattle.std.specs.FinMap.{empty, get-empty}
-use Rattle.std.specs.Option.{option_map}
-use Rattle.pst_base.specs.Name.{name_cmp, root_name}
-use Rattle.pst_base.specs.Shape.{root_type}
-use Rattle.std.proofs.Common.{◌≡◌, ◌≢◌, ℕ, ◌+◌, ◌-◌, ◌<◌, ℤ, List, Option, ap, ◌∙◌, arith}
+use Rattle.std.proofs.Common.{◌≡◌, ◌≢◌, ℕ, ◌+◌, ◌-◌, ℤ, List, Option, ap, ◌∙◌, arith}
 use Rattle.pst_base.specs.declared.names.Name.{Name}
-use Rattle.pst_base.specs.declared.names.RunNo.{RunNo}
 use Rattle.pst_base.specs.declared.names.TypeNo.{TypeNo}
 use Rattle.pst_base.specs.declared.shape.TypeShape.{TypeShape}
-use Rattle.pst_base.specs.Heap.{OrdinaryHeap, type_in, with_value, with_pointer, with_record, new_record, initial_heap, Rec}
+use Rattle.pst_base.specs.Heap.{OrdinaryHeap, type_in, with_value, with_pointer, with_record, new_record}
 use Rattle.pst_base.proofs.WellFormed.{type_in-with_value, type_in-with_pointer, type_in-with_other}
 use Rattle.pst_eval.specs.declared.tally.Tally.{Tally}
-use Rattle.pst_program.specs.Sound.{NamesAreFree}
 use Rattle.pst_eval.specs.Ends.{IsAtWork, IsCharged}
 
 pub value-ready : (shape : List TypeShape) (h h' : OrdinaryHeap) (t : Tally) (n : Name) (slot : ℕ) (x : ℤ) → IsCharged shape h t
@@ -74,10 +68,3 @@ ready-charged shape h t r ne = record {
     value_writes = omega (arith, r.room.value_writes);
   };
 }
-
--- no record of the first heap was made by a run
-pub initial_fresh : (shape : List TypeShape) (run : RunNo) → 0 < run.0 → NamesAreFree (initial_heap shape) run 0
-initial_fresh shape run some = λ k le.
-    let a : Name = record { run = run; ordinal = k } in
-    let other : a ≢ root_name = λ same. let e : run.0 ≡ 0 = ap (λ (n : Name). n.run.0) same in omega arith in
-    type_in-with_other empty root_name (new_record shape root_type) a other ∙ ap (option_map (λ (r : Rec). r.ty)) (get-empty name_cmp a)

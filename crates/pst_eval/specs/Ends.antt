@@ -8,6 +8,7 @@ use Rattle.pst_base.specs.declared.names.TrapKind.TheVariants.{Overflow}
 use Rattle.pst_base.specs.declared.shape.TypeShape.{TypeShape}
 use Rattle.pst_base.specs.Heap.{OrdinaryHeap}
 use Rattle.pst_program.specs.declared.block.TypedBlock.{TypedBlock, size-TypedBlock}
+use Rattle.pst_program.specs.declared.block.TypedForm.{TypedForm}
 use Rattle.pst_program.specs.declared.block.TypedStatement.{TypedStatement}
 use Rattle.pst_program.specs.declared.typed.Typed.{Typed}
 use Rattle.pst_program.specs.declared.program.Program.{Program}
@@ -18,7 +19,7 @@ use Rattle.pst_program.specs.Syntax as syntax
 use Rattle.pst_program.specs.Syntax.{Expr, Action}
 use Rattle.pst_program.specs.Value.{Env, Answer, Gives, Traps, value}
 use Rattle.pst_program.specs.Sound.{NamesAreFree}
-use Rattle.pst_program.specs.Meaning.{World, Ending, Normal, Returned, Trapped, Spent, Answers, Gives_all, Traps_at, Calls, call, call_with, exec, exec_action, turns, run_body, if_else, with_index, with_answer, write}
+use Rattle.pst_program.specs.Meaning.{World, Ending, Normal, Returned, Trapped, Spent, Answers, Gives_all, Traps_at, Calls, call, call_with, exec, exec_action, turns, run_body, if_else, with_index, with_answer, write, store_element}
 use Rattle.pst_program.specs.View.{expr_of, action_of, actions_of, routines_of}
 use Rattle.pst_eval.specs.declared.tally.Tally.{Tally}
 use Rattle.pst_eval.specs.declared.tally.End.{End}
@@ -118,6 +119,15 @@ block_end program deep block env h t = exec program.shape (calls_in program deep
 -- a statement
 abbrev pub statement_end : Program → (deep : ℕ) → TypedStatement → Env → OrdinaryHeap → Tally → Ending
 statement_end program deep s env h t = exec_action program.shape (calls_in program deep) (action_of s.form) s.line env (world_of h t)
+
+-- a statement that holds no other, whatever its calls come to
+abbrev pub step_end : Calls → TypedForm → (line : ℕ) → Env → OrdinaryHeap → Tally → Ending
+step_end calls form line env h t = exec_action h.shape calls (action_of form) line env (world_of h t)
+
+-- an assignment to an element of an array: the slot of the first one, and how many there are
+abbrev pub element_store_end : (object : Typed) → (slot elements : ℕ) → (index e : Typed) → (line : ℕ) → Env → OrdinaryHeap → Tally → Ending
+element_store_end object slot elements index e line env h t =
+    store_element h.shape (expr_of object) slot elements (expr_of index) (expr_of e) line env (world_of h t)
 
 -- the call of a procedure by a statement at this line, with the local that its result goes into
 abbrev pub called_end : Program → (deep : ℕ) → (procedure : ℕ) → List Typed → (line : ℕ) → (local : Option ℕ) → Env → OrdinaryHeap → Tally → Ending

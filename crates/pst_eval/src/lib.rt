@@ -14,8 +14,6 @@ mod calls;
 mod run;
 mod steps;
 mod tally;
-#[cfg(test)]
-mod tests;
 mod value;
 mod whole;
 mod write;

@@ -3,9 +3,9 @@
 ghost use Rattle.std.specs.Prelude.{◌≡◌, ◌+◌, ◌≤◌, ◌<◌, List, IfOk, OnOk, slice_set};
 ghost use Rattle.std.specs.Option.{option_map};
 ghost use Rattle.pst_program.specs.declared.meaning.Value.{Value};
-ghost use Rattle.pst_program.specs.Meaning.{World, Ending, Calls, exec_action, set_local, set_root, store_field, store_element, make, print_value, return_value, is_target};
+ghost use Rattle.pst_program.specs.Meaning.{World, Ending, Calls, set_local, set_root, store_field, make, print_value, return_value, is_target};
 ghost use Rattle.pst_program.specs.View.{expr_of, action_of};
-ghost use Rattle.pst_eval.specs.Ends.{Chooses, ending_of, world_of, element_written, IsSimple, IsAtWork, IsCharged};
+ghost use Rattle.pst_eval.specs.Ends.{Chooses, ending_of, world_of, step_end, element_store_end, element_written, IsSimple, IsAtWork, IsCharged};
 
 use crate::tally::{End, Tally};
 use crate::value::{element_slot, index_of, number, value};
@@ -24,7 +24,7 @@ pub fn step(
 ) -> Result<End, NoMemory>
     requires simple { IsSimple (action_of form.now) }
     requires ready { IsAtWork heap.old.shape heap.old tally.old }
-    ensures meaning { IfOk result (λ end. (calls : Calls) → ending_of end env.new.items (world_of heap.new tally.new) ≡ exec_action heap.old.shape calls (action_of form.now) line env.old.items (world_of heap.old tally.old)) }
+    ensures meaning { IfOk result (λ end. (calls : Calls) → ending_of end env.new.items (world_of heap.new tally.new) ≡ step_end calls form.now line env.old.items heap.old tally.old) }
     ensures ready { OnOk result (IsAtWork heap.old.shape heap.new tally.new) }
     ensures fewer { OnOk result (tally.new.charges ≤ tally.old.charges) }
 {
@@ -152,7 +152,7 @@ fn store_element(
     tally: &mut Tally,
 ) -> End
     requires ready { IsAtWork heap.old.shape heap.old tally.old }
-    ensures meaning { ending_of result env.now (world_of heap.new tally.new) ≡ store_element heap.old.shape (expr_of object.now) slot.0 elements (expr_of index.now) (expr_of e.now) line env.now (world_of heap.old tally.old) }
+    ensures meaning { ending_of result env.now (world_of heap.new tally.new) ≡ element_store_end object.now slot.0 elements index.now e.now line env.now heap.old tally.old }
     ensures ready { IsAtWork heap.old.shape heap.new tally.new }
     ensures fewer { tally.new.charges ≤ tally.old.charges }
 {

@@ -16,7 +16,5 @@
 mod instructions;
 mod operands;
 mod procedures;
-#[cfg(test)]
-mod tests;
 
 pub use procedures::listing;

@@ -78,11 +78,7 @@ fn put_procedure(
 }
 
 /// The listing of procedures.
-pub(crate) fn listing_of(
-    alloc: Global,
-    procedures: &[Procedure],
-    program: &Program,
-) -> Result<Text, NoMemory>
+fn listing_of(alloc: Global, procedures: &[Procedure], program: &Program) -> Result<Text, NoMemory>
     ensures { IfOk result (λ text. text ≡ flat_map (procedure_text program.now.names procedures.now) procedures.now) }
 {
     let mut out = Vec::new(alloc);

@@ -1,0 +1,4 @@
+pub mod Bridge
+pub mod Noting
+pub mod Rows
+pub mod Turns
