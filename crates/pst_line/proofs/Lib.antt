@@ -18,4 +18,3 @@ pub mod Linking
 pub mod Back
 pub mod Starts
 pub mod Wholes
-pub mod Trying

@@ -1,9 +1,10 @@
 -- What the steps of a store's calls do to what it holds.
-use Rattle.std.specs.Prelude.{◌≡◌, ℕ, ◌<◌, ◌⊎◌, ◌++◌, true, List, [], ◌∷◌, length, Some}
+use Rattle.std.specs.Prelude.{◌≡◌, ℕ, ◌<◌, ◌⊎◌, ◌++◌, true, List, [], ◌∷◌, length, Option, Some, ℤ}
+use Rattle.pst_base.specs.declared.names.Name.{Name}
 use Rattle.pst_base.specs.declared.names.NodeId.{NodeId}
 use Rattle.pst_base.specs.Shape.{type_at}
 use Rattle.pst_base.specs.Heap.{IsFull}
-use Rattle.pst_places.specs.State.{PointerStored, WritesStay}
+use Rattle.pst_places.specs.State.{ValueStored, PointerStored, WritesStay}
 use Rattle.pst_line_nodes.specs.Line.{Line, IsQuiet, most}
 use Rattle.pst_line_nodes.specs.Seen.{Seen}
 use Rattle.pst_line_nodes.specs.Nodes.{line_of, AreKept}
@@ -39,7 +40,19 @@ pub record HasEntered (old new : Held) (r f x : ℕ) : Type 0 where
   pub rooted : IsRootAt nodes (length old.versions) root
   pub is : new ≡ record old { nodes = nodes; undo = old.undo ++ entry_at old nodes x f ∷ []; failed = true; root = root }
 
--- ---- pointers, by references
+-- ---- numbers and pointers, by references
+
+-- a number is written
+abbrev pub IsNumberStored : Held → LinePlace → NodeId → ℕ → ℤ → Held → Type 0
+IsNumberStored old at r f v new = ValueStored (state_of (stored_of old)) at ((state_of (stored_of old)).name r) f v (state_of (stored_of new))
+
+-- a pointer is written
+abbrev pub IsPointerStored : Held → LinePlace → NodeId → ℕ → Option Name → Held → Type 0
+IsPointerStored old at r f p new = PointerStored (state_of (stored_of old)) at ((state_of (stored_of old)).name r) f p (state_of (stored_of new))
+
+-- whether a place can be written stays
+abbrev pub Stays : Held → Held → Type 0
+Stays old new = WritesStay (state_of (stored_of old)) (state_of (stored_of new))
 
 -- a record has no room for a pointer from a field of another one
 abbrev pub HasNoRoom : Held → LinePlace → NodeId → ℕ → NodeId → Type 0
@@ -47,4 +60,4 @@ HasNoRoom h at r f q = IsFull h.shape ((state_of (stored_of h)).heap at) ((state
 
 -- a pointer to a record that has room for it is written
 abbrev pub IsLinked : Held → LinePlace → NodeId → ℕ → NodeId → Held → Type 0
-IsLinked old at r f q new = PointerStored (state_of (stored_of old)) at ((state_of (stored_of old)).name r) f (Some ((state_of (stored_of old)).name q)) (state_of (stored_of new)) × WritesStay (state_of (stored_of old)) (state_of (stored_of new)) × ¬ (HasNoRoom old at r f q)
+IsLinked old at r f q new = IsPointerStored old at r f (Some ((state_of (stored_of old)).name q)) new × Stays old new × ¬ (HasNoRoom old at r f q)

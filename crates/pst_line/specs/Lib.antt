@@ -1,3 +1,4 @@
+pub mod Asked
 pub mod Store
 pub mod StoreLaws
 pub mod Undo
@@ -6,4 +7,3 @@ pub mod Held
 pub mod Starting
 pub mod Entered
 pub mod Back
-pub mod Trials

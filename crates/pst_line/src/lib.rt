@@ -20,7 +20,5 @@ pub mod line_nodes;
 pub mod line_store;
 mod node_list;
 pub mod place;
-#[cfg(test)]
-mod tests;
 mod undo_run;
 mod writes;

@@ -8,6 +8,7 @@ ghost use Rattle.pst_line_nodes.specs.Full.{is_other_entry};
 ghost use Rattle.pst_line_nodes.specs.Seen.{Seen};
 ghost use Rattle.pst_line_nodes.specs.Nodes.{line_of, AreKept, AreLinked, HasSlot, IsFieldSet};
 ghost use Rattle.pst_line_nodes.specs.Carried.{IsCarried, HasRoomFor, IsFieldNulled, IsFieldPointed, IsOpenSlot, AreAllOthers};
+ghost use Rattle.pst_line.specs.Asked.{AreSomeLine, AreLineWithOpenSlot};
 
 use pst_base::{Name, NoMemory, Shape, TypeNo};
 use pst_line_nodes::content::Content;
@@ -85,7 +86,7 @@ pub trait LineNodes: Drop {
     /// Writes null into a field of a newest node, at the newest stamp. A refusal changes nothing, and where the content is
     /// replaced there is none.
     fn set_null(&mut self, x: u64, field: u16, stamp: u32) -> Result<(), NoMemory>
-        requires line { (shape : List TypeShape) × (made : ℕ → Bool) × AreKept shape stamp (seen self.old) × IsLine shape stamp (line_of made (seen self.old)) }
+        requires line { AreSomeLine stamp (seen self.old) }
         requires newest { IsNewest (line_of (λ _. true) (seen self.old)) x }
         requires field { HasSlot (seen self.old) x field }
         ensures ok { OnOk result ((made : ℕ → Bool) → IsFieldNulled (line_of made (seen self.old)) (line_of made (seen self.new)) x field stamp) }
@@ -110,7 +111,7 @@ pub trait LineNodes: Drop {
         z: u64,
         slot: usize,
     ) -> Result<(), NoMemory>
-        requires line { (shape : List TypeShape) × (made : ℕ → Bool) × AreKept shape stamp (seen self.old) × IsLine shape stamp (line_of made (seen self.old)) × IsOpenSlot shape (line_of made (seen self.old)) z x field slot }
+        requires line { AreLineWithOpenSlot stamp (seen self.old) z x field slot }
         requires newest { IsNewest (line_of (λ _. true) (seen self.old)) x }
         requires field { HasSlot (seen self.old) x field }
         requires target { IsNewest (line_of (λ _. true) (seen self.old)) z }

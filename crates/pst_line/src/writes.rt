@@ -12,11 +12,11 @@ impl<N: LineNodes> Core<N> {
     ghost use Rattle.pst_base.specs.declared.names.Kind.{Kind};
     ghost use Rattle.pst_base.specs.declared.names.Kind.TheVariants.{Int};
     ghost use Rattle.pst_base.specs.Heap.{kind_in, IsPointer};
-    ghost use Rattle.pst_places.specs.State.{HasRoom, Allocated, IsNewType, IsFresh, Unchanged, WritesStay, ValueStored, PointerStored};
+    ghost use Rattle.pst_places.specs.State.{HasRoom, Allocated, IsNewType, IsFresh, Unchanged};
     ghost use Rattle.pst_places.specs.Store.{MayStorePointer, PointerOutcome};
     ghost use Rattle.pst_line.specs.Store.{state_of};
     ghost use Rattle.pst_line.specs.Held.{stored_of};
-    ghost use Rattle.pst_line.specs.Entered.{HasEntered, HasNoRoom, IsLinked};
+    ghost use Rattle.pst_line.specs.Entered.{HasEntered, HasNoRoom, IsLinked, IsNumberStored, IsPointerStored, Stays};
 
     /// Makes a record with all fields 0 or null, in the open run. A refusal changes nothing.
     pub(crate) fn make(&mut self, at: LinePlace, ty: TypeNo, name: Name) -> Result<NodeId, NoMemory>
@@ -70,7 +70,7 @@ impl<N: LineNodes> Core<N> {
         requires live { (state_of (stored_of self.old)).live at r }
         requires field { kind_in self.old.shape ((state_of (stored_of self.old)).heap at) ((state_of (stored_of self.old)).name r) field.0 ≡ Some Int }
         requires room { HasRoom (state_of (stored_of self.old)) }
-        ensures ok { OnOk result (ValueStored (state_of (stored_of self.old)) at ((state_of (stored_of self.old)).name r) field.0 n (state_of (stored_of self.new)) × WritesStay (state_of (stored_of self.old)) (state_of (stored_of self.new))) }
+        ensures ok { OnOk result (IsNumberStored self.old at r field.0 n self.new × Stays self.old self.new) }
         ensures err { OnErr result (Unchanged (state_of (stored_of self.old)) (state_of (stored_of self.new))) }
     {
         self.whole();
@@ -93,7 +93,7 @@ impl<N: LineNodes> Core<N> {
         requires live { (state_of (stored_of self.old)).live at r }
         requires field { IsPointer (kind_in self.old.shape ((state_of (stored_of self.old)).heap at) ((state_of (stored_of self.old)).name r) field.0) }
         requires room { HasRoom (state_of (stored_of self.old)) }
-        ensures ok { OnOk result (PointerStored (state_of (stored_of self.old)) at ((state_of (stored_of self.old)).name r) field.0 None (state_of (stored_of self.new)) × WritesStay (state_of (stored_of self.old)) (state_of (stored_of self.new))) }
+        ensures ok { OnOk result (IsPointerStored self.old at r field.0 None self.new × Stays self.old self.new) }
         ensures err { OnErr result (Unchanged (state_of (stored_of self.old)) (state_of (stored_of self.new))) }
     {
         self.whole();

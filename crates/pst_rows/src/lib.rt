@@ -13,8 +13,6 @@ mod content;
 mod laws;
 mod row;
 mod stamps;
-#[cfg(test)]
-mod tests;
 
 pub use content::{Content, Held, Slot, Stamp};
 pub use laws::{

@@ -1,12 +1,12 @@
 //! Rows.
 
-ghost use Rattle.std.specs.Prelude.{◌≡◌, ℕ, ◌+◌, ◌-◌, ◌^◌, ◌<◌, ◌≤◌, ◌↔◌, IfOk, OnOk, IfErr, OnErr, IfSome, IsNone, length, false, unwrap_or, is_some};
+ghost use Rattle.std.specs.Prelude.{◌≡◌, ℕ, ◌+◌, ◌-◌, ◌^◌, ◌<◌, ◌≤◌, ◌↔◌, IfOk, OnOk, IfErr, OnErr, IfSome, IsNone, length, false, is_some};
 ghost use Rattle.pst_order.specs.Places.{rank, IsIn};
 ghost use Rattle.pst_order.specs.Search.{IsFewMore};
 ghost use Rattle.pst_rows.specs.Values.{before_slot};
 ghost use Rattle.pst_rows.specs.Rows.{stamps_of, width_of, content_at, row_edge, stamped_count, stamped_in, spare_of, IsRow, IsRowIn, IsInLife};
 ghost use Rattle.pst_rows.specs.Changes.{slot_count, first_content, IsNewRow, IsSegmentAround, IsSameRow, IsRowSet, IsRowCut, IsRowReplaced, IsRowSplit, IsSplitStamp, HasMore, needed, missing};
-ghost use Rattle.pst_rows.specs.Steps.{AreBounds, HasParts, IsLocated, IsStampAt, IsGap, IsInserted, IsRowPut, IsRowRestored, IsRowBegun, AreSlotsAt, AreFirstSlots};
+ghost use Rattle.pst_rows.specs.Steps.{AreBounds, HasParts, IsLocated, IsStampAt, IsGap, IsInserted, IsRowPut, IsPutUnlessStamped, IsRowRestored, IsRowBegun, AreSlotsAt, AreFirstSlots};
 
 use crate::content::{Content, Held, Slot, Stamp};
 use crate::stamps::{
@@ -377,8 +377,7 @@ impl Row {
         requires after { rank (O.places order.now) self.old.lo.0 < rank (O.places order.now) place.0 }
         requires before { rank (O.places order.now) place.0 < rank (O.places order.now) self.old.hi.0 }
         requires spare { 1 ≤ spare_of self.old }
-        ensures restored { IsRowPut (rank (O.places order.now)) self.old self.new slot.0 (rank (O.places order.now) place.0)
-            (unwrap_or (stamps_of (rank (O.places order.now)) self.old slot.0 (rank (O.places order.now) place.0)) content) }
+        ensures restored { IsPutUnlessStamped (rank (O.places order.now)) self.old self.new slot.0 (rank (O.places order.now) place.0) content }
         ensures row { IsRowIn (O.places order.now) self.new }
         ensures more { HasMore (missing (is_some (stamps_of (rank (O.places order.now)) self.old slot.0 (rank (O.places order.now) place.0)))) self.old self.new }
     {

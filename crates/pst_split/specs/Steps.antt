@@ -167,6 +167,10 @@ pub record IsRenamed (old new : Chart) (x z n : ℕ) : Type 0 where
 abbrev pub HasSameEdges : List ℕ → List Node → List Node → Type 0
 HasSameEdges qs old new = (i g m : ℕ) → (chart qs new).edge i g m ≡ (chart qs old).edge i g m
 
+-- the same segments, where a segment of z's slot begins at a position
+abbrev pub KeepsEdgesFrom : List ℕ → List Node → List Node → (z slot position : ℕ) → Type 0
+KeepsEdgesFrom qs old new z slot n = (e : ℕ) → IsSegmentOf (chart qs old) z slot n e → HasSameEdges qs old new
+
 -- the partner of the segment of z's slot that begins at a position is renamed
 abbrev pub IsSegmentRenamed : List ℕ → List Node → List Node → ℕ → ℕ → ℕ → ℕ → Type 0
 IsSegmentRenamed qs old new x z slot n = (e : ℕ) → IsSegmentOf (chart qs old) z slot n e → IsHalfway (chart qs old) (to_come qs old x z) (chart qs new) z (one_more (λ _ _. false) slot n e)

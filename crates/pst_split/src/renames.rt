@@ -4,11 +4,10 @@ ghost use Rattle.std.specs.Prelude.{◌≡◌, ◌≢◌, ℕ, ◌+◌, ◌<◌,
 ghost use Rattle.pst_rows.specs.declared.row.Row.{Row};
 ghost use Rattle.pst_order.specs.Places.{rank};
 ghost use Rattle.pst_mirror.specs.Mirror.{moved};
-ghost use Rattle.pst_mirror.specs.Segments.{IsSegmentOf};
 ghost use Rattle.pst_rows.specs.Rows.{width_of};
 ghost use Rattle.pst_nodes.specs.Arena.{row_at, AreRows, chart, IsSlot};
 ghost use Rattle.pst_split.specs.Load.{is_link};
-ghost use Rattle.pst_split.specs.Steps.{IsRenamable, IsRenamed, IsPartnerOf, HasNoPartner, AreReplaced, begin_of, to_come, HasSameEdges, IsSegmentRenamed, IsSlotRenamed};
+ghost use Rattle.pst_split.specs.Steps.{IsRenamable, IsRenamed, IsPartnerOf, HasNoPartner, AreReplaced, begin_of, to_come, HasSameEdges, KeepsEdgesFrom, IsSegmentRenamed, IsSlotRenamed};
 
 use pst_base::{NodeId, SlotNo};
 use pst_nodes::node::Nodes;
@@ -76,7 +75,7 @@ fn rename_segment<O: Order>(
     requires slot { IsSlot (O.places order.now) nodes.old.list.items z.0 slot.0 (rank (O.places order.now) at.0) }
     requires renamable { IsRenamable (chart (O.places order.now) nodes.old.list.items) x.0 z.0 (begin_of (O.places order.now) nodes.old.list.items z.0) }
     ensures renamed { IsSegmentRenamed (O.places order.now) nodes.old.list.items nodes.new.list.items x.0 z.0 slot.0 (rank (O.places order.now) at.0) }
-    ensures edges { (e : ℕ) → IsSegmentOf (chart (O.places order.now) nodes.old.list.items) z.0 slot.0 (rank (O.places order.now) at.0) e → HasSameEdges (O.places order.now) nodes.old.list.items nodes.new.list.items }
+    ensures edges { KeepsEdgesFrom (O.places order.now) nodes.old.list.items nodes.new.list.items z.0 slot.0 (rank (O.places order.now) at.0) }
     ensures rows { AreRows (O.places order.now) nodes.new.list.items }
     ensures same { AreReplaced nodes.old.list.items nodes.new.list.items }
 {

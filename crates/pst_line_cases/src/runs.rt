@@ -1,15 +1,15 @@
-//! What no clause says: that the calls which take memory succeed, and that the clauses mean what is meant.
+//! Runs that write a number and are published, or given up.
 
 ghost use Rattle.std.specs.Prelude.{◌≡◌, ◌+◌, ◌*◌, ℕ, None, Some, IfOk, IsTrue, OnOk};
 ghost use Rattle.pst_base.specs.declared.names.Kind.TheVariants.{Int};
 ghost use Rattle.pst_base.specs.Shape.{field_kind, type_at, root_type};
 ghost use Rattle.pst_line.specs.Held.{state_in, stored_in};
-ghost use Rattle.pst_line.specs.Trials.{IsReady, HasWritten};
+ghost use Rattle.pst_line_cases.specs.Trials.{IsReady, HasWritten};
 
-use crate::calls::LineCalls;
-use crate::line_store::LineStore;
-use crate::place::LinePlace;
 use pst_base::{Kind, NoMemory, RunNo, Shape, SlotNo, Targets, TypeNo, TypeShape, VersionNo};
+use pst_line::calls::LineCalls;
+use pst_line::line_store::LineStore;
+use pst_line::place::LinePlace;
 use std::alloc::Global;
 
 /// The field of the root record that holds a number.

@@ -1,5 +1,5 @@
-use Rattle.pst_line.proofs.Trying.{two_left, published_ready, undone_ready}
-use Rattle.pst_line.proofs.tests.run_in_turns.Goals as goal
+use Rattle.pst_line_cases.proofs.Trying.{two_left, published_ready, undone_ready}
+use Rattle.pst_line_cases.proofs.runs.run_in_turns.Goals as goal
 
 pub write-requires-in-loop-n : goal.write-requires-in-loop-n
 write-requires-in-loop-n g c =

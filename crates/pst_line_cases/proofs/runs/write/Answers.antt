@@ -1,5 +1,5 @@
-use Rattle.pst_line.proofs.Trying.{begun_root, written}
-use Rattle.pst_line.proofs.tests.write.Goals as goal
+use Rattle.pst_line_cases.proofs.Trying.{begun_root, written}
+use Rattle.pst_line_cases.proofs.runs.write.Goals as goal
 
 pub store_value-requires-clause-field : goal.store_value-requires-clause-field
 store_value-requires-clause-field g c = begun_root _ _ _ _ _ _ c.requires.1 c.begin-at.ensures _ c.root-r.ensures.name

@@ -21,7 +21,7 @@ use Rattle.pst_places.proofs.StateLemmas.{HasRoom_for, room_value}
 use Rattle.pst_line.specs.declared.place.LinePlace.{LinePlace}
 use Rattle.pst_line_nodes.specs.Line.{heap_at}
 use Rattle.pst_line.specs.Store.{Stored, IsPlace, Means, Began, LinePublished, Undone, IsStarted}
-use Rattle.pst_line.specs.Trials.{IsReady, HasWritten}
+use Rattle.pst_line_cases.specs.Trials.{IsReady, HasWritten}
 use Rattle.pst_line.proofs.Stores.{rows_count}
 
 -- a place by its stamp
