@@ -28,6 +28,10 @@ Opens m parts old budget next s version calls new t =
     (h : History) → StandsFor m (machine_runs parts) old budget next s h → MayOpen m h version calls
     → StandsFor m (machine_runs parts) new budget (next + 1) t (opened h version calls)
 
+-- so with one call, of the version that it names
+abbrev pub OpensWith : {H P R : Type 0} → Meaning → Parts → (old : List (OpenEntry H R P)) → (budget next : ℕ) → State P R → (first : Call) → (new : List (OpenEntry H R P)) → (t : State P R) → Type 0
+OpensWith m parts old budget next s first new t = Opens m parts old budget next s first.version (call_of first ∷ []) new t
+
 -- ---- a slice of a run
 
 -- they stand for the history with the run changed, and the answer is that of its slice

@@ -3,7 +3,7 @@
 ghost use Rattle.std.specs.Prelude.{◌≡◌, ◌+◌, ◌<◌, ◌∷◌, [], IfOk, IfSome, OnOk, length, slice_get};
 ghost use Rattle.pst_history.specs.History.{call_of};
 ghost use Rattle.pst_engine.specs.Stands.{IsRunAt, VersionsStay};
-ghost use Rattle.pst_engine.specs.Changes.{MayOpenSome, Opens};
+ghost use Rattle.pst_engine.specs.Changes.{MayOpenSome, Opens, OpensWith};
 
 use crate::entry::OpenEntry;
 use crate::slices::call;
@@ -64,8 +64,7 @@ pub(crate) fn open_with<H: VersionedHeap, C: Meant>(
     first: &Call,
 ) -> Result<usize, NoMemory>
     requires { MayOpenSome (C.meaning code.now) (C.parts code.now) active.old.items budget next_run.0 (H.state heap.old) first.now.version (call_of first.now ∷ []) }
-    ensures ok { OnOk result (Opens (C.meaning code.now) (C.parts code.now) active.old.items budget next_run.0 (H.state heap.old)
-        first.now.version (call_of first.now ∷ []) active.new.items (H.state heap.new)) }
+    ensures ok { OnOk result (OpensWith (C.meaning code.now) (C.parts code.now) active.old.items budget next_run.0 (H.state heap.old) first.now active.new.items (H.state heap.new)) }
     ensures at { IfOk result (λ at. (at < length active.new.items) × IsRunAt active.new.items at next_run) }
     ensures stay { VersionsStay (H.state heap.old) (H.state heap.new) }
 {

@@ -2,6 +2,7 @@
 
 ghost use Rattle.std.specs.Prelude.{◌≡◌, ◌<◌, ◌^◌, IfOk, OnOk, length};
 ghost use Rattle.pst_history.specs.History.{granted_more, stepped};
+ghost use Rattle.pst_runs.specs.Runs.{named};
 ghost use Rattle.pst_engine.specs.Stands.{IsRunAt, StandForSome, VersionsStay};
 ghost use Rattle.pst_engine.specs.Changes.{Calls, MayCallSome, Steps};
 
@@ -57,9 +58,9 @@ pub(crate) fn call<H: VersionedHeap, C: Meant>(
 ) -> Result<Reply, NoMemory>
     requires at { at < length active.old.items }
     requires run { IsRunAt active.old.items at run }
-    requires stands { MayCallSome (C.meaning code.now) (C.parts code.now) active.old.items (H.state heap.old) run (record { procedure = procedure.now; arguments = arguments.now }) }
+    requires stands { MayCallSome (C.meaning code.now) (C.parts code.now) active.old.items (H.state heap.old) run (named procedure.now arguments.now) }
     ensures ok { IfOk result (λ r. Calls (C.meaning code.now) (C.parts code.now) active.old.items (H.state heap.old) run
-        (record { procedure = procedure.now; arguments = arguments.now }) r active.new.items (H.state heap.new)) }
+        (named procedure.now arguments.now) r active.new.items (H.state heap.new)) }
     ensures same_run { OnOk result ((at < length active.new.items) × IsRunAt active.new.items at run) }
     ensures stay { VersionsStay (H.state heap.old) (H.state heap.new) }
 {

@@ -7,6 +7,7 @@ use Rattle.pst_base.specs.declared.names.VersionNo.{VersionNo}
 use Rattle.pst_program.specs.declared.meaning.Ended.{Ended}
 use Rattle.pst_program.specs.declared.meaning.Ended.TheVariants.{Done, Trapped, Stopped}
 use Rattle.pst_script.specs.Commands.{in_range}
+use Rattle.pst_script.specs.declared.command.Call.{Call}
 use Rattle.pst_script.specs.declared.command.Command.{Command}
 use Rattle.pst_script.specs.declared.command.Command.TheVariants as command
 use Rattle.pst_script.specs.declared.reply.Reply.{Reply}
@@ -89,6 +90,18 @@ pub record IsCarried (m : Meaning) (line : Command) (r : Reply) (budget next : �
 abbrev pub Carries : Meaning → (budget next : ℕ) → (s : State LinePlace NodeId) → Stored → Command → Reply → (t : State LinePlace NodeId) → Stored → (budget_after next_after : ℕ) → Type 0
 Carries m budget next s stored line r t stored_t budget_after next_after =
     (h : History) → LineStands m budget next s stored h → line_refusal m h line ≡ None → IsCarried m line r budget_after next_after t stored_t h
+
+-- so of a run, which takes the next run number
+abbrev pub CarriesRun : Meaning → (budget number : ℕ) → (s : State LinePlace NodeId) → Stored → Call → Reply → (t : State LinePlace NodeId) → Stored → Type 0
+CarriesRun m budget number s stored call r t stored_t = Carries m budget number s stored (command.Run call) r t stored_t budget (number + 1)
+
+-- so of a query, which does not
+abbrev pub CarriesQuery : Meaning → (budget number : ℕ) → (s : State LinePlace NodeId) → Stored → Call → Reply → (t : State LinePlace NodeId) → Stored → Type 0
+CarriesQuery m budget number s stored call r t stored_t = Carries m budget number s stored (command.Query call) r t stored_t budget number
+
+-- so of the session with this budget and next run number
+abbrev pub SessionCarries : Meaning → (old : LineSession) → (s : State LinePlace NodeId) → Stored → Command → Reply → (new : LineSession) → (t : State LinePlace NodeId) → Stored → Type 0
+SessionCarries m old s stored line r new t stored_t = Carries m old.budget old.next_run.0 s stored line r t stored_t new.budget new.next_run.0
 
 -- the answer to a command is the reply, and session and store stand for the history after it, if a line can give it
 pub record IsAnswered (m : Meaning) (line : Command) (r : Reply) (new : LineSession) (t : State LinePlace NodeId) (stored : Stored) (h : History) : Type 0 where

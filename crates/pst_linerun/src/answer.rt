@@ -2,7 +2,7 @@
 
 ghost use Rattle.std.specs.Prelude.{◌≡◌, IfOk, OnErr, None, drop, map};
 ghost use Rattle.pst_engine.specs.Stands.{VersionsStay};
-ghost use Rattle.pst_linerun.specs.Carried.{Carries, MayCarry};
+ghost use Rattle.pst_linerun.specs.Carried.{MayCarry, SessionCarries};
 
 use crate::lines::{ask, run};
 use crate::session::LineSession;
@@ -34,8 +34,7 @@ pub(crate) fn answer<S: LineCalls, C: Meant>(
     line: &Command,
 ) -> Result<Reply, NoMemory>
     requires { MayCarry (C.meaning code.now) session.old.budget session.old.next_run.0 (S.state store.old) (S.stored store.old) line.now }
-    ensures ok { IfOk result (λ r. Carries (C.meaning code.now) session.old.budget session.old.next_run.0 (S.state store.old) (S.stored store.old) line.now r
-        (S.state store.new) (S.stored store.new) session.new.budget session.new.next_run.0) }
+    ensures ok { IfOk result (λ r. SessionCarries (C.meaning code.now) session.old (S.state store.old) (S.stored store.old) line.now r session.new (S.state store.new) (S.stored store.new)) }
     ensures err { OnErr result (VersionsStay (S.state store.old) (S.state store.new)) }
     ensures same_failed { session.new.failed ≡ session.old.failed }
 {

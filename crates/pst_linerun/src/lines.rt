@@ -1,12 +1,12 @@
 //! The commands that work on heaps: a run and a query.
 
-ghost use Rattle.std.specs.Prelude.{◌≡◌, ◌+◌, ◌<◌, IfOk, OnOk, OnErr, None, length};
+ghost use Rattle.std.specs.Prelude.{◌≡◌, ◌<◌, IfOk, OnOk, OnErr, None, length};
 ghost use Rattle.pst_places.specs.State.{Unchanged};
 ghost use Rattle.pst_script.specs.declared.command.Command.TheVariants as command;
 ghost use Rattle.pst_history.specs.History.{queried};
 ghost use Rattle.pst_engine.specs.Stands.{VersionsStay};
 ghost use Rattle.pst_line.specs.declared.place.LinePlace.{LinePlace};
-ghost use Rattle.pst_linerun.specs.Carried.{Carries, MayCarry, Settled};
+ghost use Rattle.pst_linerun.specs.Carried.{CarriesQuery, CarriesRun, MayCarry, Settled};
 
 use crate::carrying::carry_out;
 use pst_base::{NoMemory, Numbers, RunNo};
@@ -56,8 +56,7 @@ pub(crate) fn run<S: LineCalls, C: Meant>(
     call: &Call,
 ) -> Result<Reply, NoMemory>
     requires { MayCarry (C.meaning code.now) budget number.0 (S.state store.old) (S.stored store.old) (command.Run call.now) }
-    ensures ok { IfOk result (λ r. Carries (C.meaning code.now) budget number.0 (S.state store.old) (S.stored store.old) (command.Run call.now) r
-        (S.state store.new) (S.stored store.new) budget (number.0 + 1)) }
+    ensures ok { IfOk result (λ r. CarriesRun (C.meaning code.now) budget number.0 (S.state store.old) (S.stored store.old) call.now r (S.state store.new) (S.stored store.new)) }
     ensures err { OnErr result (VersionsStay (S.state store.old) (S.state store.new)) }
 {
     known::<S, C>(code);
@@ -91,8 +90,7 @@ pub(crate) fn ask<S: LineCalls, C: Meant>(
     call: &Call,
 ) -> Result<Reply, NoMemory>
     requires { MayCarry (C.meaning code.now) budget number.0 (S.state store.old) (S.stored store.old) (command.Query call.now) }
-    ensures ok { IfOk result (λ r. Carries (C.meaning code.now) budget number.0 (S.state store.old) (S.stored store.old) (command.Query call.now) r
-        (S.state store.new) (S.stored store.new) budget number.0) }
+    ensures ok { IfOk result (λ r. CarriesQuery (C.meaning code.now) budget number.0 (S.state store.old) (S.stored store.old) call.now r (S.state store.new) (S.stored store.new)) }
     ensures err { OnErr result (VersionsStay (S.state store.old) (S.state store.new)) }
 {
     known::<S, C>(code);

@@ -1,5 +1,6 @@
 -- What the calls of a replayer come to.
 use Rattle.std.specs.Prelude.{◌≡◌, ◌<◌, ◌≤◌, ℕ, ◌+◌, ◌-◌, List, [], ◌∷◌, Option, Some, None, length, zero, suc, slice_get, count_by, Bool, true, false}
+use Rattle.pst_base.specs.declared.names.RunNo.{RunNo}
 use Rattle.pst_base.specs.declared.names.VersionNo.{VersionNo}
 use Rattle.pst_base.specs.declared.names.Kind.{Kind}
 use Rattle.pst_base.specs.declared.names.Kind.TheVariants.{Int, Pointer}
@@ -14,7 +15,7 @@ use Rattle.pst_history.specs.declared.history.NamedCall.{NamedCall}
 use Rattle.pst_history.specs.declared.history.Run.{Run}
 use Rattle.pst_history.specs.declared.history.Since.{Since}
 use Rattle.pst_history.specs.Meaning.{Meaning}
-use Rattle.pst_history.specs.History.{History, opening, since, is_open, with_run, run_at, opened, reply, after}
+use Rattle.pst_history.specs.History.{History, opening, since, is_open, with_run, run_at, opened, outcome_of, stepped, reply, after}
 use Rattle.pst_history.specs.Sound.{IsSoundHistory}
 use Rattle.pst_history.specs.Direct.{meaning_of}
 use Rattle.pst_eval.specs.declared.whole.Outcome.{Outcome as Told}
@@ -57,6 +58,15 @@ pub record IsEnd (o : Outcome) (e : Told) : Type 0 where
   pub end : e.ended ≡ o.end
   pub printed : e.printed ≡ o.printed
   pub counts : e.counts ≡ o.counts
+
+-- what is told of the end of a run of the history that is kept, under its grant
+abbrev pub IsEndOfRun : Program → Since → (number : ℕ) → Told → Type 0
+IsEndOfRun program s n told = (r : Run) → run_at (kept_for program s) n ≡ Some r → IsEnd (outcome_of (meaning_of program) (kept_for program s) n r r.granted) told
+
+-- whether a run of the history that is kept has ended under its grant
+abbrev pub TellsProgress : Program → Since → RunNo → Reply → Type 0
+TellsProgress program s run reply =
+    (r : Run) → run_at (kept_for program s) run.0 ≡ Some r → reply ≡ stepped run (outcome_of (meaning_of program) (kept_for program s) run.0 r r.granted).end
 
 -- a run more, and nothing else
 abbrev pub Opens : VersionNo → List NamedCall → (old new : Since) → Type 0

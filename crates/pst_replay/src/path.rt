@@ -5,12 +5,11 @@ ghost use Rattle.pst_base.specs.Heap.{OrdinaryHeap};
 ghost use Rattle.pst_program.specs.View.{routines_of};
 ghost use Rattle.pst_program.specs.Typed.{IsTyped};
 ghost use Rattle.pst_history.specs.declared.history.Descent.{Descent};
-ghost use Rattle.pst_history.specs.declared.history.Run.{Run};
 ghost use Rattle.pst_history.specs.Meaning.{IsWork};
 ghost use Rattle.pst_history.specs.History.{heap_of, outcome_of, run_at, version_count, work_of};
 ghost use Rattle.pst_history.specs.Sound.{IsSoundHistory, made_below};
 ghost use Rattle.pst_history.specs.Direct.{meaning_of};
-ghost use Rattle.pst_replay.specs.Replay.{IsEnd, IsPath, kept_for, parent_in};
+ghost use Rattle.pst_replay.specs.Replay.{IsEnd, IsEndOfRun, IsPath, kept_for, parent_in};
 
 use crate::program::{execute, first_heap};
 use crate::rows::{run_of, version_of};
@@ -112,8 +111,7 @@ pub(crate) fn outcome_under(
     requires typed { IsTyped (routines_of program.now) }
     requires sound { IsSoundHistory (meaning_of program.now) (kept_for program.now history.now) }
     requires there { IsSome (run_at (kept_for program.now history.now) number.0) }
-    ensures { IfOk result (λ o. (r : Run) → run_at (kept_for program.now history.now) number.0 ≡ Some r →
-        IsEnd (outcome_of (meaning_of program.now) (kept_for program.now history.now) number.0 r r.granted) o) }
+    ensures { IfOk result (IsEndOfRun program.now history.now number.0) }
 {
     worked(alloc, program, history, number, run_of(history, number))
 }

@@ -1,16 +1,15 @@
 //! Runs: a call more, more charges, an end, and all at once.
 
-ghost use Rattle.std.specs.Prelude.{◌≡◌, ◌+◌, ◌≤◌, IfOk, OnOk, IsSome, IsTrue, List, None, Some, length};
+ghost use Rattle.std.specs.Prelude.{◌≡◌, ◌+◌, ◌≤◌, IfOk, OnOk, IsSome, IsTrue, List, None, length};
 ghost use Rattle.pst_script.specs.declared.command.Command.TheVariants as command;
 ghost use Rattle.pst_script.specs.declared.reply.Reply.TheVariants as answer;
 ghost use Rattle.pst_base.specs.declared.shape.TypeShape.{TypeShape};
 ghost use Rattle.pst_program.specs.View.{routines_of};
 ghost use Rattle.pst_program.specs.Typed.{IsTyped};
-ghost use Rattle.pst_history.specs.declared.history.Run.{Run};
-ghost use Rattle.pst_history.specs.History.{refusal, run_at, is_open_run, outcome_of, stepped, step_reply, close_reply, closed, ended, with_run, with_version, granted_more, called_more, answered, changed};
+ghost use Rattle.pst_history.specs.History.{refusal, run_at, is_open_run, step_reply, close_reply, closed, ended, with_run, with_version, granted_more, called_more, answered, changed};
 ghost use Rattle.pst_history.specs.Sound.{IsSoundHistory};
 ghost use Rattle.pst_history.specs.Direct.{meaning_of};
-ghost use Rattle.pst_replay.specs.Replay.{Opens, kept, kept_for};
+ghost use Rattle.pst_replay.specs.Replay.{Opens, TellsProgress, kept, kept_for};
 
 use crate::path::outcome_under;
 use crate::rows::{add, grant, named_call, next_number, one_call, open, publish, run_of, shut};
@@ -46,8 +45,7 @@ fn progress(
     requires typed { IsTyped (routines_of program.now) }
     requires sound { IsSoundHistory (meaning_of program.now) (kept_for program.now history.now) }
     requires there { IsSome (run_at (kept_for program.now history.now) number.0) }
-    ensures { IfOk result (λ reply. (r : Run) → run_at (kept_for program.now history.now) number.0 ≡ Some r →
-        reply ≡ stepped number (outcome_of (meaning_of program.now) (kept_for program.now history.now) number.0 r r.granted).end) }
+    ensures { IfOk result (TellsProgress program.now history.now number) }
 {
     let outcome = outcome_under(alloc, program, history, number)?;
     match outcome.ended {

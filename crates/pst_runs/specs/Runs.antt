@@ -77,6 +77,10 @@ abbrev pub is_number : Kind → Bool
 is_number Int = true
 is_number (Pointer ty) = false
 
+-- the call of the procedure with this name, with these arguments
+abbrev pub named : List ℕ → List ℤ → NamedCall
+named procedure arguments = record { procedure = procedure; arguments = arguments }
+
 -- ---- what a run needs
 
 -- a run can begin at a place, and no record at any place has its number

@@ -6,7 +6,7 @@ ghost use Rattle.pst_history.specs.Meaning.{IsLawful, kinds_refusal};
 ghost use Rattle.pst_machine.specs.declared.activation.Activation.{Activation};
 ghost use Rattle.pst_machine.specs.Advance.{HasFewCounts};
 ghost use Rattle.pst_machine.specs.Ready.{KeepsOthers};
-ghost use Rattle.pst_runs.specs.Runs.{AdvancedBy, MayAddSome, StandingWaits, StandsBare, SurvivesOthers, WaitsForSome, WaitsWithCall, ended_of, runs_of};
+ghost use Rattle.pst_runs.specs.Runs.{AdvancedBy, MayAddSome, StandingWaits, StandsBare, SurvivesOthers, WaitsForSome, WaitsWithCall, ended_of, named, runs_of};
 
 use crate::calls::{call_of, kinds_refused};
 use pst_base::{NoMemory, Numbers, RunNo, Text};
@@ -73,10 +73,10 @@ pub fn add<H: HeapAt, C: Meant>(
     procedure: &Text,
     arguments: &Numbers,
 ) -> Result<(), NoMemory>
-    requires { (h : H) × MayAddSome (C.meaning code.now) (runs_of (λ a. a.stage) (C.parts code.now)) (H.state h) activation.old (record { procedure = procedure.now; arguments = arguments.now }) }
+    requires { (h : H) × MayAddSome (C.meaning code.now) (runs_of (λ a. a.stage) (C.parts code.now)) (H.state h) activation.old (named procedure.now arguments.now) }
     ensures place { OnOk result (activation.new.stage.standing.place ≡ activation.old.stage.standing.place) }
     ensures waits { OnOk result ((h : H) → WaitsWithCall (C.meaning code.now) (runs_of (λ a. a.stage) (C.parts code.now)) (H.state h)
-        activation.old (record { procedure = procedure.now; arguments = arguments.now }) activation.new) }
+        activation.old (named procedure.now arguments.now) activation.new) }
     ensures err { OnErr result (activation.new ≡ activation.old) }
 {
     let code = code.code();
