@@ -4,28 +4,29 @@ use Rattle.std.specs.Prelude.{IfSome}
 use Rattle.std.specs.Io.KnownBytes.{Appends}
 use Rattle.std.proofs.KnownBytes.{Appends-nil}
 use Rattle.pst_tree.specs.Syntax.{ProgramText}
-use Rattle.pst_types.specs.ProcedureView.{program_of}
+use Rattle.pst_typing.specs.View.{program_of}
 use Rattle.pst_program.specs.declared.program.Program.{Program}
 use Rattle.pst_history.specs.Direct.{meaning_of}
 use Rattle.pst_io.specs.declared.room.TheConstants.{MOST_INPUT}
 use Rattle.pst_io.specs.Input.{InputState, Gives, IsCutOff, EndsWhereSeen, bytes_read, pending}
 use Rattle.pst_io.proofs.Handing.{gives_then}
-use Rattle.pst_cli.specs.declared.fault.Fault.{Fault}
+use Rattle.pst_judge.specs.declared.fault.Fault.{Fault}
 use Rattle.pst_cli.specs.declared.job.Job.TheVariants.{Run}
 use Rattle.pst_cli.specs.declared.job.Question.{Question}
-use Rattle.pst_cli.specs.declared.stop.Stop.{Stop}
-use Rattle.pst_cli.specs.declared.stop.Stop.TheVariants as stop
+use Rattle.pst_sessions.specs.declared.stop.Stop.{Stop}
+use Rattle.pst_sessions.specs.declared.stop.Stop.TheVariants as stop
 use Rattle.pst_cli.specs.declared.status.Status.{Status}
 use Rattle.pst_cli.specs.declared.status.Status.TheVariants.{Done, ReadFault, WriteFault, Usage, Refused, TooLong, Memory}
-use Rattle.pst_cli.specs.Input.{CutInput, cut, cut_of}
-use Rattle.pst_cli.specs.Pieces.{IsPartOf}
-use Rattle.pst_cli.specs.Verdict.{Verdict, Accepted, Refused as IsRefusedBy, Judged, HasFault}
-use Rattle.pst_cli.specs.Script.{by_tree}
-use Rattle.pst_cli.specs.Kept.{Kept, history_after}
+use Rattle.pst_sessions.specs.Input.{CutInput, cut, cut_of}
+use Rattle.pst_sessions.specs.Pieces.{IsPartOf}
+use Rattle.pst_judge.specs.Verdict.{Verdict, Accepted, Refused as IsRefusedBy, Judged, HasFault}
+use Rattle.pst_sessions.specs.Script.{by_tree}
+use Rattle.pst_sessions.specs.Kept.{Kept, history_after}
 use Rattle.pst_cli.specs.Output.{OfVerdict, Accepting}
-use Rattle.pst_cli.specs.Reading.{GivesPast, GivesUntil, ReadsText}
+use Rattle.pst_sessions.specs.Reading.{GivesPast, GivesUntil, ReadsText}
 use Rattle.pst_cli.specs.Rows.{IsWithin, ReadsAll}
-use Rattle.pst_cli.specs.Serving.{Refuses, StopsAtReply, status_of}
+use Rattle.pst_cli.specs.Serving.{Refuses, status_of}
+use Rattle.pst_sessions.specs.Sessions.{StopsAtReply}
 use Rattle.pst_cli.specs.Asking.{Tells, Answered, IsAnswer, IsPartOfAnswer, StopsInFault, BreaksAt, CarriedTo, StopsInScript, LacksAnswer, AskRow, GivesAll, StopsAsking, StopsText, Asks}
 use Rattle.pst_cli.proofs.RowLemmas.{fresh, stops_front, LongFront, long_by, long_row, lacks_text, lacks_program, cuts, readable, reads_up_to, told_text, refused_alike, of_text, whole_input, was_going, after_program}
 use Rattle.pst_cli.proofs.Serving.{one_whole}

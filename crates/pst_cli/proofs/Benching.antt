@@ -1,7 +1,7 @@
 -- What comes of the bench.
 use Rattle.std.proofs.Common.{◌≡◌, ℕ, ◌⊎◌, inl, inr, List, [], refl, sym, ap, ◌∙◌, subst, ℤ, ◌+ℤ◌, pos, fold, length, Option, Some}
 use Rattle.pst_tree.specs.Syntax.{ProgramText}
-use Rattle.pst_types.specs.ProcedureView.{program_of}
+use Rattle.pst_typing.specs.View.{program_of}
 use Rattle.pst_program.specs.declared.program.Program.{Program}
 use Rattle.pst_script.specs.Texts.{text_of}
 use Rattle.pst_script.specs.declared.command.Command.TheVariants.{Stats}
@@ -11,17 +11,18 @@ use Rattle.pst_history.specs.History.{History, reply, refusal, version_count, co
 use Rattle.pst_history.specs.Direct.{meaning_of}
 use Rattle.pst_meaning.specs.Store.{Stored}
 use Rattle.pst_store.specs.Whole.{nodes_in, state_in}
-use Rattle.pst_cli.specs.declared.fault.Fault.{Fault}
-use Rattle.pst_cli.specs.declared.stop.Stop.{Stop}
-use Rattle.pst_cli.specs.declared.stop.Stop.TheVariants as stop
+use Rattle.pst_judge.specs.declared.fault.Fault.{Fault}
+use Rattle.pst_sessions.specs.declared.stop.Stop.{Stop}
+use Rattle.pst_sessions.specs.declared.stop.Stop.TheVariants as stop
 use Rattle.pst_cli.specs.declared.status.Status.{Status}
 use Rattle.pst_cli.specs.declared.status.Status.TheVariants.{Done, ReadFault, WriteFault, Usage, Refused, TooLong, Memory}
-use Rattle.pst_cli.specs.Pieces.{AfterSome, IsPartOf}
-use Rattle.pst_cli.specs.Script.{by_tree, script_of}
-use Rattle.pst_cli.specs.Kept.{first_history, history_after}
-use Rattle.pst_cli.specs.Verdict.{Accepted, Refused as IsRefusedBy, Judged, HasFault}
-use Rattle.pst_cli.specs.Serving.{Refuses, StopsAtReply, status_of}
-use Rattle.pst_cli.specs.Storing.{IsLeft, IsBroken}
+use Rattle.pst_sessions.specs.Pieces.{AfterSome, IsPartOf}
+use Rattle.pst_sessions.specs.Script.{by_tree, script_of}
+use Rattle.pst_sessions.specs.Kept.{first_history, history_after}
+use Rattle.pst_judge.specs.Verdict.{Accepted, Refused as IsRefusedBy, Judged, HasFault}
+use Rattle.pst_cli.specs.Serving.{Refuses, status_of}
+use Rattle.pst_sessions.specs.Sessions.{StopsAtReply}
+use Rattle.pst_sessions.specs.Storing.{IsLeft, IsBroken}
 use Rattle.pst_cli.specs.Bench.{printed_from, summary, summary_of, BenchRow}
 use Rattle.pst_cli.proofs.Summing.{after_all}
 

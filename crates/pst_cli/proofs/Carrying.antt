@@ -23,9 +23,8 @@ use Rattle.pst_changed.specs.declared.slots.PathStep.{PathStep}
 use Rattle.pst_changed.specs.Reading.{reading}
 use Rattle.pst_changed.specs.Change.{Readings, IsFirstChange, NeverChanged, heap_from, readings_of}
 use Rattle.pst_changed.specs.Laws.{AgreeBelow, VersionsThereDecide}
-use Rattle.pst_cli.specs.Pieces.{Answering, state_after}
-use Rattle.pst_cli.specs.Reading.{GivesUntil}
-use Rattle.pst_cli.specs.Reasons.{stop_of}
+use Rattle.pst_sessions.specs.Pieces.{Answering, state_after}
+use Rattle.pst_sessions.specs.Reading.{GivesUntil, stop_of}
 use Rattle.pst_cli.specs.Asking.{parent_in, readings_in, TellsOf, TellsChange, WhereThere, StopsCarrying}
 
 -- reading stopped, and all that was handed out is carried out

@@ -10,10 +10,10 @@ use Rattle.pst_changed.specs.declared.slots.PathStep.{PathStep}
 use Rattle.pst_changed.specs.Path.{resolved}
 use Rattle.pst_cli.specs.declared.job.Question.{Question}
 use Rattle.pst_cli.specs.declared.job.Question.TheVariants.{Changed}
-use Rattle.pst_cli.specs.declared.stop.Stop.{Stop}
-use Rattle.pst_cli.specs.declared.stop.Stop.TheVariants as stop
-use Rattle.pst_cli.specs.Script.{Rules, by_tree, script_of}
-use Rattle.pst_cli.specs.Kept.{Kept, kept_by, first_history, history_after}
+use Rattle.pst_sessions.specs.declared.stop.Stop.{Stop}
+use Rattle.pst_sessions.specs.declared.stop.Stop.TheVariants as stop
+use Rattle.pst_sessions.specs.Script.{Rules, by_tree, script_of}
+use Rattle.pst_sessions.specs.Kept.{Kept, kept_by, first_history, history_after}
 use Rattle.pst_cli.specs.Asking.{readings_in, Tells, TellsOf, TellsChange, TellsPath, GivesAll, StopsCarrying, StopsAsking, Finds}
 
 -- ---- paths

@@ -1,16 +1,11 @@
-pub mod Cutting
 pub mod Counting
-pub mod Writing
-pub mod Keeping
-pub mod Reading
 pub mod Serving
 pub mod Stores
 pub mod RowLemmas
-pub mod Verdicts
+pub mod Outputs
 pub mod Numerals
 pub mod Summing
 pub mod Benching
 pub mod Carrying
 pub mod AskRows
-pub mod Early
 pub mod Finding

@@ -13,18 +13,18 @@ use Rattle.pst_cli.specs.declared.job.Job.{Job}
 use Rattle.pst_cli.specs.declared.job.Job.TheVariants.{Run, Replay, Line, Check, Code}
 use Rattle.pst_cli.specs.declared.job.Task.{Task}
 use Rattle.pst_cli.specs.declared.job.Task.TheVariants.{Input}
-use Rattle.pst_cli.specs.declared.page.Page.{Page}
-use Rattle.pst_cli.specs.declared.page.Page.TheVariants.{Canonical, Listing}
-use Rattle.pst_cli.specs.declared.stop.Stop.{Stop}
-use Rattle.pst_cli.specs.declared.stop.Stop.TheVariants as stop
+use Rattle.pst_judge.specs.declared.page.Page.{Page}
+use Rattle.pst_judge.specs.declared.page.Page.TheVariants.{Canonical, Listing}
+use Rattle.pst_sessions.specs.declared.stop.Stop.{Stop}
+use Rattle.pst_sessions.specs.declared.stop.Stop.TheVariants as stop
 use Rattle.pst_cli.specs.declared.status.Status.{Status}
 use Rattle.pst_cli.specs.declared.status.Status.TheVariants.{Done, ReadFault, WriteFault, Usage, Refused, TooLong, Memory}
-use Rattle.pst_cli.specs.Input.{CutInput, cut, cut_of, bytes_of, up_to}
-use Rattle.pst_cli.specs.Pieces.{IsAll}
-use Rattle.pst_cli.specs.Verdict.{Verdict, Accepted, Refused as IsRefusedBy, Judged, IsAccepted, IsRefused}
-use Rattle.pst_cli.specs.Kept.{Kept, still}
+use Rattle.pst_sessions.specs.Input.{CutInput, cut, cut_of, bytes_of, up_to}
+use Rattle.pst_sessions.specs.Pieces.{IsAll}
+use Rattle.pst_judge.specs.Verdict.{Verdict, Accepted, Refused as IsRefusedBy, Judged, IsAccepted, IsRefused}
+use Rattle.pst_sessions.specs.Kept.{Kept, still}
 use Rattle.pst_cli.specs.Output.{rules_of, replied, printed, Outputs, OfVerdict, Accepting, Refusing, StopsInPiece, StopsBeforePiece, StopsInPage}
-use Rattle.pst_cli.specs.Reading.{GivesPast, GivesUntil, IsTextOf, IsNear, ReadsText}
+use Rattle.pst_sessions.specs.Reading.{GivesPast, GivesUntil, IsTextOf, IsNear, ReadsText}
 use Rattle.pst_cli.specs.Rows.{IsReadable, IsWithin, HasRead, ReadsUpTo, ReadsAll, Writes, CutOff, StopsReading, StopsScript, StopsWriting, LacksProgram, LacksReply, LacksRoom, Row, IsComplete, IsServable}
 use Rattle.pst_cli.specs.Serving.{ReadsNothing, ServesInPart, Serves, Prints, status_of}
 use Rattle.pst_cli.proofs.Counting.{bytes_of-append, lines_least, lines_front, cut_bytes, whole_bytes, near_program}

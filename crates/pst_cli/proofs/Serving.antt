@@ -2,30 +2,32 @@
 use Rattle.std.proofs.Common.{◌≡◌, ℕ, inl, inr, List, [], ◌∷◌, refl, sym, ◌∙◌, subst, Option, Some, append-nil}
 use Rattle.std.specs.Io.KnownBytes.{Appends, IsAtEnd}
 use Rattle.pst_tree.specs.Syntax.{ProgramText}
-use Rattle.pst_types.specs.Declarations.{NamedProgram}
+use Rattle.pst_typing.specs.Declarations.{NamedProgram}
 use Rattle.pst_program.specs.declared.program.Program.{Program}
-use Rattle.pst_types.specs.ProcedureView.{program_of}
+use Rattle.pst_typing.specs.View.{program_of}
 use Rattle.pst_history.specs.Meaning.{Meaning}
 use Rattle.pst_history.specs.History.{History}
 use Rattle.pst_history.specs.Direct.{meaning_of}
 use Rattle.pst_io.specs.Input.{InputState, Gives, IsOver}
 use Rattle.pst_io.proofs.Handing.{gives_none}
-use Rattle.pst_cli.specs.declared.fault.Fault.{Fault}
+use Rattle.pst_judge.specs.declared.fault.Fault.{Fault}
 use Rattle.pst_cli.specs.declared.job.Job.{Job}
 use Rattle.pst_cli.specs.declared.job.Job.TheVariants.{Check, Code}
-use Rattle.pst_cli.specs.declared.page.Page.{Page}
-use Rattle.pst_cli.specs.declared.page.Page.TheVariants.{Canonical, Listing}
-use Rattle.pst_cli.specs.declared.stop.Stop.{Stop}
-use Rattle.pst_cli.specs.declared.stop.Stop.TheVariants as stop
+use Rattle.pst_judge.specs.declared.page.Page.{Page}
+use Rattle.pst_judge.specs.declared.page.Page.TheVariants.{Canonical, Listing}
+use Rattle.pst_sessions.specs.declared.stop.Stop.{Stop}
+use Rattle.pst_sessions.specs.declared.stop.Stop.TheVariants as stop
 use Rattle.pst_cli.specs.declared.status.Status.{Status}
 use Rattle.pst_cli.specs.declared.status.Status.TheVariants.{Done, ReadFault, WriteFault, Usage, Refused, TooLong, Memory}
-use Rattle.pst_cli.specs.Pieces.{pieces_from, state_after, IsAll, IsPartOf}
-use Rattle.pst_cli.specs.Script.{Rules, script_of}
-use Rattle.pst_cli.specs.Kept.{Kept, first_history, kept_by, still}
-use Rattle.pst_cli.specs.Verdict.{Accepted, Refused as IsRefusedBy, Judged, HasFault}
-use Rattle.pst_cli.specs.Output.{page_text, replied, Outputs, OfVerdict, Accepting, Refusing, StopsInPiece, StopsBeforePiece}
-use Rattle.pst_cli.specs.Reading.{IsNear}
-use Rattle.pst_cli.specs.Serving.{Refuses, StopsAtReply, StopsAnswering, Serves, Prints, status_of}
+use Rattle.pst_sessions.specs.Pieces.{pieces_from, state_after, IsAll, IsPartOf}
+use Rattle.pst_sessions.specs.Script.{Rules, script_of}
+use Rattle.pst_sessions.specs.Kept.{Kept, first_history, kept_by, still}
+use Rattle.pst_judge.specs.Verdict.{Accepted, Refused as IsRefusedBy, Judged, HasFault}
+use Rattle.pst_judge.specs.Pages.{page_text}
+use Rattle.pst_cli.specs.Output.{replied, Outputs, OfVerdict, Accepting, Refusing, StopsInPiece, StopsBeforePiece}
+use Rattle.pst_sessions.specs.Reading.{IsNear}
+use Rattle.pst_cli.specs.Serving.{Refuses, Serves, Prints, status_of}
+use Rattle.pst_sessions.specs.Sessions.{StopsAtReply, StopsAnswering}
 
 pub one_whole : (piece out : List ℕ) → out ≡ piece → IsAll (piece ∷ []) out
 one_whole piece out is = is ∙ sym (append-nil piece)

@@ -8,12 +8,14 @@ use Rattle.pst_base.specs.declared.names.VersionNo.{VersionNo}
 use Rattle.pst_io.specs.declared.room.TheConstants.{MOST_INPUT}
 use Rattle.pst_io.specs.Text.{whole_lines}
 use Rattle.pst_io.specs.Input.{InputState, Gives, IsOver, IsCutOff}
+use Rattle.pst_io.specs.Lines.{LinesState}
 use Rattle.pst_program.specs.declared.program.Program.{Program}
 use Rattle.pst_places.specs.State.{State}
-use Rattle.pst_types.specs.ProcedureView.{program_of}
+use Rattle.pst_typing.specs.View.{program_of}
 use Rattle.pst_history.specs.Meaning.{Meaning}
 use Rattle.pst_history.specs.History.{History, heap_of, version_count}
 use Rattle.pst_history.specs.Direct.{direct}
+use Rattle.pst_meaning.specs.Store.{Stored}
 use Rattle.pst_dump.specs.Dump.{IsDump}
 use Rattle.pst_changed.specs.declared.slots.PathStep.{PathStep}
 use Rattle.pst_changed.specs.Path.{resolved}
@@ -24,17 +26,20 @@ use Rattle.pst_cli.specs.declared.job.Question.{Question}
 use Rattle.pst_cli.specs.declared.job.Question.TheVariants.{Dump, Changed}
 use Rattle.pst_cli.specs.declared.status.Status.{Status}
 use Rattle.pst_cli.specs.declared.status.Status.TheVariants.{Done, ReadFault, WriteFault, Usage, Refused, TooLong, Memory}
-use Rattle.pst_cli.specs.declared.stop.Stop.{Stop}
-use Rattle.pst_cli.specs.declared.stop.Stop.TheVariants as stop
-use Rattle.pst_cli.specs.Input.{CutInput, cut, cut_of}
-use Rattle.pst_cli.specs.Pieces.{Answering, state_after, BreaksIn, IsAll, IsPartOf}
-use Rattle.pst_cli.specs.Verdict.{Verdict, Accepted, Refused as IsRefusedBy, fault_text}
-use Rattle.pst_cli.specs.Script.{by_tree}
-use Rattle.pst_cli.specs.Kept.{Kept, history_after}
-use Rattle.pst_cli.specs.Output.{routines_in, replied, Outputs, OfVerdict, Accepting, Refusing}
-use Rattle.pst_cli.specs.Reading.{GivesPast, IsNear}
+use Rattle.pst_sessions.specs.declared.stop.Stop.{Stop}
+use Rattle.pst_sessions.specs.declared.stop.Stop.TheVariants as stop
+use Rattle.pst_judge.specs.Verdict.{Accepted, Refused as IsRefusedBy}
+use Rattle.pst_cli.specs.Output.{replied, Outputs, OfVerdict, Accepting, Refusing}
 use Rattle.pst_cli.specs.Rows.{IsReadable, IsWithin, HasRead, ReadsUpTo, ReadsAll, Writes, LacksProgram}
 use Rattle.pst_cli.specs.Serving.{ReadsNothing}
+use Rattle.pst_sessions.specs.Input.{CutInput, cut, cut_of}
+use Rattle.pst_sessions.specs.Pieces.{Answering, state_after, BreaksIn, IsAll, IsPartOf}
+use Rattle.pst_judge.specs.Verdict.{Verdict, fault_text}
+use Rattle.pst_sessions.specs.Script.{Rules, by_tree, script_of}
+use Rattle.pst_sessions.specs.Kept.{Kept, history_after}
+use Rattle.pst_judge.specs.Pages.{routines_in}
+use Rattle.pst_sessions.specs.Reading.{GivesPast, IsNear}
+use Rattle.pst_cli.specs.Held.{kept_in}
 
 -- ---- the answer
 
@@ -152,6 +157,13 @@ abbrev pub Carries : {A T : Type 0} → Answering A → A → (stands leaves bre
 Carries m h stands leaves breaks (Ok done) a left b left' = (lines : List (List ℕ)) × GivesAll a left b left' lines × stands (state_after m h lines)
 Carries m h stands leaves breaks (Err s) a left b left' = (lines : List (List ℕ)) × StopsCarrying m h leaves breaks s a left b left' lines
 
+-- so it is on a history of a program for a session with these rules and for what it holds then, and for a reader of lines and its
+-- source, as they were and are
+abbrev pub CarriesScript : {A T U S : Type 0} → Rules → (stands : A → T → Meaning → History → Type 0) → (leaves breaks : Meaning → T → History → Type 0) → (session : A) → (held : T) → Result U Stop
+    → (left : S → Option (List ℕ)) → LinesState → S → LinesState → S → Meaning → History → Type 0
+CarriesScript rules stands leaves breaks session held result left lines source lines' source' m h =
+    Carries (script_of rules m) h (stands session held m) (leaves m held) (breaks m held) result lines.input (left source) lines'.input (left source')
+
 -- Carrying out the lines of a script stopped, or there was no room for the program or for the answer behind the last line: what
 -- is held is untouched, or is left so after these lines, or broken so in the last of them.
 abbrev pub StopsAsking : (untouched : Type 0) → (leaves breaks : List (List ℕ) → Type 0) → Stop → InputState → Option (List ℕ) → InputState → Option (List ℕ) → Type 0
@@ -187,3 +199,8 @@ Asks ReadFault k question path a left b left' text out = (out ≡ []) × StopsTe
 Asks TooLong k question path a left b left' text out = (out ≡ []) × StopsText k text stop.TooLong a left b left'
 Asks Memory k question path a left b left' text out = (out ≡ []) × StopsText k text stop.Memory a left b left'
 Asks Usage k question path a left b left' text out = ⊥
+
+-- so it is for the store, as it was and is, and for a reader of lines and its source
+abbrev pub AsksScript : {S : Type 0} → Status → (old new : Option Stored) → Question → (path : List ℕ) → (left : S → Option (List ℕ)) → LinesState → S → LinesState → S → (text out : List ℕ) → Type 0
+AsksScript status old new question path left lines source lines' source' text out =
+    Asks status (kept_in old new Run) question path lines.input (left source) lines'.input (left source') text out

@@ -16,12 +16,13 @@ use Rattle.pst_meaning.specs.Store.{Stored}
 use Rattle.pst_store.specs.Whole.{nodes_in}
 use Rattle.pst_cli.specs.declared.status.Status.{Status}
 use Rattle.pst_cli.specs.declared.status.Status.TheVariants.{Done, ReadFault, WriteFault, Usage, Refused, TooLong, Memory}
-use Rattle.pst_cli.specs.Pieces.{AfterSome, IsPartOf}
-use Rattle.pst_cli.specs.Script.{Rules, by_tree, answer_of, next_of, script_of}
-use Rattle.pst_cli.specs.Kept.{first_history, history_after}
-use Rattle.pst_cli.specs.Verdict.{Verdict, Accepted, Refused as IsRefusedBy, fault_text}
-use Rattle.pst_cli.specs.Output.{routines_in, OfVerdict}
-use Rattle.pst_cli.specs.Storing.{IsLeft, IsBroken}
+use Rattle.pst_sessions.specs.Pieces.{AfterSome, IsPartOf}
+use Rattle.pst_sessions.specs.Script.{Rules, by_tree, answer_of, next_of, script_of}
+use Rattle.pst_sessions.specs.Kept.{first_history, history_after}
+use Rattle.pst_judge.specs.Verdict.{Verdict, Accepted, Refused as IsRefusedBy, fault_text}
+use Rattle.pst_judge.specs.Pages.{routines_in}
+use Rattle.pst_cli.specs.Output.{OfVerdict}
+use Rattle.pst_sessions.specs.Storing.{IsLeft, IsBroken}
 
 -- ---- the numbers that were printed
 
@@ -88,10 +89,12 @@ StopsBench lines old new out (Accepted syntax program) =
 StopsBench lines old new out (IsRefusedBy fault) = (new ≡ old) × IsPartOf (fault_text fault) out
 
 -- the store has the versions of the history after some first ones of the lines
+abbrev pub IsBrokenAfterSome : Meaning → List (List ℕ) → Option Stored → Type 0
+IsBrokenAfterSome m lines store = AfterSome (script_of by_tree m) (first_history m) (IsBroken m store) lines
+
+-- so it has, for an accepted program
 abbrev pub BreaksBench : List (List ℕ) → Option Stored → Verdict → Type 0
-BreaksBench lines new (Accepted syntax program) =
-    let m = direct (routines_in program) in
-    AfterSome (script_of by_tree m) (first_history m) (IsBroken m new) lines
+BreaksBench lines new (Accepted syntax program) = IsBrokenAfterSome (direct (routines_in program)) lines new
 BreaksBench lines new (IsRefusedBy fault) = ⊥
 
 -- The row of a status, for the text of the program and what was written. Whether the text is refused only a test can show: no clause

@@ -1,5 +1,6 @@
 -- What the words ask for.
-use Rattle.std.specs.Prelude.{ℕ, ◌^◌, Bool, List, [], ◌∷◌, Option, Some, None, if◌then◌else◌, codes, nat_lt, ◌&&◌, slice_index_or}
+use Rattle.std.specs.Prelude.{◌≡◌, ℕ, ◌^◌, Bool, List, [], ◌∷◌, map, Option, Some, None, String, string_bytes, if◌then◌else◌, codes, nat_lt, ◌&&◌, slice_index_or}
+use Rattle.std.specs.declared.alloc.Global.{Global}
 use Rattle.std.specs.Option.{option_map}
 use Rattle.std.specs.Str.{bytes_eq}
 use Rattle.pst_base.specs.declared.names.VersionNo.{VersionNo}
@@ -7,6 +8,7 @@ use Rattle.pst_changed.specs.Path.{is_path}
 use Rattle.pst_script.specs.Numerals.{number_of as written_number, passing, fits_32_bits}
 use Rattle.pst_cli.specs.declared.job.Job.{Job}
 use Rattle.pst_cli.specs.declared.job.Job.TheVariants.{Run, Replay, Line, Check, Code}
+use Rattle.pst_cli.specs.declared.job.Question.{Question}
 use Rattle.pst_cli.specs.declared.job.Question.TheVariants.{Dump, Changed}
 use Rattle.pst_cli.specs.declared.job.Task.{Task}
 use Rattle.pst_cli.specs.declared.job.Task.TheVariants.{Input, Bench, Ask}
@@ -48,6 +50,22 @@ task_of (word ∷ number ∷ path ∷ more ∷ words) = None
 -- the path among words: the third one
 abbrev pub path_in : List (List ℕ) → List ℕ
 path_in words = slice_index_or words 2 []
+
+-- what the words of a call ask for
+abbrev pub task_in : List (String Global) → Option Task
+task_in words = task_of (map string_bytes words)
+
+-- where they ask for a job, this holds of it
+abbrev pub OnJob : List (String Global) → (Job → Type 0) → Type 0
+OnJob words Holds = (job : Job) → task_in words ≡ Some (Input job) → Holds job
+
+-- where they ask for the bench, this holds of its number
+abbrev pub OnBench : List (String Global) → (ℕ → Type 0) → Type 0
+OnBench words Holds = (number : ℕ) → task_in words ≡ Some (Bench number) → Holds number
+
+-- where they ask a question, this holds of it and of the path among them
+abbrev pub OnQuestion : List (String Global) → (Question → List ℕ → Type 0) → Type 0
+OnQuestion words Holds = (question : Question) → task_in words ≡ Some (Ask question) → Holds question (path_in (map string_bytes words))
 
 -- the number of a status, with which the program ends
 abbrev pub number_of : Status → ℕ

@@ -1,16 +1,8 @@
-pub mod Input
-pub mod Pieces
-pub mod Script
-pub mod Kept
-pub mod Verdict
 pub mod Jobs
 pub mod Output
-pub mod Reasons
-pub mod Reading
+pub mod Held
 pub mod Rows
 pub mod Serving
-pub mod Storing
-pub mod Lining
 pub mod Bench
 pub mod Asking
 pub mod Laws

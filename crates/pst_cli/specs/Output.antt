@@ -1,25 +1,16 @@
 -- The output of an input, as pieces.
 use Rattle.std.specs.Prelude.{◌≡◌, ℕ, List, [], ◌∷◌}
-use Rattle.pst_tree.specs.Syntax as tree
-use Rattle.pst_program.specs.Syntax.{Routines}
-use Rattle.pst_types.specs.Declarations.{NamedProgram}
-use Rattle.pst_notation.specs.Canonical.{canonical}
-use Rattle.pst_compiled.specs.Compiled.{code_of}
-use Rattle.pst_listing.specs.Listing.{listed}
 use Rattle.pst_history.specs.Meaning.{Meaning}
 use Rattle.pst_history.specs.Direct.{direct}
 use Rattle.pst_cli.specs.declared.job.Job.{Job}
 use Rattle.pst_cli.specs.declared.job.Job.TheVariants.{Run, Replay, Line, Check, Code}
-use Rattle.pst_cli.specs.declared.page.Page.{Page}
-use Rattle.pst_cli.specs.declared.page.Page.TheVariants.{Canonical, Listing}
-use Rattle.pst_cli.specs.Pieces.{pieces_from, IsPartOf, StopsInReply, StopsBeforeReply}
-use Rattle.pst_cli.specs.Script.{Rules, by_tree, by_line, script_of}
-use Rattle.pst_cli.specs.Kept.{Kept, first_history}
-use Rattle.pst_cli.specs.Verdict.{Verdict, Accepted, Refused, Judged, fault_text}
-
--- a program without the names that only its text needs
-abbrev pub routines_in : NamedProgram → Routines
-routines_in program = record { shape = program.shape; procedures = program.procedures }
+use Rattle.pst_judge.specs.declared.page.Page.{Page}
+use Rattle.pst_judge.specs.declared.page.Page.TheVariants.{Canonical, Listing}
+use Rattle.pst_sessions.specs.Pieces.{pieces_from, IsPartOf, StopsInReply, StopsBeforeReply}
+use Rattle.pst_sessions.specs.Script.{Rules, by_tree, by_line, script_of}
+use Rattle.pst_sessions.specs.Kept.{Kept, first_history}
+use Rattle.pst_judge.specs.Pages.{routines_in, page_text}
+use Rattle.pst_judge.specs.Verdict.{Verdict, Accepted, Refused, Judged, fault_text}
 
 -- the replies to a script, from the history of the opening on in which version 0 is alone
 abbrev pub replies_of : Rules → Meaning → List (List ℕ) → List (List ℕ)
@@ -29,11 +20,6 @@ replies_of rules m script = pieces_from (script_of rules m) (first_history m) sc
 abbrev pub replied : Rules → List (List ℕ) → Verdict → List (List ℕ)
 replied rules script (Refused fault) = fault_text fault ∷ []
 replied rules script (Accepted syntax program) = replies_of rules (direct (routines_in program)) script
-
--- the canonical text of a program, or the listing of its code
-abbrev pub page_text : Page → tree.ProgramText → NamedProgram → List ℕ
-page_text Canonical syntax program = canonical syntax
-page_text Listing syntax program = listed (code_of (routines_in program)) program.names
 
 -- the line of the fault, or the page
 abbrev pub printed : Page → Verdict → List (List ℕ)

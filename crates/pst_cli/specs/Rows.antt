@@ -1,21 +1,23 @@
 -- The table of statuses: what was read of the input, what was written, and what is held in the end.
-use Rattle.std.specs.Prelude.{◌≡◌, ℕ, ◌+◌, ◌<◌, ◌≤◌, ◌⊎◌, min, List, [], ◌++◌, length, take, drop, Option, Some, None, IsSome}
+use Rattle.std.specs.Prelude.{◌≡◌, ℕ, ◌+◌, ◌<◌, ◌≤◌, ◌⊎◌, min, List, [], ◌++◌, length, take, drop, Option, Some, None, IfSome, IsSome}
 use Rattle.pst_io.specs.declared.room.TheConstants.{MOST_INPUT, MOST_READ}
+use Rattle.pst_io.specs.Causes.{Rose}
 use Rattle.pst_io.specs.Text.{whole_lines}
 use Rattle.pst_cli.specs.declared.job.Job.{Job}
 use Rattle.pst_cli.specs.declared.job.Job.TheVariants.{Run, Replay, Line, Check, Code}
 use Rattle.pst_cli.specs.declared.job.Task.{Task}
 use Rattle.pst_cli.specs.declared.job.Task.TheVariants.{Input, Bench, Ask}
-use Rattle.pst_cli.specs.declared.page.Page.{Page}
-use Rattle.pst_cli.specs.declared.page.Page.TheVariants.{Canonical, Listing}
+use Rattle.pst_judge.specs.declared.page.Page.{Page}
+use Rattle.pst_judge.specs.declared.page.Page.TheVariants.{Canonical, Listing}
 use Rattle.pst_cli.specs.declared.status.Status.{Status}
 use Rattle.pst_cli.specs.declared.status.Status.TheVariants.{Done, ReadFault, WriteFault, Usage, Refused, TooLong, Memory}
-use Rattle.pst_cli.specs.Input.{CutInput, cut, cut_of, up_to}
-use Rattle.pst_cli.specs.Pieces.{IsAll}
-use Rattle.pst_cli.specs.Verdict.{Verdict}
-use Rattle.pst_cli.specs.Script.{Rules}
-use Rattle.pst_cli.specs.Kept.{Kept}
 use Rattle.pst_cli.specs.Output.{rules_of, pieces, Outputs, OfVerdict, Accepting, Refusing, StopsInPiece, StopsBeforePiece, StopsInPage}
+use Rattle.pst_sessions.specs.Input.{CutInput, cut, cut_of, up_to}
+use Rattle.pst_sessions.specs.Pieces.{IsAll}
+use Rattle.pst_judge.specs.Verdict.{Verdict}
+use Rattle.pst_sessions.specs.Script.{Rules}
+use Rattle.pst_sessions.specs.Kept.{Kept}
+use Rattle.pst_sessions.specs.Sessions.{HasTaken}
 
 -- ---- what was read
 
@@ -117,6 +119,14 @@ Row ReadFault k job input left out = StopsReading k job input left out
 Row TooLong k job input left out = (MOST_INPUT < length input) × (left ≡ Some (drop (MOST_INPUT + 1) input)) × CutOff k (cut (whole_lines (take MOST_INPUT input))) job out
 Row Memory k job input left out = StopsReading k job input left out ⊎ LacksRoom k job input left out
 Row Usage k job input left out = ⊥
+
+-- Where the source tells its bytes, a row holds of them, of what it has left, and of what was written.
+abbrev pub HasRow : {S K : Type 0} → (left : S → Option (List ℕ)) → (source source' : S) → (taken : K → Option (List ℕ)) → (sink sink' : K) → (row : List ℕ → Option (List ℕ) → List ℕ → Type 0) → Type 0
+HasRow left source source' taken sink sink' row = IfSome (left source) (λ input. HasTaken taken sink sink' (row input (left source')))
+
+-- the count of faults of a source or sink did not rise
+abbrev pub NoFault : {T : Type 0} → (faults : T → ℕ) → (old new : T) → Type 0
+NoFault faults old new = Rose (faults old) (faults new) → ⊥
 
 -- how a call ends in which neither the source nor the sink failed, and the input was not too long
 abbrev pub IsComplete : Status → Type 0

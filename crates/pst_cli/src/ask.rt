@@ -1,8 +1,7 @@
 //! Questions about the versions that a script makes: the script is carried out without its replies, and then the answer is written.
 
-ghost use Rattle.std.specs.Prelude.{◌≡◌, ◌≤◌, ◌+◌, ◌<◌, ◌^◌, List, ℕ, None, Err, length, IfOk, IfSome, slice_get};
+ghost use Rattle.std.specs.Prelude.{◌≡◌, ◌≤◌, ◌+◌, ◌<◌, ◌^◌, None, Err, length, IfOk, slice_get};
 ghost use Rattle.pst_cli.specs.declared.job.Job.{Job};
-ghost use Rattle.std.specs.Io.KnownBytes.{Appends};
 ghost use Rattle.pst_io.specs.Causes.{Rose};
 ghost use Rattle.pst_io.specs.Input.{bytes_read};
 ghost use Rattle.pst_io.specs.Lines.{IsOpen};
@@ -16,31 +15,27 @@ ghost use Rattle.pst_engine.specs.Stands.{HoldsVersions};
 ghost use Rattle.pst_dump.specs.Dump.{IsDump};
 ghost use Rattle.pst_changed.specs.Path.{IsPathIn};
 ghost use Rattle.pst_changed.specs.Change.{readings_of, heap_from};
-ghost use Rattle.pst_cli.specs.Script.{by_tree, script_of};
-ghost use Rattle.pst_cli.specs.Kept.{kept_by};
-ghost use Rattle.pst_cli.specs.Reading.{IsNear};
-ghost use Rattle.pst_cli.specs.Serving.{StandForSome};
-ghost use Rattle.pst_cli.specs.Storing.{IsLeft, IsBroken, kept_in};
-ghost use Rattle.pst_cli.specs.Asking.{Carries, Tells, TellsChange, Finds, Asks, AskRow, WhereThere};
+ghost use Rattle.pst_cli.specs.Rows.{HasRow};
+ghost use Rattle.pst_cli.specs.Asking.{CarriesScript, Tells, TellsChange, Finds, AsksScript, AskRow, WhereThere};
+ghost use Rattle.pst_cli.specs.Asking.{Carries};
+ghost use Rattle.pst_sessions.specs.Sessions.{HasTaken, StandForSome, OnEachHistory};
+ghost use Rattle.pst_sessions.specs.Reading.{IsNear};
+ghost use Rattle.pst_cli.specs.Held.{kept_in};
 
 use crate::Status;
-use crate::answer::{reply_to, say};
 use crate::job::Question;
-use crate::judge::{NoProgram, program_of};
-use crate::program::read_text;
-use crate::running::Running;
 use crate::serve::refuse;
-use crate::session::Session;
 use crate::status::status_of;
-use crate::stop::Stop;
 use pst_arena::FatNodes;
 use pst_base::{NoMemory, Text, VersionNo};
 use pst_changed::{Slots, changed, resolve, versions_there_decide};
 use pst_dump::dump;
 use pst_io::{Lines, MOST_INPUT, Sink, Source};
+use pst_judge::{NoProgram, program_of};
 use pst_order::Order;
 use pst_places::VersionedHeap;
 use pst_program::Program;
+use pst_sessions::{Running, Session, Stop, read_text, reply_to, say};
 use pst_store::StoreOf;
 use std::alloc::Global;
 
@@ -64,8 +59,7 @@ fn carry_script<X: Session, S: Source>(
     requires stands { StandForSome X.stands session.old held.old }
     requires open { IsOpen lines.old (S.left source.old) }
     requires near { IsNear lines.old.input }
-    ensures carried { (m : Meaning) (h : History) → X.stands session.old held.old m h → Carries (script_of X.rules m) h (X.stands session.new held.new m) (X.leaves m held.new) (X.breaks m held.new)
-        result lines.old.input (S.left source.old) lines.new.input (S.left source.new) }
+    ensures carried { OnEachHistory X.stands session.old held.old (CarriesScript X.rules X.stands X.leaves X.breaks session.new held.new result S.left lines.old source.old lines.new source.new) }
     ensures about { X.about session.new ≡ X.about session.old }
     ensures within { bytes_read lines.new.input ≤ MOST_INPUT }
     ensures later { S.faults source.old ≤ S.faults source.new }
@@ -170,7 +164,7 @@ fn answer_to<S: Source, O: Order + Drop, N: FatNodes>(
     requires open { IsOpen lines.old (S.left source.old) }
     requires near { IsNear lines.old.input }
     requires within_old { bytes_read lines.old.input ≤ MOST_INPUT }
-    ensures found { Finds (kept_by by_tree IsLeft IsBroken store.old store.new) program (meaning_of program) question path.now result lines.old.input (S.left source.old) lines.new.input (S.left source.new) }
+    ensures found { Finds (kept_in store.old store.new Job.Run) program (meaning_of program) question path.now result lines.old.input (S.left source.old) lines.new.input (S.left source.new) }
     ensures within { bytes_read lines.new.input ≤ MOST_INPUT }
     ensures later { S.faults source.old ≤ S.faults source.new }
     ensures read { result ≡ Err Stop.Read → Rose (S.faults source.old) (S.faults source.new) }
@@ -204,8 +198,7 @@ fn inquire<S: Source, K: Sink, O: Order + Drop, N: FatNodes>(
     requires open { IsOpen lines.old (S.left source.old) }
     requires near { IsNear lines.old.input }
     requires within_old { bytes_read lines.old.input ≤ MOST_INPUT }
-    ensures asked { (out : List ℕ) × Appends (K.taken sink.old) (K.taken sink.new) out
-        × Asks result (kept_by by_tree IsLeft IsBroken store.old store.new) question path.now lines.old.input (S.left source.old) lines.new.input (S.left source.new) text.items out }
+    ensures asked { HasTaken K.taken sink.old sink.new (AsksScript result store.old store.new question path.now S.left lines.old source.old lines.new source.new text.items) }
     ensures within { bytes_read lines.new.input ≤ MOST_INPUT }
     ensures later { S.faults source.old ≤ S.faults source.new }
     ensures sink_later { K.faults sink.old ≤ K.faults sink.new }
@@ -237,8 +230,7 @@ pub(crate) fn ask<S: Source, K: Sink, O: Order + Drop, N: FatNodes>(
     store: &mut StoreOf<O, N>,
 ) -> Status
     requires empty { store.old ≡ None }
-    ensures asked { IfSome (S.left source.old) (λ input. (out : List ℕ) × Appends (K.taken sink.old) (K.taken sink.new) out
-        × AskRow result (kept_in store.old store.new Job.Run) question path.now input (S.left source.new) out) }
+    ensures asked { HasRow S.left source.old source.new K.taken sink.old sink.new (AskRow result (kept_in store.old store.new Job.Run) question path.now) }
     ensures read { result ≡ Status.ReadFault → Rose (S.faults source.old) (S.faults source.new) }
     ensures write { result ≡ Status.WriteFault → Rose (K.faults sink.old) (K.faults sink.new) }
     ensures not_usage { result ≡ Status.Usage → ⊥ }

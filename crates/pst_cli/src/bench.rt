@@ -1,7 +1,6 @@
 //! The bench: a large script is carried out, and a summary of what came of it is written.
 
-ghost use Rattle.std.specs.Prelude.{◌≡◌, ◌≤◌, ◌⊎◌, ◌+◌, ◌+ℤ◌, ◌<◌, ◌^◌, List, ℕ, [], ◌∷◌, length, pos, fold, None, MatchOption, IfOk, IfSome, OnOk, OnErr};
-ghost use Rattle.std.specs.Io.KnownBytes.{Appends};
+ghost use Rattle.std.specs.Prelude.{◌≡◌, ◌≤◌, ◌⊎◌, ◌+◌, ◌+ℤ◌, ◌<◌, ◌^◌, [], ◌∷◌, length, pos, fold, None, MatchOption, IfOk, IfSome, OnOk, OnErr};
 ghost use Rattle.pst_io.specs.Causes.{Rose};
 ghost use Rattle.pst_io.specs.Text.{lines_of};
 ghost use Rattle.pst_program.specs.View.{routines_of};
@@ -9,33 +8,29 @@ ghost use Rattle.pst_program.specs.Typed.{IsTyped};
 ghost use Rattle.pst_script.specs.Commands.{reading};
 ghost use Rattle.pst_script.specs.Texts.{text_of};
 ghost use Rattle.pst_script.specs.declared.reply.Reply.TheVariants as answer;
-ghost use Rattle.pst_history.specs.Meaning.{Meaning};
-ghost use Rattle.pst_history.specs.History.{History};
 ghost use Rattle.pst_history.specs.Direct.{meaning_of};
 ghost use Rattle.pst_store.specs.Whole.{nodes_in, state_in};
-ghost use Rattle.pst_cli.specs.Pieces.{state_after, AfterSome};
-ghost use Rattle.pst_cli.specs.Script.{by_tree, answer_of, next_of, script_of};
-ghost use Rattle.pst_cli.specs.Kept.{first_history, history_after};
-ghost use Rattle.pst_cli.specs.Serving.{StandForSome};
-ghost use Rattle.pst_cli.specs.Storing.{IsLeft, IsBroken};
-ghost use Rattle.pst_cli.specs.Bench.{printed_in, printed_by, printed_from, summary, bench_lines, summary_of, BenchRow};
+ghost use Rattle.pst_cli.specs.Bench.{printed_in, printed_by, printed_from, summary, bench_lines, summary_of, IsBrokenAfterSome, BenchRow};
+ghost use Rattle.pst_sessions.specs.Kept.{history_after};
+ghost use Rattle.pst_sessions.specs.Storing.{IsLeft};
+ghost use Rattle.pst_sessions.specs.Pieces.{state_after, AfterSome};
+ghost use Rattle.pst_sessions.specs.Script.{by_tree, answer_of, next_of, script_of};
+ghost use Rattle.pst_sessions.specs.Sessions.{HasTaken, StandForSome, OnEachHistory};
 
 use crate::Status;
-use crate::answer::{reply_to, say};
-use crate::judge::{NoProgram, program_of};
-use crate::running::Running;
 use crate::serve::refuse;
-use crate::session::Session;
 use crate::status::status_of;
 use memchr::memchr;
 use pst_arena::FatNodes;
 use pst_base::{NoMemory, Text};
 use pst_bench::bench_script;
 use pst_io::Sink;
+use pst_judge::{NoProgram, program_of};
 use pst_order::Order;
 use pst_places::VersionedHeap;
 use pst_program::Program;
 use pst_script::{Reply, reply_text};
+use pst_sessions::{Running, Session, reply_to, say};
 use pst_store::StoreOf;
 use std::alloc::Global;
 
@@ -98,9 +93,9 @@ fn sum_line<X: Session>(
     sum: i64,
 ) -> Result<i64, NoMemory>
     requires { StandForSome X.stands session.old held.old }
-    ensures sum { IfOk result (λ all. (m : Meaning) (h : History) → X.stands session.old held.old m h → all ≡ fold ◌+ℤ◌ sum (printed_by (answer_of X.rules m h (reading line.now)))) }
-    ensures stands { OnOk result ((m : Meaning) (h : History) → X.stands session.old held.old m h → X.stands session.new held.new m (next_of X.rules m h (reading line.now))) }
-    ensures breaks { OnErr result ((m : Meaning) (h : History) → X.stands session.old held.old m h → X.breaks m held.new h ⊎ X.breaks m held.new (next_of X.rules m h (reading line.now))) }
+    ensures sum { IfOk result (λ all. OnEachHistory X.stands session.old held.old (λ m h. all ≡ fold ◌+ℤ◌ sum (printed_by (answer_of X.rules m h (reading line.now))))) }
+    ensures stands { OnOk result (OnEachHistory X.stands session.old held.old (λ m h. X.stands session.new held.new m (next_of X.rules m h (reading line.now)))) }
+    ensures breaks { OnErr result (OnEachHistory X.stands session.old held.old (λ m h. X.breaks m held.new h ⊎ X.breaks m held.new (next_of X.rules m h (reading line.now)))) }
 {
     let reply = reply_to(alloc, session, held, line)?;
     session.known(held);
@@ -118,9 +113,9 @@ fn sum_lines<X: Session>(
     text: &[u8],
 ) -> Result<i64, NoMemory>
     requires { StandForSome X.stands session.old held.old }
-    ensures sum { IfOk result (λ sum. (m : Meaning) (h : History) → X.stands session.old held.old m h → sum ≡ fold ◌+ℤ◌ (pos 0) (printed_from X.rules m h (lines_of text.now))) }
-    ensures stands { OnOk result ((m : Meaning) (h : History) → X.stands session.old held.old m h → X.stands session.new held.new m (state_after (script_of X.rules m) h (lines_of text.now))) }
-    ensures breaks { OnErr result ((m : Meaning) (h : History) → X.stands session.old held.old m h → AfterSome (script_of X.rules m) h (X.breaks m held.new) (lines_of text.now)) }
+    ensures sum { IfOk result (λ sum. OnEachHistory X.stands session.old held.old (λ m h. sum ≡ fold ◌+ℤ◌ (pos 0) (printed_from X.rules m h (lines_of text.now)))) }
+    ensures stands { OnOk result (OnEachHistory X.stands session.old held.old (λ m h. X.stands session.new held.new m (state_after (script_of X.rules m) h (lines_of text.now)))) }
+    ensures breaks { OnErr result (OnEachHistory X.stands session.old held.old (λ m h. AfterSome (script_of X.rules m) h (X.breaks m held.new) (lines_of text.now))) }
 {
     let mut sum = 0;
     let mut rest = text;
@@ -166,8 +161,7 @@ fn summarize<O: Order + Drop, N: FatNodes>(
     requires empty { store.old ≡ None }
     ensures summary { IfOk result (λ text. text ≡ summary_of (meaning_of program) (bench_lines number) store.new) }
     ensures left { OnOk result (IsLeft (meaning_of program) store.new (history_after by_tree (meaning_of program) (bench_lines number))) }
-    ensures err { OnErr result ((store.new ≡ store.old)
-        ⊎ AfterSome (script_of by_tree (meaning_of program)) (first_history (meaning_of program)) (IsBroken (meaning_of program) store.new) (bench_lines number)) }
+    ensures err { OnErr result ((store.new ≡ store.old) ⊎ IsBrokenAfterSome (meaning_of program) (bench_lines number) store.new) }
 {
     let script = bench_script(alloc, number)?;
     let mut session = Running::begin(alloc, program, store)?;
@@ -187,7 +181,7 @@ pub(crate) fn bench<O: Order + Drop, N: FatNodes, K: Sink>(
 ) -> Status
     requires empty { store.old ≡ None }
     requires short { length text.now + 1 < 2 ^ 32 }
-    ensures row { (out : List ℕ) × Appends (K.taken sink.old) (K.taken sink.new) out × BenchRow result text.now (bench_lines number) store.old store.new out }
+    ensures row { HasTaken K.taken sink.old sink.new (BenchRow result text.now (bench_lines number) store.old store.new) }
     ensures later { K.faults sink.old ≤ K.faults sink.new }
     ensures write { result ≡ Status.WriteFault → Rose (K.faults sink.old) (K.faults sink.new) }
 {

@@ -1,28 +1,23 @@
 //! What is done with the text of a program.
 
-ghost use Rattle.std.specs.Prelude.{◌≡◌, ◌≤◌, ◌+◌, ◌<◌, ◌^◌, List, ℕ, length};
-ghost use Rattle.std.specs.Io.KnownBytes.{Appends};
+ghost use Rattle.std.specs.Prelude.{◌≡◌, ◌≤◌, ◌+◌, ◌<◌, ◌^◌, length};
 ghost use Rattle.pst_io.specs.Causes.{Rose};
 ghost use Rattle.pst_io.specs.Input.{bytes_read};
 ghost use Rattle.pst_io.specs.Lines.{IsOpen};
-ghost use Rattle.pst_cli.specs.Kept.{kept_by};
-ghost use Rattle.pst_cli.specs.Reading.{IsNear};
-ghost use Rattle.pst_cli.specs.Serving.{Refuses, Serves, Prints};
+ghost use Rattle.pst_cli.specs.Serving.{Refuses, ServesScript, Prints};
+ghost use Rattle.pst_sessions.specs.Sessions.{HasTaken};
+ghost use Rattle.pst_sessions.specs.Reading.{IsNear};
 
 use crate::Status;
-use crate::answer::say;
-use crate::fault::{Fault, fault_text};
-use crate::judge::{NoProgram, program_of};
-use crate::page::{Page, page_of};
-use crate::script::answer_script;
-use crate::session::Session;
 use crate::status::status_of;
 use pst_io::{Lines, MOST_INPUT, Sink, Source};
+use pst_judge::{Fault, NoProgram, Page, fault_text, page_of, program_of};
+use pst_sessions::{Session, answer_script, say};
 use std::alloc::Global;
 
 /// Writes the line of a fault.
 pub(crate) fn refuse<K: Sink>(alloc: Global, sink: &mut K, fault: Fault) -> Status
-    ensures refused { (out : List ℕ) × Appends (K.taken sink.old) (K.taken sink.new) out × Refuses result fault out }
+    ensures refused { HasTaken K.taken sink.old sink.new (Refuses result fault) }
     ensures later { K.faults sink.old ≤ K.faults sink.new }
     ensures write { result ≡ Status.WriteFault → Rose (K.faults sink.old) (K.faults sink.new) }
 {
@@ -49,8 +44,7 @@ pub(crate) fn serve<X: Session, S: Source, K: Sink>(
     requires open { IsOpen lines.old (S.left source.old) }
     requires near { IsNear lines.old.input }
     requires within_old { bytes_read lines.old.input ≤ MOST_INPUT }
-    ensures served { (out : List ℕ) × Appends (K.taken sink.old) (K.taken sink.new) out
-        × Serves result X.rules (kept_by X.rules X.leaves X.breaks held.old held.new) lines.old.input (S.left source.old) lines.new.input (S.left source.new) text.items out }
+    ensures served { HasTaken K.taken sink.old sink.new (ServesScript result X.rules X.leaves X.breaks held.old held.new S.left lines.old source.old lines.new source.new text.items) }
     ensures within { bytes_read lines.new.input ≤ MOST_INPUT }
     ensures later { S.faults source.old ≤ S.faults source.new }
     ensures sink_later { K.faults sink.old ≤ K.faults sink.new }
@@ -75,7 +69,7 @@ pub(crate) fn serve<X: Session, S: Source, K: Sink>(
 /// Writes a page of a program, or the line of its fault.
 pub(crate) fn print<K: Sink>(alloc: Global, page: Page, text: Vec<u8>, sink: &mut K) -> Status
     requires { length text.items + 1 < 2 ^ 32 }
-    ensures printed { (out : List ℕ) × Appends (K.taken sink.old) (K.taken sink.new) out × Prints result page text.items out }
+    ensures printed { HasTaken K.taken sink.old sink.new (Prints result page text.items) }
     ensures later { K.faults sink.old ≤ K.faults sink.new }
     ensures write { result ≡ Status.WriteFault → Rose (K.faults sink.old) (K.faults sink.new) }
 {

@@ -4,7 +4,7 @@ ghost use Rattle.std.specs.Prelude.{◌≡◌};
 ghost use Rattle.pst_cli.specs.Jobs.{number_of};
 ghost use Rattle.pst_cli.specs.Serving.{status_of};
 
-use crate::stop::Stop;
+use pst_sessions::Stop;
 
 /// How a call of the program ends.
 #[derive(Clone, Copy, Debug, PartialEq, Eq)]

@@ -1,37 +1,31 @@
 //! The top call.
 
-ghost use Rattle.std.specs.Prelude.{◌≡◌, ◌↔◌, ◌≤◌, List, ℕ, Some, None, IfSome, map, string_bytes};
-ghost use Rattle.std.specs.Io.KnownBytes.{Appends};
+ghost use Rattle.std.specs.Prelude.{◌≡◌, ◌↔◌, ◌≤◌, Some, None, IfSome};
 ghost use Rattle.pst_io.specs.Causes.{Rose};
 ghost use Rattle.pst_io.specs.Lines.{not_begun};
 ghost use Rattle.pst_cli.specs.declared.job.Job.{Job};
-ghost use Rattle.pst_cli.specs.declared.job.Question.{Question};
-ghost use Rattle.pst_cli.specs.Jobs.{task_of, path_in};
+ghost use Rattle.pst_cli.specs.Jobs.{task_in, OnJob, OnBench, OnQuestion};
 ghost use Rattle.pst_cli.specs.Asking.{AskRow};
 ghost use Rattle.pst_cli.specs.Bench.{BenchRow, bench_lines};
 ghost use Rattle.pst_samples.specs.declared.TheConstants.{RING};
 ghost use Rattle.pst_line.specs.Store.{IsEmpty};
-ghost use Rattle.pst_cli.specs.Kept.{together};
-ghost use Rattle.pst_cli.specs.Storing.{kept_in};
-ghost use Rattle.pst_cli.specs.Lining.{lined_in};
-ghost use Rattle.pst_cli.specs.Rows.{Row, IsServable, IsComplete};
+ghost use Rattle.pst_cli.specs.Rows.{HasRow, Row, NoFault, IsServable, IsComplete};
+ghost use Rattle.pst_cli.specs.Held.{kept_in, both_in};
+ghost use Rattle.pst_sessions.specs.Sessions.{HasTaken};
 
 use crate::Status;
 use crate::ask::ask;
 use crate::bench::bench;
 use crate::job::{Job, Question, Task, path_in, task_of};
-use crate::lining::Lining;
-use crate::page::Page;
-use crate::program::read_text;
-use crate::replaying::Replaying;
-use crate::running::Running;
 use crate::serve::{print, serve};
 use crate::status::status_of;
 use pst_arena::FatNodes;
 use pst_io::{Lines, Sink, Source};
+use pst_judge::Page;
 use pst_line::calls::LineCalls;
 use pst_order::Order;
 use pst_samples::ring;
+use pst_sessions::{Lining, Replaying, Running, read_text};
 use pst_store::StoreOf;
 use std::alloc::Global;
 
@@ -65,27 +59,23 @@ pub fn persist<S: Source, K: Sink, O: Order + Drop, N: FatNodes, L: LineCalls>(
     requires empty_line { IsEmpty (L.stored line.old) }
 
     // What a job has read and written, and what each store is left in, where the source tells its bytes.
-    ensures table { (job : Job) → task_of (map string_bytes words.now) ≡ Some (Task.Input job) → IfSome (S.left source.old) (λ input. (out : List ℕ)
-        × Appends (K.taken sink.old) (K.taken sink.new) out × Row result (together (kept_in store.old store.new job) (lined_in L.state L.stored line.old line.new job)) job input (S.left source.new) out) }
+    ensures table { OnJob words.now (λ job. HasRow S.left source.old source.new K.taken sink.old sink.new (Row result (both_in L.state L.stored store.old store.new line.old line.new job) job)) }
 
     // The bench reads nothing. What it has written, and what the store is left in.
-    ensures bench { (number : ℕ) → task_of (map string_bytes words.now) ≡ Some (Task.Bench number) → (source.new ≡ source.old) × ((out : List ℕ)
-        × Appends (K.taken sink.old) (K.taken sink.new) out × BenchRow result RING.now (bench_lines number) store.old store.new out) }
+    ensures bench { OnBench words.now (λ number. (source.new ≡ source.old) × HasTaken K.taken sink.old sink.new (BenchRow result RING.now (bench_lines number) store.old store.new)) }
 
     // What a question has read and written, and what the store is left in: as after `run`, and the answer about it.
-    ensures asked { (question : Question) → task_of (map string_bytes words.now) ≡ Some (Task.Ask question) → IfSome (S.left source.old) (λ input. (out : List ℕ)
-        × Appends (K.taken sink.old) (K.taken sink.new) out × AskRow result (kept_in store.old store.new Job.Run) question (path_in (map string_bytes words.now)) input (S.left source.new) out) }
+    ensures asked { OnQuestion words.now (λ question path. HasRow S.left source.old source.new K.taken sink.old sink.new (AskRow result (kept_in store.old store.new Job.Run) question path)) }
 
     // The word `line` works over the line store, and every other one leaves it as it was handed in.
-    ensures tree { task_of (map string_bytes words.now) ≡ Some (Task.Input Job.Line) → store.new ≡ store.old }
-    ensures line { (task_of (map string_bytes words.now) ≡ Some (Task.Input Job.Line) → ⊥) → line.new ≡ line.old }
+    ensures tree { task_in words.now ≡ Some (Task.Input Job.Line) → store.new ≡ store.old }
+    ensures line { (task_in words.now ≡ Some (Task.Input Job.Line) → ⊥) → line.new ≡ line.old }
 
     // When each status comes.
     ensures read { result ≡ Status.ReadFault → Rose (S.faults source.old) (S.faults source.new) }
     ensures write { result ≡ Status.WriteFault → Rose (K.faults sink.old) (K.faults sink.new) }
-    ensures usage { (result ≡ Status.Usage) ↔ (task_of (map string_bytes words.now) ≡ None) }
-    ensures complete { IfSome (S.left source.old) (λ input. IsServable (task_of (map string_bytes words.now)) input
-        → (Rose (S.faults source.old) (S.faults source.new) → ⊥) → (Rose (K.faults sink.old) (K.faults sink.new) → ⊥) → IsComplete result) }
+    ensures usage { (result ≡ Status.Usage) ↔ (task_in words.now ≡ None) }
+    ensures complete { IfSome (S.left source.old) (λ input. IsServable (task_in words.now) input → NoFault S.faults source.old source.new → NoFault K.faults sink.old sink.new → IsComplete result) }
     ensures later { (S.faults source.old ≤ S.faults source.new) × (K.faults sink.old ≤ K.faults sink.new) }
 
     // Nothing is read or written.
@@ -115,8 +105,7 @@ fn carry_out<S: Source, K: Sink, O: Order + Drop, N: FatNodes, L: LineCalls>(
     requires lines { lines.old ≡ not_begun }
     requires empty { store.old ≡ None }
     requires empty_line { IsEmpty (L.stored line.old) }
-    ensures table { IfSome (S.left source.old) (λ input. (out : List ℕ) × Appends (K.taken sink.old) (K.taken sink.new) out
-        × Row result (together (kept_in store.old store.new job) (lined_in L.state L.stored line.old line.new job)) job input (S.left source.new) out) }
+    ensures table { HasRow S.left source.old source.new K.taken sink.old sink.new (Row result (both_in L.state L.stored store.old store.new line.old line.new job) job) }
     ensures tree { job ≡ Job.Line → store.new ≡ store.old }
     ensures line { (job ≡ Job.Line → ⊥) → line.new ≡ line.old }
     ensures read { result ≡ Status.ReadFault → Rose (S.faults source.old) (S.faults source.new) }

@@ -1,6 +1,6 @@
 use Rattle.std.proofs.Common.{ap, Err, refl}
 use Rattle.pst_cli.specs.declared.job.Job.TheVariants.{Run}
-use Rattle.pst_cli.specs.Storing.{kept_in}
+use Rattle.pst_cli.specs.Held.{kept_in}
 use Rattle.pst_cli.proofs.AskRows.{text_unread, text_asked}
 use Rattle.pst_cli.proofs.ask.ask.Goals as goal
 

@@ -1,9 +1,9 @@
 use Rattle.std.proofs.Common.{ap, refl, ◌∙◌, arith, inr, Ok, Err, [], ◌∷◌, ◌++◌}
 use Rattle.pst_io.proofs.Handing.{gives_none, gives_then}
-use Rattle.pst_cli.specs.Pieces.{state_after}
-use Rattle.pst_cli.specs.Script.{script_of}
-use Rattle.pst_cli.proofs.Reading.{until_fault, then_reads, still_near}
-use Rattle.pst_cli.proofs.Writing.{state_more, breaks_in}
+use Rattle.pst_sessions.specs.Pieces.{state_after}
+use Rattle.pst_sessions.specs.Script.{script_of}
+use Rattle.pst_sessions.proofs.Reading.{until_fault, then_reads, still_near}
+use Rattle.pst_sessions.proofs.Writing.{state_more, breaks_in}
 use Rattle.pst_cli.proofs.Carrying.{until_carried}
 use Rattle.pst_cli.proofs.ask.carry_script.Goals as goal
 

@@ -1,9 +1,9 @@
 use Rattle.std.proofs.Common.{[], inl, refl, sym, subst}
 use Rattle.std.proofs.KnownBytes.{Appends-nil}
 use Rattle.pst_history.specs.Direct.{meaning_of}
-use Rattle.pst_cli.specs.Script.{by_tree}
-use Rattle.pst_cli.specs.Kept.{kept_by, history_after}
-use Rattle.pst_cli.specs.Storing.{IsLeft, IsBroken}
+use Rattle.pst_sessions.specs.Script.{by_tree}
+use Rattle.pst_sessions.specs.Kept.{kept_by, history_after}
+use Rattle.pst_sessions.specs.Storing.{IsLeft, IsBroken}
 use Rattle.pst_cli.specs.Asking.{Tells}
 use Rattle.pst_cli.proofs.AskRows.{fault_asked, answer_asked, answer_stopped, script_asked}
 use Rattle.pst_cli.proofs.ask.inquire.Goals as goal

@@ -3,10 +3,10 @@ use Rattle.std.proofs.lemmas.Int.{to_z-of_z}
 use Rattle.std.proofs.lemmas.Result.{IfOk-weaker}
 use Rattle.pst_io.specs.Text.{lines_of}
 use Rattle.pst_history.specs.Direct.{meaning_of}
-use Rattle.pst_cli.specs.Pieces.{AfterSome}
-use Rattle.pst_cli.specs.Script.{by_tree, script_of}
-use Rattle.pst_cli.specs.Kept.{first_history}
-use Rattle.pst_cli.specs.Storing.{IsBroken}
+use Rattle.pst_sessions.specs.Pieces.{AfterSome}
+use Rattle.pst_sessions.specs.Script.{by_tree, script_of}
+use Rattle.pst_sessions.specs.Kept.{first_history}
+use Rattle.pst_sessions.specs.Storing.{IsBroken}
 use Rattle.pst_cli.specs.Bench.{bench_lines, summary_of}
 use Rattle.pst_cli.proofs.Benching.{broken_behind, summary_is}
 use Rattle.pst_cli.proofs.Summing.{of_error}

@@ -1,4 +1,4 @@
-use Rattle.pst_cli.proofs.Verdicts.{one_output}
+use Rattle.pst_cli.proofs.Outputs.{one_output}
 use Rattle.pst_cli.proofs.laws.input_has_one_output.Goals as goal
 
 pub returns : goal.returns

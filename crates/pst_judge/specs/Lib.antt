@@ -1,0 +1,4 @@
+pub mod Verdict
+pub mod Pages
+pub mod Reasons
+pub mod Laws

@@ -1,0 +1,171 @@
+//! The verdict on the text of a program.
+
+ghost use Rattle.std.specs.Prelude.{◌≡◌, ◌+◌, ◌<◌, ◌^◌, length, IfOk, IfErr, MatchResult};
+ghost use Rattle.pst_tree.specs.Syntax.{ProgramText};
+ghost use Rattle.pst_tree.specs.View.{text_of};
+ghost use Rattle.pst_program.specs.View.{routines_of};
+ghost use Rattle.pst_program.specs.Typed.{IsTyped};
+ghost use Rattle.pst_typing.specs.View.{program_of};
+ghost use Rattle.pst_grammar.specs.Grammar.{HasTree};
+ghost use Rattle.pst_judge.specs.Verdict.{Accepted};
+ghost use Rattle.pst_judge.specs.Verdict.{Judged, IsEarlyFault, IsNoProgram};
+
+use crate::fault::{Fault, FaultKind};
+use pst_base::NoMemory;
+use pst_lex::{FirstTokens, LexFault, TokenList, Tokens, first_tokens, tokens};
+use pst_parse::{ParseFault, parse};
+use pst_program::Program;
+use pst_tree::Tree;
+use pst_types::check;
+use pst_typing::TypeFault;
+use std::alloc::Global;
+
+/// Why a text gives no program.
+#[derive(Clone, Copy, Debug, PartialEq, Eq)]
+pub enum NoProgram {
+    /// It has this fault.
+    Fault(Fault),
+    /// There was no memory.
+    Memory,
+}
+
+impl NoProgram {
+    fn at(kind: FaultKind, line: u32) -> NoProgram
+        ensures { result ≡ NoProgram.Fault (record { kind = kind; line = line }) }
+    {
+        NoProgram::Fault(Fault { kind, line })
+    }
+}
+
+impl From<LexFault> for NoProgram {
+    ghost use Rattle.pst_judge.specs.Reasons.{of_lexing};
+
+    ghost from_gives = { λ fault why. why ≡ of_lexing fault };
+
+    fn from(fault: LexFault) -> NoProgram {
+        match fault {
+            LexFault::Byte { line } => NoProgram::at(FaultKind::Byte, line),
+            LexFault::Number { line } => NoProgram::at(FaultKind::Number, line),
+            LexFault::NameLength { line } => NoProgram::at(FaultKind::NameLength, line),
+            LexFault::Memory => NoProgram::Memory,
+        }
+    }
+}
+
+impl From<ParseFault> for NoProgram {
+    ghost use Rattle.pst_judge.specs.Reasons.{of_parsing};
+
+    ghost from_gives = { λ fault why. why ≡ of_parsing fault };
+
+    fn from(fault: ParseFault) -> NoProgram {
+        match fault {
+            ParseFault::Unexpected { line } => NoProgram::at(FaultKind::Unexpected, line),
+            ParseFault::TooDeep { line } => NoProgram::at(FaultKind::TooDeep, line),
+            ParseFault::Memory => NoProgram::Memory,
+        }
+    }
+}
+
+impl From<TypeFault> for NoProgram {
+    ghost use Rattle.pst_judge.specs.Reasons.{of_typing};
+
+    ghost from_gives = { λ fault why. why ≡ of_typing fault };
+
+    fn from(fault: TypeFault) -> NoProgram {
+        match fault {
+            TypeFault::Unknown { line } => NoProgram::at(FaultKind::Unknown, line),
+            TypeFault::Duplicate { line } => NoProgram::at(FaultKind::Duplicate, line),
+            TypeFault::Mismatch { line } => NoProgram::at(FaultKind::Mismatch, line),
+            TypeFault::Limit { line } => NoProgram::at(FaultKind::Limit, line),
+            TypeFault::TooMany { line } => NoProgram::at(FaultKind::TooMany, line),
+            TypeFault::QueryWrites { line } => NoProgram::at(FaultKind::QueryWrites, line),
+            TypeFault::Memory => NoProgram::Memory,
+        }
+    }
+}
+
+impl From<NoMemory> for NoProgram {
+    ghost use Rattle.pst_judge.specs.declared.judge.NoProgram.TheVariants.{Memory};
+
+    ghost from_gives = { λ _ why. why ≡ Memory };
+
+    fn from(_: NoMemory) -> NoProgram {
+        NoProgram::Memory
+    }
+}
+
+/// How many tokens of a text are kept at first. Where its fault stands among them, the others are looked at and not kept, so
+/// that a text which is no program takes little more than its own room.
+const FIRST_TOKENS: usize = 1 << 22;
+
+/// Refuses by a fault, where it has a line. No token has line 0.
+fn refuse_on(kind: FaultKind, line: u32) -> Result<(), NoProgram>
+    ensures { IfErr result (λ why. (0 < line) × (why ≡ NoProgram.Fault (record { kind = kind; line = line }))) }
+{
+    if line == 0 {
+        Ok(())
+    } else {
+        Err(NoProgram::at(kind, line))
+    }
+}
+
+/// Refuses the texts that have these tokens and others behind them, where their fault stands among these.
+fn refuse_early(alloc: Global, front: TokenList) -> Result<(), NoProgram>
+    ensures { IfErr result (IsEarlyFault front) }
+{
+    // These tokens do not end the text, so a fault at their end, which has line 0 here, is none of the text's.
+    let tokens = Tokens {
+        list: front,
+        end: 0,
+    };
+    match parse(alloc, &tokens) {
+        Ok(_) => Ok(()),
+        Err(ParseFault::Unexpected { line }) => refuse_on(FaultKind::Unexpected, line),
+        Err(ParseFault::TooDeep { line }) => refuse_on(FaultKind::TooDeep, line),
+        Err(ParseFault::Memory) => Err(NoProgram::Memory),
+    }
+}
+
+/// The tree of a text of fewer than 4,294,967,295 bytes. The text is let go once it is cut into tokens, and they once the
+/// tree is there.
+fn read_tree(alloc: Global, text: Vec<u8>) -> Result<Tree, NoProgram>
+    requires { length text.items + 1 < 2 ^ 32 }
+    ensures { MatchResult result (λ tree. HasTree text.items (text_of tree)) (λ why. IsNoProgram text.items why) }
+{
+    let tokens = match first_tokens(alloc, &text, FIRST_TOKENS)? {
+        FirstTokens::All(tokens) => tokens,
+        FirstTokens::Front(front) => {
+            refuse_early(alloc, front)?;
+            tokens(alloc, &text)?
+        }
+    };
+    drop(text);
+    Ok(parse(alloc, &tokens)?)
+}
+
+/// The tree of a text of fewer than 4,294,967,295 bytes, and its typed program.
+///
+/// # Errors
+/// The first fault of the text, or want of memory.
+pub(crate) fn judge(alloc: Global, text: Vec<u8>) -> Result<(Tree, Program), NoProgram>
+    requires { length text.items + 1 < 2 ^ 32 }
+    ensures verdict { MatchResult result (λ x. Judged text.items (Accepted (text_of x.0) (program_of x.1))) (λ why. IsNoProgram text.items why) }
+    ensures typed { IfOk result (λ x. IsTyped (routines_of x.1)) }
+{
+    let tree = read_tree(alloc, text)?;
+    let program = check(alloc, &tree)?;
+    Ok((tree, program))
+}
+
+/// The typed program of a text of fewer than 4,294,967,295 bytes. Neither the text nor its tree is kept.
+///
+/// # Errors
+/// The first fault of the text, or want of memory.
+pub fn program_of(alloc: Global, text: Vec<u8>) -> Result<Program, NoProgram>
+    requires { length text.items + 1 < 2 ^ 32 }
+    ensures verdict { MatchResult result (λ p. (syntax : ProgramText) × Judged text.items (Accepted syntax (program_of p))) (λ why. IsNoProgram text.items why) }
+    ensures typed { IfOk result (λ p. IsTyped (routines_of p)) }
+{
+    let (_tree, program) = judge(alloc, text)?;
+    Ok(program)
+}

@@ -1,0 +1,59 @@
+//! What is printed of a program.
+
+ghost use Rattle.std.specs.Prelude.{◌≡◌, ◌+◌, ◌<◌, ◌^◌, List, length, IfOk, MatchResult};
+ghost use Rattle.pst_tree.specs.Syntax.{ProgramText};
+ghost use Rattle.pst_typing.specs.Declarations.{NamedProgram};
+ghost use Rattle.pst_program.specs.View.{routines_of};
+ghost use Rattle.pst_program.specs.Typed.{IsTyped};
+ghost use Rattle.pst_compiled.specs.Compiled.{code_of};
+ghost use Rattle.pst_listing.specs.Listing.{listed};
+ghost use Rattle.pst_judge.specs.Verdict.{Judged, Accepted};
+ghost use Rattle.pst_judge.specs.Pages.{page_text};
+ghost use Rattle.pst_judge.specs.Verdict.{IsNoProgram};
+
+use crate::judge::{NoProgram, judge};
+use pst_base::{NoMemory, Text};
+use pst_codegen::compile;
+use pst_listing::listing;
+use pst_notation::print_program;
+use pst_program::Program;
+use std::alloc::Global;
+
+/// What is printed of a program.
+#[derive(Clone, Copy, Debug, PartialEq, Eq)]
+pub enum Page {
+    /// Its canonical text.
+    Canonical,
+    /// The listing of its code.
+    Listing,
+}
+
+/// The listing of the code of a program.
+fn listing_of(alloc: Global, program: &Program) -> Result<Text, NoMemory>
+    requires { IsTyped (routines_of program.now) }
+    ensures { IfOk result (λ text. text ≡ listed (code_of (routines_of program.now)) program.now.names) }
+{
+    let code = compile(alloc, program)?;
+    listing(alloc, &code, program)
+}
+
+/// A page of the program of a text of fewer than 4,294,967,295 bytes.
+///
+/// # Errors
+/// The first fault of the text, or want of memory.
+pub fn page_of(alloc: Global, page: Page, text: Vec<u8>) -> Result<Text, NoProgram>
+    requires { length text.items + 1 < 2 ^ 32 }
+    ensures { MatchResult result (λ out. (syntax : ProgramText) × (p : NamedProgram) × Judged text.items (Accepted syntax p) × (out ≡ page_text page syntax p)) (λ why. IsNoProgram text.items why) }
+{
+    let (tree, program) = judge(alloc, text)?;
+    match page {
+        Page::Canonical => {
+            drop(program);
+            Ok(print_program(alloc, &tree)?)
+        }
+        Page::Listing => {
+            drop(tree);
+            Ok(listing_of(alloc, &program)?)
+        }
+    }
+}

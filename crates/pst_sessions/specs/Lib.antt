@@ -1,0 +1,8 @@
+pub mod Input
+pub mod Pieces
+pub mod Script
+pub mod Kept
+pub mod Reading
+pub mod Sessions
+pub mod Storing
+pub mod Lining

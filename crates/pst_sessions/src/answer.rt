@@ -1,0 +1,105 @@
+//! The reply to a line of a script.
+
+ghost use Rattle.std.specs.Prelude.{◌≡◌, ◌≤◌, ◌⊎◌, Some, IfOk, IfErr, OnOk, OnErr, MatchResult};
+ghost use Rattle.std.specs.Option.{option_map};
+ghost use Rattle.pst_io.specs.Causes.{Rose};
+ghost use Rattle.pst_script.specs.Commands.{reading};
+ghost use Rattle.pst_script.specs.Texts.{text_of};
+ghost use Rattle.pst_sessions.specs.Script.{script_of, answer_of, next_of};
+ghost use Rattle.pst_sessions.specs.Sessions.{HasTaken, StandForSome, OnEachHistory, StopsAtReply, HeldAtReply, IsSaid};
+
+use crate::session::Session;
+use crate::stop::Stop;
+use pst_base::{NoMemory, Text};
+use pst_io::{Sink, put};
+use pst_script::{LineFault, Refusal, Reply, read_line, reply_text};
+use std::alloc::Global;
+
+/// Writes a piece.
+pub fn say<K: Sink>(sink: &mut K, piece: &[u8]) -> Result<(), Stop>
+    ensures said { HasTaken K.taken sink.old sink.new (λ out. MatchResult result (λ _. out ≡ piece.now) (λ stop. StopsAtReply stop (Some piece.now) out)) }
+    ensures later { K.faults sink.old ≤ K.faults sink.new }
+    ensures write { result ≡ Err Stop.Write → Rose (K.faults sink.old) (K.faults sink.new) }
+{
+    match put(sink, piece) {
+        Ok(()) => Ok(()),
+        Err(_) => Err(Stop::Write),
+    }
+}
+
+/// The reply to a line on each history that the session stands for, which becomes the one after the line.
+pub fn reply_to<X: Session>(
+    alloc: Global,
+    session: &mut X,
+    held: &mut X::Held,
+    line: &[u8],
+) -> Result<Option<Reply>, NoMemory>
+    requires { StandForSome X.stands session.old held.old }
+    ensures about { X.about session.new ≡ X.about session.old }
+    ensures reply { IfOk result (λ reply. OnEachHistory X.stands session.old held.old (λ m h. reply ≡ answer_of X.rules m h (reading line.now))) }
+    ensures stands { OnOk result (OnEachHistory X.stands session.old held.old (λ m h. X.stands session.new held.new m (next_of X.rules m h (reading line.now)))) }
+    ensures breaks { OnErr result (OnEachHistory X.stands session.old held.old (λ m h. X.breaks m held.new h ⊎ X.breaks m held.new (next_of X.rules m h (reading line.now)))) }
+{
+    match read_line(alloc, line) {
+        Ok(None) => Ok(None),
+        Ok(Some(command)) => Ok(Some(session.apply(alloc, held, &command)?)),
+        Err(LineFault::Line) => Ok(Some(Reply::Refused(Refusal::Line))),
+        Err(LineFault::Number) => Ok(Some(Reply::Refused(Refusal::Number))),
+        Err(LineFault::Memory) => {
+            session.known(held);
+            Err(NoMemory)
+        }
+    }
+}
+
+/// The text of a reply, if there is one.
+fn text_for(alloc: Global, reply: Option<Reply>) -> Result<Option<Text>, NoMemory>
+    ensures { IfOk result (λ text. text ≡ option_map text_of reply) }
+{
+    match reply {
+        None => Ok(None),
+        Some(reply) => Ok(Some(reply_text(alloc, &reply)?)),
+    }
+}
+
+/// The piece that answers a line, if it has a reply.
+fn piece_for<X: Session>(
+    alloc: Global,
+    session: &mut X,
+    held: &mut X::Held,
+    line: &[u8],
+) -> Result<Option<Text>, NoMemory>
+    requires { StandForSome X.stands session.old held.old }
+    ensures piece { IfOk result (λ piece. OnEachHistory X.stands session.old held.old (λ m h. piece ≡ (script_of X.rules m).reply h line.now)) }
+    ensures stands { OnOk result (OnEachHistory X.stands session.old held.old (λ m h. X.stands session.new held.new m ((script_of X.rules m).next h line.now))) }
+    ensures breaks { OnErr result (OnEachHistory X.stands session.old held.old (λ m h. X.breaks m held.new h ⊎ X.breaks m held.new ((script_of X.rules m).next h line.now))) }
+{
+    let reply = reply_to(alloc, session, held, line)?;
+    session.known(held);
+    text_for(alloc, reply)
+}
+
+/// Answers a line: its command is carried out, and then the reply is written.
+pub(crate) fn answer_line<X: Session, K: Sink>(
+    alloc: Global,
+    session: &mut X,
+    held: &mut X::Held,
+    sink: &mut K,
+    line: &[u8],
+) -> Result<(), Stop>
+    requires { StandForSome X.stands session.old held.old }
+    ensures answered { OnEachHistory X.stands session.old held.old (λ m h. HasTaken K.taken sink.old sink.new (IsSaid result ((script_of X.rules m).reply h line.now))) }
+    ensures stands { OnOk result (OnEachHistory X.stands session.old held.old (λ m h. X.stands session.new held.new m ((script_of X.rules m).next h line.now))) }
+    ensures held { IfErr result (λ stop. OnEachHistory X.stands session.old held.old (λ m h. HeldAtReply (script_of X.rules m) (X.leaves m held.new) (X.breaks m held.new) stop h line.now)) }
+    ensures later { K.faults sink.old ≤ K.faults sink.new }
+    ensures write { result ≡ Err Stop.Write → Rose (K.faults sink.old) (K.faults sink.new) }
+{
+    match piece_for(alloc, session, held, line) {
+        Err(_) => Err(Stop::Memory),
+        Ok(None) => Ok(()),
+        Ok(Some(piece)) => {
+            session.known(held);
+            say(sink, piece.as_slice())
+        }
+    }
+}
