@@ -3,7 +3,7 @@
 use pst_base::NoMemory;
 use pst_lex::LexFault;
 use pst_parse::ParseFault;
-use pst_types::TypeFault;
+use pst_typing::TypeFault;
 
 /// Why a test comes to no answer.
 #[derive(Clone, Copy, Debug, PartialEq, Eq)]

@@ -1,5 +1,5 @@
 -- Runs stay ready from call to call.
-use Rattle.std.proofs.Common.{◌≡◌, ◌⊎◌, ℕ, ◌+◌, ◌<◌, ◌^◌, List, [], ◌∷◌, length, Option, Some, None, refl, ap, sym, ◌∙◌, subst, arith, inl, inr, true, cond, zero, suc}
+use Rattle.std.proofs.Common.{◌≡◌, ◌⊎◌, ℕ, ◌<◌, ◌^◌, List, [], ◌∷◌, length, Option, Some, None, refl, ap, sym, ◌∙◌, subst, arith, inl, inr, true, cond, zero, suc}
 use Rattle.std.specs.Prelude.{All, false, replicate}
 use Rattle.std.proofs.lemmas.List.Elements.{All-head, All-tail}
 use Rattle.std.specs.FinMap.{get, get-empty, empty}
@@ -7,7 +7,6 @@ use Rattle.pst_base.specs.declared.names.Kind.{Kind}
 use Rattle.pst_base.specs.declared.names.Kind.TheVariants.{Int}
 use Rattle.pst_base.specs.declared.names.Name.{Name}
 use Rattle.pst_base.specs.declared.names.RunNo.{RunNo}
-use Rattle.pst_base.specs.declared.names.Trap.{Trap}
 use Rattle.pst_base.specs.declared.shape.TypeShape.{TypeShape}
 use Rattle.pst_base.specs.Name.{root_name, name_eq, name_cmp}
 use Rattle.pst_base.specs.Heap.{initial_heap, new_record}
@@ -19,11 +18,9 @@ use Rattle.pst_code.specs.declared.procedure.Procedure.{Procedure}
 use Rattle.pst_code.specs.Valid.{parameters_of}
 use Rattle.pst_places.specs.State.{State, IsFresh, Forked}
 use Rattle.pst_forest.specs.Forest.{state_of, started, heap_at}
-use Rattle.pst_machine.specs.declared.stage.Progress.{Progress}
 use Rattle.pst_machine.specs.declared.stage.Stage.{Stage}
-use Rattle.pst_machine.specs.Advance.{TakesNumbers, IsBare, IsOngoing, IsReady, ReadyWhere, Advanced, Advances, AdvancesWhere, trap_of}
+use Rattle.pst_machine.specs.Advance.{TakesNumbers, IsBare}
 use Rattle.pst_machine.specs.Laws.{BareIsReady}
-use Rattle.pst_machine.specs.Stands.{SlicesAddUp}
 use Rattle.pst_machine_cases.specs.Session.{IsUntouched, IsOpened}
 
 -- a name that is fresh stays so where a place is forked
@@ -68,12 +65,3 @@ all_numbers (k ∷ ks) a = λ i. All-head (λ kind. kind ≡ Int) k ks a i ∷ a
 
 pub takes : (o : Option Procedure) (p : Procedure) (ks : List Kind) (n : ℕ) → o ≡ Some p → ks ≡ parameters_of p → length ks ≡ n → All (λ kind. kind ≡ Int) ks → TakesNumbers o n
 takes o p ks n is e count a = subst (λ o. TakesNumbers o n) (sym is) (sym e ∙ all_numbers ks a ∙ ap (λ m. replicate m Int) count)
-
--- two slices of a run that has not trapped are one
-pub twice : {P R : Type 0} (parts same : Parts) (s t u : State P R) (k m : ℕ) (a b c : Stage P R) (p q : Progress) → SlicesAddUp s t u → same ≡ parts → IsReady parts s a
-    → trap_of a.ended ≡ None → Advanced parts s a k p t b → trap_of b.ended ≡ None → Advanced same t b m q u c → Advances parts s a (k + m) q u c
-twice {P = P} {R = R} parts same s t u k m a b c p q law is ready free one free_after two =
-    let ongoing : IsOngoing parts s a = subst (λ (o : Option Trap). ReadyWhere o parts s a) free ready in
-    let first : Advances parts s a k p t b = subst (λ (o : Option Trap). AdvancesWhere o parts s a k p t b) free one in
-    let second : Advances same t b m q u c = subst (λ (o : Option Trap). AdvancesWhere o same t b m q u c) free_after two in
-    law parts k m a b c p q ongoing.granted first free_after (subst (λ (x : Parts). Advances x t b m q u c) is second)

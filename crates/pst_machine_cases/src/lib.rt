@@ -1,4 +1,4 @@
-//! Runs of several calls, in slices, over the forest, with values worked out by hand.
+//! A run of several calls, in slices, over the forest, with values worked out by hand.
 #![tactic(auto)]
 
 #[cfg(test)]

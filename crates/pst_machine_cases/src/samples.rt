@@ -1,19 +1,19 @@
 //! The code of the tests.
 
-use pst_base::{Kind, Kinds, NoMemory, ProcNo, Shape, SlotNo, Targets, Text, TypeNo, TypeShape};
-use pst_code::{Code, Instr, Instrs, Parts, Procedure, ProcedureList, Reg, Regs};
+use pst_base::{Kind, Kinds, NoMemory, Shape, SlotNo, Targets, Text, TypeNo, TypeShape};
+use pst_code::{Code, Instr, Instrs, Parts, Procedure, ProcedureList, Reg};
 use std::alloc::Global;
 
 /// The type of all records but the root record: a number, and a pointer to an item.
 const ITEM: TypeNo = TypeNo(1);
 
-/// A list of items, with a root to its first one, and procedures that are called `add`, `fill` and `count`.
+/// A list of items, with a root to its first one, and procedures that are called `add` and `count`.
 pub(crate) fn list(alloc: Global) -> Result<Option<Code>, NoMemory> {
     let shape = Shape::from_vec(Vec::from_array(
         alloc,
         [record(alloc, 0, 1)?, record(alloc, 1, 2)?],
     )?);
-    let procedures = Vec::from_array(alloc, [add(alloc)?, fill(alloc)?, count(alloc)?])?;
+    let procedures = Vec::from_array(alloc, [add(alloc)?, count(alloc)?])?;
     let parts = Parts {
         shape,
         procedures: ProcedureList::from_vec(procedures),
@@ -67,32 +67,6 @@ fn add(alloc: Global) -> Result<Procedure, NoMemory> {
         alloc,
         b"add",
         Vec::from_array(alloc, kinds)?,
-        Vec::from_array(alloc, instructions)?,
-    )
-}
-
-/// Adds the numbers below the argument. It takes seven charges a turn, and one for the last test.
-fn fill(alloc: Global) -> Result<Procedure, NoMemory> {
-    let (k, i, one) = (Reg(0), Reg(1), Reg(2));
-    let instructions = [
-        Instr::Charge(28),
-        Instr::Jumpge(i, k, 8),
-        Instr::Charge(29),
-        Instr::Call(
-            ProcNo(0),
-            None,
-            Regs::from_vec(Vec::from_array(alloc, [i])?),
-        ),
-        Instr::Charge(30),
-        Instr::Const(one, 1),
-        Instr::Add(i, i, one),
-        Instr::Jump(0),
-        Instr::Return(None),
-    ];
-    procedure(
-        alloc,
-        b"fill",
-        Vec::from_array(alloc, [Kind::Int, Kind::Int, Kind::Int])?,
         Vec::from_array(alloc, instructions)?,
     )
 }

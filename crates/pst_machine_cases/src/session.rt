@@ -1,22 +1,16 @@
 //! Runs of the code of the tests over a forest.
 
-ghost use Rattle.std.specs.Prelude.{◌≡◌, ◌↔◌, ◌+◌, ◌<◌, IsTrue, IfOk, OnOk, All, None, length, slice_get};
+ghost use Rattle.std.specs.Prelude.{◌≡◌, ◌↔◌, ◌<◌, IsTrue, IfOk, OnOk, All, length, slice_get};
 ghost use Rattle.pst_base.specs.declared.names.Kind.TheVariants.{Int};
-ghost use Rattle.pst_forest.specs.declared.place.PlaceNo.{PlaceNo};
-ghost use Rattle.pst_forest.specs.declared.place.Reference.{Reference};
 ghost use Rattle.pst_forest.specs.Forest.{state_of};
-ghost use Rattle.pst_machine.specs.declared.stage.Stage.{Stage};
-ghost use Rattle.pst_machine.specs.Advance.{Advanced, Advances, HasFewCounts, TakesNumbers, trap_of};
+ghost use Rattle.pst_machine.specs.Advance.{Advanced, HasFewCounts, TakesNumbers};
 ghost use Rattle.pst_machine_cases.specs.Session.{IsOpened, IsUntouched};
-ghost use Rattle.pst_machine_cases.specs.Beside.{IsBeside, StaysOpened};
 
 use super::samples::list;
 use pst_base::{Counts, Kind, NoMemory, Numbers, ProcNo, RunNo, VersionNo};
 use pst_code::Code;
 use pst_forest::{Forest, PlaceNo};
-use pst_machine::{
-    Activation, ProcCall, Progress, a_run_begins_ready, a_run_stays_ready, slices_add_up,
-};
+use pst_machine::{Activation, ProcCall, Progress, a_run_begins_ready};
 use pst_places::{HeapAt, MOST_FORKS, VersionedHeap};
 use std::alloc::Global;
 
@@ -30,12 +24,10 @@ pub(crate) enum Trouble {
     Code,
     /// No procedure has the name, or other arguments are wanted.
     Procedure,
-    /// There is no version 0, or two runs are one.
+    /// There is no version 0.
     Version,
     /// No more forks or records.
     Full,
-    /// The run trapped.
-    Trap,
     /// Memory ran out.
     Memory,
 }
@@ -81,31 +73,12 @@ impl Session {
         Ok(Activation::bare(self.alloc, at, run, AMPLE)?)
     }
 
-    /// A run beside another one, which can go on then too.
-    pub(crate) fn open_beside(
-        &mut self,
-        run: RunNo,
-        other: &Activation<Forest>,
-    ) -> Result<Activation<Forest>, Trouble>
-        requires untouched { IsUntouched self.old.code (state_of self.old.forest) }
-        requires run { 0 < run.0 }
-        requires other { IsOpened self.old.code (state_of self.old.forest) other.now.stage }
-        ensures opened { IfOk result (λ a. IsOpened self.new.code (state_of self.new.forest) a.stage) }
-        ensures other { OnOk result (IsOpened self.new.code (state_of self.new.forest) other.now.stage) }
-    {
-        let at = self.fork()?;
-        a_run_begins_ready::<Forest>();
-        Ok(Activation::bare(self.alloc, at, run, AMPLE)?)
-    }
-
     /// A fork of version 0.
     fn fork(&mut self) -> Result<PlaceNo, Trouble>
         requires { IsUntouched self.old.code (state_of self.old.forest) }
         ensures untouched { OnOk result (IsUntouched self.new.code (state_of self.new.forest)) }
         ensures place { IfOk result (λ at. (state_of self.new.forest).has at × (state_of self.new.forest).writable at) }
-        ensures others { OnOk result ((b : Stage PlaceNo Reference) → StaysOpened self.old.code (state_of self.old.forest) self.new.code (state_of self.new.forest) b) }
     {
-        a_run_stays_ready::<Forest>();
         self.forest.known();
         self.forest.known_versions();
         let place = self.forest.place_of(VersionNo(0)).ok_or(Trouble::Version)?;
@@ -152,73 +125,10 @@ impl Session {
         Ok(run.advance(&self.code, &mut self.forest, charges)?)
     }
 
-    /// Grants a run more charges, if another one has a number and a place of its own. That one can go on then too.
-    pub(crate) fn advance_beside(
-        &mut self,
-        run: &mut Activation<Forest>,
-        other: &Activation<Forest>,
-        charges: u32,
-    ) -> Result<Progress, Trouble>
-        requires run { IsOpened self.old.code (state_of self.old.forest) run.old.stage }
-        requires other { IsOpened self.old.code (state_of self.old.forest) other.now.stage }
-        ensures run { OnOk result (IsOpened self.new.code (state_of self.new.forest) run.new.stage) }
-        ensures other { OnOk result (IsOpened self.new.code (state_of self.new.forest) other.now.stage) }
-    {
-        are_apart(run, other)?;
-        if !has_few(&self.forest) {
-            return Err(Trouble::Full);
-        }
-        a_run_stays_ready::<Forest>();
-        Ok(run.advance(&self.code, &mut self.forest, charges)?)
-    }
-
-    /// Grants a run charges twice, if it has not trapped and the first ones don't trap it. What it comes to is what both at
-    /// once come to.
-    pub(crate) fn advance_twice(
-        &mut self,
-        run: &mut Activation<Forest>,
-        first: u32,
-        second: u32,
-    ) -> Result<Progress, Trouble>
-        requires { IsOpened self.old.code (state_of self.old.forest) run.old.stage }
-        ensures sum { IfOk result (λ p. Advances self.old.code (state_of self.old.forest) run.old.stage (first + second) p (state_of self.new.forest) run.new.stage) }
-        ensures opened { OnOk result (IsOpened self.new.code (state_of self.new.forest) run.new.stage) }
-    {
-        slices_add_up::<Forest>();
-        has_not_trapped(run)?;
-        self.advance(run, first)?;
-        has_not_trapped(run)?;
-        let progress = self.advance(run, second)?;
-        Ok(progress)
-    }
-
     /// How many records were made, and how many fields were written.
     pub(crate) fn counts(&self) -> Counts {
         self.forest.counts()
     }
-}
-
-/// A trapped run is no run to go on with.
-fn has_not_trapped(run: &Activation<Forest>) -> Result<(), Trouble>
-    ensures { OnOk result (trap_of run.now.stage.ended ≡ None) }
-{
-    match run.ended() {
-        Some(Progress::Trapped(_)) => Err(Trouble::Trap),
-        None | Some(Progress::Running | Progress::Done) => Ok(()),
-    }
-}
-
-/// Two runs with one number or one place are no runs to go on with in turns.
-fn are_apart(run: &Activation<Forest>, other: &Activation<Forest>) -> Result<(), Trouble>
-    ensures { OnOk result (IsBeside run.now.stage other.now.stage) }
-{
-    if other.place() == run.place() {
-        return Err(Trouble::Version);
-    }
-    if other.stage.standing.run == run.stage.standing.run {
-        return Err(Trouble::Version);
-    }
-    Ok(())
 }
 
 /// The procedure with the name, if it takes these numbers.

@@ -1,20 +1,20 @@
 //! Times insertions into an order, comparisons of its places, and reads of rows. With the word `times` it does much of each
-//! and prints how long that took. With no word it does less, and prints what holds alone.
+//! and prints how long that took. With no word it does less, and prints what holds alone. Both print what `checks` finds.
 #![tactic(auto)]
 
 ghost use Rattle.std.specs.Prelude.{◌≤◌};
 
 mod bed;
+mod checks;
 mod orders;
 mod reads;
-#[cfg(test)]
-mod tests;
 
 use bed::Bed;
+use checks::{orders_agree, places_keep_values, sets_labels_anew, splits_eleven, splits_many};
 use orders::{are_reversed, compare_many, insert_behind, insert_behind_first};
 use pst_labels::LabelOrder;
 use pst_order::Order;
-use pst_rows::Row;
+use pst_rows::{Row, Slot};
 use reads::{fill, find_splits, read_rows, scan_rows};
 use std::alloc::Global;
 use std::mem::size_of;
@@ -160,17 +160,43 @@ fn time_splits(rt: &HostRuntime, alloc: Global, scale: Scale) -> io::Result<()> 
     print_time(rt, scale.timed, "searches", splits)
 }
 
-fn main(rt: HostRuntime) -> io::Result<()> {
-    let scale = if is_timed(&rt)? { TIMED } else { CHECKED };
+/// Prints whether the labels are set anew where they have to be, and agree with a vector.
+fn print_orders(rt: &HostRuntime, alloc: Global) -> io::Result<()> {
+    let anew = sets_labels_anew(alloc)?;
+    println!(rt; "labels set anew at the 63rd insertion behind the last place: {anew}")?;
+    let alike = orders_agree(alloc)?;
+    println!(rt; "10000 places inserted at random, in one list by labels and in a vector: {alike}")
+}
+
+/// Prints how many bytes a row and a slot take.
+fn print_sizes(rt: &HostRuntime) -> io::Result<()> {
     println!(rt;
         "a row of 4 slots and 4 stamped values or fewer: {} bytes",
         size_of::<Row>()
     )?;
+    println!(rt; "a slot: {} bytes", size_of::<Slot>())
+}
+
+/// Prints whether rows hold what was stamped, and are split in their middle.
+fn print_rows(rt: &HostRuntime, alloc: Global) -> io::Result<()> {
+    let kept = places_keep_values(alloc)?;
+    println!(rt; "each place has what was written there: {kept}")?;
+    let eleven = splits_eleven(alloc)?;
+    println!(rt; "11 stamped values over 5 slots, split in their middle: {eleven}")?;
+    let many = splits_many(alloc)?;
+    println!(rt; "160 stamped values over 1 to 5 slots, split in their middle: {many}")
+}
+
+fn main(rt: HostRuntime) -> io::Result<()> {
+    let scale = if is_timed(&rt)? { TIMED } else { CHECKED };
+    print_sizes(&rt)?;
     time_first(&rt, rt.alloc(), scale)?;
     time_last(&rt, rt.alloc(), scale)?;
     for count in [0, 1, 4, 16, 64] {
         time_reads(&rt, rt.alloc(), scale, count, 1)?;
         time_reads(&rt, rt.alloc(), scale, count, 5)?;
     }
-    time_splits(&rt, rt.alloc(), scale)
+    time_splits(&rt, rt.alloc(), scale)?;
+    print_orders(&rt, rt.alloc())?;
+    print_rows(&rt, rt.alloc())
 }

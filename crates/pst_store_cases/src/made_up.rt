@@ -131,18 +131,38 @@ fn run<H: VersionedHeap>(random: &mut Random, session: &Session<H>) -> u32 {
     open[random.below(many) as usize].run.0
 }
 
+/// A word and a number.
+fn one(alloc: Global, word: &str, first: u32) -> Result<String, NoMemory> {
+    format!(in alloc; "{word} {first}")
+}
+
+/// A word and two numbers.
+fn two(alloc: Global, word: &str, first: u32, second: u32) -> Result<String, NoMemory> {
+    format!(in alloc; "{word} {first} {second}")
+}
+
+/// A word, a number and a call.
+fn with_call(
+    alloc: Global,
+    word: &str,
+    number: u32,
+    call: Result<String, NoMemory>,
+) -> Result<String, NoMemory> {
+    format!(in alloc; "{word} {number} {}", call?)
+}
+
 /// A call of a procedure.
 fn proc_call(alloc: Global, random: &mut Random) -> Result<String, NoMemory> {
     let n = random.below(12);
     let k = random.below(5);
     match random.below(16) {
-        0..=2 => format!(in alloc; "grow {k}"),
-        3..=8 => format!(in alloc; "paint {}", random.below(100)),
-        9..=10 => format!(in alloc; "tie {n} {k}"),
-        11 => format!(in alloc; "loosen {k}"),
-        12..=13 => format!(in alloc; "turn {n}"),
-        14 => format!(in alloc; "crowd {k}"),
-        _ => format!(in alloc; "cut"),
+        0..=2 => one(alloc, "grow", k),
+        3..=8 => one(alloc, "paint", random.below(100)),
+        9..=10 => two(alloc, "tie", n, k),
+        11 => one(alloc, "loosen", k),
+        12..=13 => one(alloc, "turn", n),
+        14 => one(alloc, "crowd", k),
+        _ => "cut".to_string(alloc),
     }
 }
 
@@ -150,32 +170,36 @@ fn proc_call(alloc: Global, random: &mut Random) -> Result<String, NoMemory> {
 fn query_call(alloc: Global, random: &mut Random) -> Result<String, NoMemory> {
     let n = random.below(20);
     match random.below(2) {
-        0 => format!(in alloc; "keys {n}"),
-        _ => format!(in alloc; "over {n}"),
+        0 => one(alloc, "keys", n),
+        _ => one(alloc, "over", n),
     }
 }
 
-/// The next line of a script.
-fn next_line<H: VersionedHeap>(
+/// A line that comes seldom.
+fn seldom_line(alloc: Global, random: &mut Random, run: u32) -> Result<String, NoMemory> {
+    match random.below(8) {
+        0 => one(alloc, "drop", run),
+        1 => "stats".to_string(alloc),
+        2 => one(alloc, "budget", 100 + random.below(2_000)),
+        _ => one(alloc, "close", run),
+    }
+}
+
+/// The next line of a script, about a version and a run.
+fn next_line(
     alloc: Global,
     random: &mut Random,
-    session: &Session<H>,
+    version: u32,
+    run: u32,
 ) -> Result<String, NoMemory> {
-    let version = version(random, session.heap.count());
-    let run = run(random, session);
     match random.below(16) {
-        0..=5 => format!(in alloc; "run {version} {}", proc_call(alloc, random)?),
-        6..=7 => format!(in alloc; "query {version} {}", query_call(alloc, random)?),
-        8 => format!(in alloc; "open {version} {}", proc_call(alloc, random)?),
-        9..=11 => format!(in alloc; "call {run} {}", proc_call(alloc, random)?),
-        12..=13 => format!(in alloc; "step {run} {}", 1 + random.below(200)),
-        14 => format!(in alloc; "close {run}"),
-        _ => match random.below(8) {
-            0 => format!(in alloc; "drop {run}"),
-            1 => format!(in alloc; "stats"),
-            2 => format!(in alloc; "budget {}", 100 + random.below(2_000)),
-            _ => format!(in alloc; "close {run}"),
-        },
+        0..=5 => with_call(alloc, "run", version, proc_call(alloc, random)),
+        6..=7 => with_call(alloc, "query", version, query_call(alloc, random)),
+        8 => with_call(alloc, "open", version, proc_call(alloc, random)),
+        9..=11 => with_call(alloc, "call", run, proc_call(alloc, random)),
+        12..=13 => two(alloc, "step", run, 1 + random.below(200)),
+        14 => one(alloc, "close", run),
+        _ => seldom_line(alloc, random, run),
     }
 }
 
@@ -186,6 +210,25 @@ pub struct MadeUp {
     pub replies: Vec<u8>,
 }
 
+/// Makes one more line up, and has the session carry it out.
+fn go_on<H: VersionedHeap>(
+    alloc: Global,
+    session: &mut Session<H>,
+    random: &mut Random,
+    made: &mut MadeUp,
+) -> Result<(), NoMemory>
+    requires { IsGoing session.old.code session.old.engine (H.state session.old.heap) }
+    ensures { OnOk result (IsGoing session.new.code session.new.engine (H.state session.new.heap)) }
+{
+    let version = version(random, session.heap.count());
+    let run = run(random, session);
+    let line = next_line(alloc, random, version, run)?;
+    let reply = session.reply(alloc, line.as_bytes())?;
+    made.script.extend_from_slice(line.as_bytes())?;
+    made.script.push(b'\n')?;
+    made.replies.extend_from_slice(reply.as_slice())
+}
+
 /// Makes a script of so many lines up. A session carries it out meanwhile, so that the lines are about versions and runs that
 /// are there.
 pub fn make_up<H: VersionedHeap>(
@@ -194,18 +237,16 @@ pub fn make_up<H: VersionedHeap>(
     seed: u64,
     lines: u32,
 ) -> Result<MadeUp, NoMemory>
-    requires { IsGoing session.old (H.state session.old.heap) }
-    ensures { OnOk result (IsGoing session.new (H.state session.new.heap)) }
+    requires { IsGoing session.old.code session.old.engine (H.state session.old.heap) }
+    ensures { OnOk result (IsGoing session.new.code session.new.engine (H.state session.new.heap)) }
 {
     let mut random = Random::new(seed);
-    let mut script = Vec::new(alloc);
-    let mut replies = Vec::new(alloc);
+    let mut made = MadeUp {
+        script: Vec::new(alloc),
+        replies: Vec::new(alloc),
+    };
     for _ in 0..lines {
-        let line = next_line(alloc, &mut random, session)?;
-        let reply = session.reply(alloc, line.as_bytes())?;
-        script.extend_from_slice(line.as_bytes())?;
-        script.push(b'\n')?;
-        replies.extend_from_slice(reply.as_slice())?;
+        go_on(alloc, session, &mut random, &mut made)?;
     }
-    Ok(MadeUp { script, replies })
+    Ok(made)
 }

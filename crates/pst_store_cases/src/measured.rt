@@ -28,6 +28,21 @@ fn rests<O: Order + Drop, N: FatNodes>(store: &StoreOf<O, N>) -> bool {
     !store.pending() && used <= bound(store.counts())
 }
 
+/// Adds the reply to a line to the others, and answers whether the store rests then.
+fn answer<O: Order + Drop, N: FatNodes>(
+    alloc: Global,
+    session: &mut Session<StoreOf<O, N>>,
+    line: &[u8],
+    replies: &mut Vec<u8>,
+) -> Result<bool, NoMemory>
+    requires { IsGoing session.old.code session.old.engine (state_in session.old.heap) }
+    ensures { OnOk result (IsGoing session.new.code session.new.engine (state_in session.new.heap)) }
+{
+    let reply = session.reply(alloc, line)?;
+    replies.extend_from_slice(reply.as_slice())?;
+    Ok(rests(&session.heap))
+}
+
 /// Whether the lines of a script get these replies, and the store rests after each of them.
 pub fn answers_at_rest<O: Order + Drop, N: FatNodes>(
     alloc: Global,
@@ -35,18 +50,30 @@ pub fn answers_at_rest<O: Order + Drop, N: FatNodes>(
     script: &[u8],
     wanted: &[u8],
 ) -> Result<bool, NoMemory>
-    requires { IsGoing session.old (state_in session.old.heap) }
-    ensures { OnOk result (IsGoing session.new (state_in session.new.heap)) }
+    requires { IsGoing session.old.code session.old.engine (state_in session.old.heap) }
+    ensures { OnOk result (IsGoing session.new.code session.new.engine (state_in session.new.heap)) }
 {
     let mut replies = Vec::new(alloc);
     let mut rested = true;
     let lines = lines_of(alloc, script)?;
     for line in &lines {
-        let reply = session.reply(alloc, line)?;
-        replies.extend_from_slice(reply.as_slice())?;
-        rested = rested && rests(&session.heap);
+        rested = answer(alloc, session, line, &mut replies)? && rested;
     }
     Ok(rested && replies.as_slice() == wanted)
+}
+
+/// By how many nodes the store grows at a line.
+fn growth<O: Order + Drop, N: FatNodes>(
+    alloc: Global,
+    session: &mut Session<StoreOf<O, N>>,
+    line: &[u8],
+) -> Result<u64, NoMemory>
+    requires { IsGoing session.old.code session.old.engine (state_in session.old.heap) }
+    ensures { OnOk result (IsGoing session.new.code session.new.engine (state_in session.new.heap)) }
+{
+    let before = session.heap.nodes();
+    session.reply(alloc, line)?;
+    Ok(session.heap.nodes().saturating_sub(before))
 }
 
 /// Gives a line so many times, and answers by how many nodes the store grew at most at one of them.
@@ -56,14 +83,12 @@ pub fn most_growth<O: Order + Drop, N: FatNodes>(
     line: &[u8],
     times: u32,
 ) -> Result<u64, NoMemory>
-    requires { IsGoing session.old (state_in session.old.heap) }
-    ensures { OnOk result (IsGoing session.new (state_in session.new.heap)) }
+    requires { IsGoing session.old.code session.old.engine (state_in session.old.heap) }
+    ensures { OnOk result (IsGoing session.new.code session.new.engine (state_in session.new.heap)) }
 {
     let mut most = 0;
     for _ in 0..times {
-        let before = session.heap.nodes();
-        session.reply(alloc, line)?;
-        most = most.max(session.heap.nodes().saturating_sub(before));
+        most = most.max(growth(alloc, session, line)?);
     }
     Ok(most)
 }

@@ -33,7 +33,7 @@ impl<H: VersionedHeap> Session<H> {
     /// A session at the opening, in which version 0 is alone.
     pub fn new(alloc: Global, code: Compiled, heap: H) -> Session<H>
         requires { IsStartedHeap (meaning_of code) (H.state heap) }
-        ensures { IsGoing result (H.state result.heap) }
+        ensures { IsGoing result.code result.engine (H.state result.heap) }
     {
         let engine = Engine::new(alloc);
         a_new_engine_stands(&code, &heap, &engine);
@@ -42,9 +42,9 @@ impl<H: VersionedHeap> Session<H> {
 
     /// The text of the reply to a command.
     fn carry_out(&mut self, alloc: Global, command: &Command) -> Result<Text, NoMemory>
-        requires going { IsGoing self.old (H.state self.old.heap) }
+        requires going { IsGoing self.old.code self.old.engine (H.state self.old.heap) }
         requires range { in_range command.now ≡ true }
-        ensures { OnOk result (IsGoing self.new (H.state self.new.heap)) }
+        ensures { OnOk result (IsGoing self.new.code self.new.engine (H.state self.new.heap)) }
     {
         let reply = self
             .engine
@@ -54,8 +54,8 @@ impl<H: VersionedHeap> Session<H> {
 
     /// The text of the reply to a line, which is empty for a line that is no command.
     pub fn reply(&mut self, alloc: Global, line: &[u8]) -> Result<Text, NoMemory>
-        requires { IsGoing self.old (H.state self.old.heap) }
-        ensures { OnOk result (IsGoing self.new (H.state self.new.heap)) }
+        requires { IsGoing self.old.code self.old.engine (H.state self.old.heap) }
+        ensures { OnOk result (IsGoing self.new.code self.new.engine (H.state self.new.heap)) }
     {
         match read_line(alloc, line) {
             Ok(Some(command)) => self.carry_out(alloc, &command),
@@ -68,8 +68,8 @@ impl<H: VersionedHeap> Session<H> {
 
     /// The replies to the lines of a script, as one text.
     pub fn replies(&mut self, alloc: Global, script: &[u8]) -> Result<Text, NoMemory>
-        requires { IsGoing self.old (H.state self.old.heap) }
-        ensures { OnOk result (IsGoing self.new (H.state self.new.heap)) }
+        requires { IsGoing self.old.code self.old.engine (H.state self.old.heap) }
+        ensures { OnOk result (IsGoing self.new.code self.new.engine (H.state self.new.heap)) }
     {
         let mut replies = Vec::new(alloc);
         let lines = lines_of(alloc, script)?;
@@ -82,7 +82,7 @@ impl<H: VersionedHeap> Session<H> {
 
     /// The dump of a version.
     fn dump_of(&self, alloc: Global, version: VersionNo) -> Result<Text, Trouble>
-        requires { IsGoing self.now (H.state self.now.heap) }
+        requires { IsGoing self.now.code self.now.engine (H.state self.now.heap) }
     {
         self.heap.known_versions();
         match self.heap.place_of(version) {
@@ -93,7 +93,7 @@ impl<H: VersionedHeap> Session<H> {
 
     /// The dumps of all versions, as one text.
     pub fn dumps(&self, alloc: Global) -> Result<Text, Trouble>
-        requires { IsGoing self.now (H.state self.now.heap) }
+        requires { IsGoing self.now.code self.now.engine (H.state self.now.heap) }
     {
         let mut dumps = Vec::new(alloc);
         for version in 0..self.heap.count() {
@@ -110,8 +110,8 @@ pub fn have_same_dumps<A: VersionedHeap, B: VersionedHeap>(
     one: &Session<A>,
     other: &Session<B>,
 ) -> Result<bool, Trouble>
-    requires one { IsGoing one.now (A.state one.now.heap) }
-    requires other { IsGoing other.now (B.state other.now.heap) }
+    requires one { IsGoing one.now.code one.now.engine (A.state one.now.heap) }
+    requires other { IsGoing other.now.code other.now.engine (B.state other.now.heap) }
 {
     let dumps = one.dumps(alloc)?;
     Ok(dumps.as_slice() == other.dumps(alloc)?.as_slice())

@@ -35,7 +35,7 @@ pub fn over_store<O: Order + Drop, N: FatNodes>(
     alloc: Global,
     text: &str,
 ) -> Result<Session<StoreOf<O, N>>, Trouble>
-    ensures { IfOk result (λ session. IsGoing session (state_in session.heap)) }
+    ensures { IfOk result (λ session. IsGoing session.code session.engine (state_in session.heap)) }
 {
     let code = compiled(alloc, text.as_bytes())?;
     let mut store = StoreOf::empty();
@@ -45,7 +45,7 @@ pub fn over_store<O: Order + Drop, N: FatNodes>(
 
 /// A session over a forest, for the text of a program.
 pub fn over_forest(alloc: Global, text: &str) -> Result<Session<Forest>, Trouble>
-    ensures { IfOk result (λ session. IsGoing session (state_of session.heap)) }
+    ensures { IfOk result (λ session. IsGoing session.code session.engine (state_of session.heap)) }
 {
     let code = compiled(alloc, text.as_bytes())?;
     let forest = forest_for(alloc, &code)?;

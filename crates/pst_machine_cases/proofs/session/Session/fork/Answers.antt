@@ -1,6 +1,5 @@
 use Rattle.std.proofs.Common.{rules}
 use Rattle.pst_machine_cases.proofs.Sessions.{forked}
-use Rattle.pst_machine_cases.proofs.Beside.{still}
 use Rattle.pst_machine_cases.proofs.session.Session.fork.Goals as goal
 
 pub returns-clause-untouched : goal.returns-clause-untouched
@@ -8,6 +7,3 @@ returns-clause-untouched c = forked c.args.self.now.code _ _ c.in_ok-place.place
 
 pub returns-clause-place : goal.returns-clause-place
 returns-clause-place c = (c.in_ok-fork.ensures.ok.has, c.in_ok-fork.ensures.ok.writable)
-
-pub returns-clause-others : goal.returns-clause-others
-returns-clause-others c = still c.args.self.now.code _ _ c.in_ok-place.place c.in_ok-fork.field-0 c.known.ensures (search rules) c.in_ok-fork.ensures.ok (c.a_run_stays_ready.ensures.stays c.args.self.now.forest c.fork.new.self)
