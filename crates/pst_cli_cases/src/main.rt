@@ -21,7 +21,7 @@ use text::body_of;
 const PROGRAMS: &str = "programs";
 
 /// The files of the cases.
-const CASES: [&str; 13] = [
+const CASES: [&str; 14] = [
     "versions",
     "refusals",
     "open_runs",
@@ -30,6 +30,7 @@ const CASES: [&str; 13] = [
     "devices",
     "prefixes",
     "faults",
+    "grammar",
     "arrays",
     "typing",
     "pages",
