@@ -2,9 +2,8 @@
 
 ghost use Rattle.std.specs.Prelude.{◌≡◌, []};
 
-use pst_base::{Numbers, RunNo, Text, VersionNo};
+use pst_base::{Items, Numbers, RunNo, Text, VersionNo};
 use std::alloc::Global;
-use std::marker::Model;
 
 /// The budget that stands at first, in charges.
 pub const BUDGET: u32 = 1_000_000;
@@ -37,19 +36,7 @@ pub struct NamedCall {
 }
 
 /// The calls of a run, in order.
-#[derive(Debug, Drop)]
-pub struct NamedCalls {
-    pub items: Vec<NamedCall>,
-}
-
-impl Model for NamedCalls {
-    ghost use Rattle.std.specs.Prelude.{List};
-    ghost use Rattle.pst_history.specs.declared.history.NamedCall.{NamedCall};
-
-    ghost Value = { List NamedCall };
-
-    ghost view = { λ a. a.items.items };
-}
+pub type NamedCalls = Items<NamedCall>;
 
 /// A run: the version on whose heap it works, its calls, the budget that stood when it was opened, and the charges granted
 /// so far, at most the budget.
@@ -70,34 +57,10 @@ pub struct Descent {
 }
 
 /// Runs by number, from the first since the opening.
-#[derive(Debug, Drop)]
-pub struct Runs {
-    pub items: Vec<Run>,
-}
-
-impl Model for Runs {
-    ghost use Rattle.std.specs.Prelude.{List};
-    ghost use Rattle.pst_history.specs.declared.history.Run.{Run};
-
-    ghost Value = { List Run };
-
-    ghost view = { λ a. a.items.items };
-}
+pub type Runs = Items<Run>;
 
 /// Versions by number, from the first since the opening.
-#[derive(Debug, Drop)]
-pub struct Descents {
-    pub items: Vec<Descent>,
-}
-
-impl Model for Descents {
-    ghost use Rattle.std.specs.Prelude.{List};
-    ghost use Rattle.pst_history.specs.declared.history.Descent.{Descent};
-
-    ghost Value = { List Descent };
-
-    ghost view = { λ a. a.items.items };
-}
+pub type Descents = Items<Descent>;
 
 /// What a script has made of an opening: the budget that stands, and the runs and versions since.
 #[derive(Debug, Drop)]
@@ -116,12 +79,8 @@ impl Since {
     {
         Since {
             budget: BUDGET,
-            runs: Runs {
-                items: Vec::new(alloc),
-            },
-            versions: Descents {
-                items: Vec::new(alloc),
-            },
+            runs: Runs::new(alloc),
+            versions: Descents::new(alloc),
         }
     }
 }

@@ -1,8 +1,7 @@
 //! Declarations of a program's text.
 
 use crate::statement::Block;
-use pst_base::Text;
-use std::marker::Model;
+use pst_base::{Items, Text};
 
 /// A type as it was written: `int`, or the name of a record type.
 #[derive(Debug, Drop)]
@@ -61,70 +60,10 @@ pub enum Declaration {
 }
 
 /// The fields of a record type, in the order of declaration.
-#[derive(Debug, Drop)]
-pub struct Fields {
-    pub items: Vec<Field>,
-}
-
-impl Model for Fields {
-    ghost use Rattle.std.specs.Prelude.{List};
-    ghost use Rattle.pst_tree.specs.declared.declaration.Field.{Field};
-
-    ghost Value = { List Field };
-
-    ghost view = { λ a. a.items.items };
-}
-
-impl Fields {
-    ghost use Rattle.std.specs.Prelude.{◌≡◌};
-
-    /// The list of these items.
-    pub fn from_vec(items: Vec<Field>) -> Self
-        ensures { result ≡ items.items }
-    {
-        Fields { items }
-    }
-
-    /// The items, in order.
-    pub fn as_slice(&self) -> &[Field]
-        ensures { result.now ≡ self.now }
-    {
-        self.items.as_slice()
-    }
-}
+pub type Fields = Items<Field>;
 
 /// The parameters of a procedure, or its locals.
-#[derive(Debug, Drop)]
-pub struct Locals {
-    pub items: Vec<Local>,
-}
-
-impl Model for Locals {
-    ghost use Rattle.std.specs.Prelude.{List};
-    ghost use Rattle.pst_tree.specs.declared.declaration.Local.{Local};
-
-    ghost Value = { List Local };
-
-    ghost view = { λ a. a.items.items };
-}
-
-impl Locals {
-    ghost use Rattle.std.specs.Prelude.{◌≡◌};
-
-    /// The list of these items.
-    pub fn from_vec(items: Vec<Local>) -> Self
-        ensures { result ≡ items.items }
-    {
-        Locals { items }
-    }
-
-    /// The items, in order.
-    pub fn as_slice(&self) -> &[Local]
-        ensures { result.now ≡ self.now }
-    {
-        self.items.as_slice()
-    }
-}
+pub type Locals = Items<Local>;
 
 /// The declarations of a program, in order.
 #[derive(Debug, Drop)]

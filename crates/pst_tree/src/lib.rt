@@ -3,6 +3,8 @@
 //! The types are what the parser gives: declarations, statements and expressions as they were written, parentheses kept,
 //! with the line of each. The definitions beside them are the same tree without boxes, names as lists of bytes, and how
 //! deep a tree is: the height of an expression and the nesting of blocks are said here, once, for the parser and typing.
+//!
+//! For example `(a + 1)` is `Parens` of a `Binary`, of height 2 and so of depth 3.
 #![tactic(auto)]
 
 mod declaration;
