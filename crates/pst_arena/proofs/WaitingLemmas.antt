@@ -134,11 +134,6 @@ pub pending_is : (ns : List Node) (queue : Queue) (empty : Bool) → AreLinked n
 pending_is ns queue true h is = (λ k. absurd (false≢true k), λ k. absurd (k (none_waiting ns queue h (is.0 refl))))
 pending_is ns queue false h is = (λ k e. false≢true (is.1 (ends_none ns queue h e)), λ k. refl)
 
--- the first of a queue
-pub some_waits : (ns : List Node) (queue : Queue) (xs : List ℕ) (id : NodeId) → Queues ns queue xs → Some id ≡ head_of xs → waiting_of ns ≡ [] → ⊥
-some_waits ns queue [] id h e w = none-some id (sym e)
-some_waits ns queue (x ∷ xs) id h e w = in_none x (subst (λ (ys : List ℕ). Contains ys x) w (link_waits ns x (link_of_waiting (link_at ns) (x ∷ xs) x h.chain (or_left (eqb x x) (waits xs x) (eq-eqb x x refl)))))
-
 pub none_waits : (ns : List Node) (queue : Queue) (xs : List ℕ) → Queues ns queue xs → None ≡ head_of xs → waiting_of ns ≡ []
 none_waits ns queue [] h e = waiting_none ns queue h
 none_waits ns queue (x ∷ xs) h e = absurd (none-some (numbered x) e)
@@ -162,11 +157,3 @@ alike_from k [] (n ∷ new) count to back = absurd (omega arith)
 alike_from k (o ∷ old) [] count to back = absurd (omega arith)
 alike_from k (o ∷ old) (n ∷ new) count to back =
     with_alike o.link n.link k (waiting_from (suc k) old) (waiting_from (suc k) new) (to 0) (back 0) (alike_from (suc k) old new (omega arith) (λ i. to (suc i)) (λ i. back (suc i)))
-
-pub queued_alike : (types : List TypeShape) (old new : List Node) (queue queue' : Queue) (xs ys : List ℕ) → length new ≡ length old → IsQueued types old queue xs → IsQueued types new queue' ys → ((i : ℕ) → IsOver types old i → IsOver types new i) → ((i : ℕ) → IsOver types new i → IsOver types old i) → waiting_of new ≡ waiting_of old
-queued_alike types old new queue queue' xs ys count a b to back = alike_from 0 old new count
-    (λ i e. out_by new queue' ys i b (λ o. false≢true (sym (out_waits (length old) (link_at old) queue xs i a.held e) ∙ a.all i (back i o))))
-    (λ i e. out_by old queue xs i a (λ o. false≢true (sym (out_waits (length new) (link_at new) queue' ys i b.held e) ∙ b.all i (to i o))))
-  where
-    out_by : (ns : List Node) (queue : Queue) (xs : List ℕ) (i : ℕ) → IsQueued types ns queue xs → (IsOver types ns i → ⊥) → link_at ns i ≡ Out
-    out_by ns queue xs i h ne = ⊎_elim (λ (q : waits xs i ≡ true). absurd (ne (h.over i q))) (λ (q : waits xs i ≡ false). h.held.others i q) (cases_Bool (waits xs i))

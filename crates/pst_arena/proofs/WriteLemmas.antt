@@ -88,13 +88,6 @@ module _ (types : List TypeShape) (qs : List ℕ) (ns : List Node) (s : IsSound 
 
 -- ---- the node that a field leads to
 
--- what a field is found to hold
-pub led_is : (w : Chart) (x f b : ℕ) (c : Content) → c ≡ w.holds x f b → (y : NodeId) → c ≡ TargetOf y → LeadsTo w x f b (Some y)
-led_is w x f b c e y q = sym e ∙ q
-
-pub led_none : (w : Chart) (x f b : ℕ) (c : Content) → c ≡ w.holds x f b → HoldsPointer w x f b → ((y : ℕ) → c ≡ Target y → ⊥) → LeadsTo w x f b None
-led_none w x f b c e h away = ⊎_elim (λ (q : w.holds x f b ≡ Null). q) (λ (q : (y : ℕ) × (w.holds x f b ≡ Target y)). absurd (away q.0 (e ∙ q.1))) h
-
 module _ (qs : List ℕ) (ns : List Node) (x f b : ℕ) (all : AreRows qs ns) (mir : IsMirrored (chart qs ns)) where
   pub led_there : (led : Option NodeId) → LeadsTo (chart qs ns) x f b led → (i : ℕ) → IsNode led i → i < length ns
   led_there None h i n = absurd n
@@ -123,13 +116,6 @@ pair_room x y = ap (λ (n : ℕ). slot_stamps x y.0 + n) (slot_own y.0) ∙ two_
 pub room_x : (ns : List Node) (x : ℕ) (led : Option NodeId) → is_some led ≡ true → HaveRoom ns x led None → (d : Row) → HasRoom (row_at ns x d) 2
 room_x ns x None e room d = absurd (false≢true e)
 room_x ns x (Some y) e room d = omega (arith, room x (inl refl) d, field_room x y)
-
-pub entry_room : (qs : List ℕ) (ns : List Node) (x f b : ℕ) (led : Option NodeId) → LeadsTo (chart qs ns) x f b led → HaveRoom ns x led None → HasRoomForEntry qs ns x f b
-entry_room qs ns x f b None h room y d e = let q : Null ≡ Target y = sym h ∙ e in cc
-entry_room qs ns x f b (Some z) h room y d e =
-    let q : y ≡ z.0 = target_node y z.0 (sym e ∙ h) in
-    let r : HasRoom (row_at ns z.0 d) (cond (eqb z.0 x) 4 2) = omega (arith, room z.0 (inr refl) d, pair_room x z) in
-    subst (λ (k : ℕ). HasRoom (row_at ns k d) (cond (eqb k x) 4 2)) (sym q) r
 
 -- what is left of it where a slot was set
 touched_room : (old new : List Node) (x : ℕ) → IsTouched 2 old new x → (i : ℕ) (d : Row) (j : ℕ) → HasRoom (row_at old i d) (j + slot_stamps x i) → HasRoom (row_at new i d) j
@@ -309,7 +295,3 @@ cleared_then types qs x f b old new (Some y) e l all mir all' mir' h un = cleare
 pub cleared_else : (types : List TypeShape) (qs : List ℕ) (x f b : ℕ) (ns : List Node) (led : Option NodeId) → is_some led ≡ false → AreRows qs ns → IsMirrored (chart qs ns) → LeadsTo (chart qs ns) x f b led → IsFieldCleared types qs ns ns x f b led
 cleared_else types qs x f b ns None e all mir h = cleared_none types qs x f b ns all mir h
 cleared_else types qs x f b ns (Some y) e all mir h = absurd (false≢true (sym e))
-
-pub led_some : (w : Chart) (x f b : ℕ) (led : Option NodeId) → is_some led ≡ true → LeadsTo w x f b led → (y : ℕ) × (w.holds x f b ≡ Target y)
-led_some w x f b None e h = absurd (false≢true e)
-led_some w x f b (Some y) e h = (y.0, h)

@@ -114,7 +114,7 @@ pub fn set_target<O: Order>(
     requires behind { rank (O.places order.now) at.end.0 ≡ suc (rank (O.places order.now) at.begin.0) }
     requires field { field_kind (type_of shape.now nodes.old.list.items id.0) field.0 ≡ Some (Pointer (type_no nodes.old.list.items target.0)) }
     requires slot { IsOpenSlot shape.now (O.places order.now) nodes.old.list.items target.0 (rank (O.places order.now) at.begin.0) id.0 field.0 slot.0 }
-    ensures set { OnOk result (IsPointerWritten shape.now (O.places order.now) (seen nodes.old.list.items) (seen nodes.new.list.items) id.0 field.0 (rank (O.places order.now) at.begin.0) target.0 slot.0) }
+    ensures set { let ps = O.places order.now in OnOk result (IsPointerWritten shape.now ps (seen nodes.old.list.items) (seen nodes.new.list.items) id.0 field.0 (rank ps at.begin.0) target.0 slot.0) }
     ensures rows { OnOk result (AllRows (rank (O.places order.now)) (length (O.places order.now)) (map (λ k. k.row) (seen nodes.new.list.items))) }
     ensures wide { OnOk result (AreWide shape.now (seen nodes.new.list.items)) }
     ensures sound { OnOk result (IsSound shape.now (O.places order.now) nodes.new.list.items) }

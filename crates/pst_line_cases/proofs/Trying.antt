@@ -146,13 +146,3 @@ module _ (h : State LinePlace NodeId) (s : Stored) (shape : List TypeShape) (m :
         ∙ ap (kind_from shape 0) (type_in-with_new empty root_name (new_record shape root_type)) ∙ k;
     room = subst (λ (c : Counts). HasRoomFor (record h { counts = c }) 10) (sym (m.counts ∙ st.counts)) (record { records = omega arith; pointer_writes = omega arith; value_writes = omega arith });
   }
-
-pub at_below : (v n : ℕ) (at : LinePlace) → Some at ≡ (if nat_lt v n then Some (record { stamp = v }) else None) → at.stamp < n
-at_below v n at e = ⊎_elim
-    (λ (l : v < n).
-    let is : Some at ≡ Some (record { stamp = v }) = e ∙ ap (λ b. if b then Some (record { stamp = v }) else None) (lt-ltb v n l) in
-    let same : at ≡ record { stamp = v } = cc in
-    let stamp : at.stamp ≡ v = ap (λ (p : LinePlace). p.stamp) same in
-    omega (arith, stamp, l))
-    (λ (l : n ≤ v). absurd (let is : Some at ≡ None = e ∙ ap (λ b. if b then Some (record { stamp = v }) else None) (false_from_ne_true (nat_lt v n) (λ t. let m = ltb-true v n t in omega (arith, m, l))) in cc))
-    (cases_lt v n)

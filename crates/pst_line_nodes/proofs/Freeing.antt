@@ -41,9 +41,6 @@ freed_one old xs y z x f n m held is there at made h at_z = record {
   others = λ i s ne. ap (λ (d : Seen). entry_of d s) (set_elsewhere old xs z i m is (λ p. ne y h (p ∙ at_z)));
 }
 
-pub freed_none : (old : List Seen) (x f : ℕ) (held : Content) → ((y : ℕ) → held ≡ Target y → ⊥) → AreFreed old old x f held
-freed_none old x f held none = record { same = refl; there = λ y s e. absurd (none y e); others = λ i s ne. refl }
-
 -- ---- only entries change
 
 module _ (made : ℕ → Bool) (mid new : List Seen) (same : map bare new ≡ map bare mid) where

@@ -75,9 +75,6 @@ module _ (shape : List TypeShape) (w : Arena) (n : ℕ) (c : AreChained w) (q : 
 
 -- ---- by nodes
 
-holding_none : (q : Name) → holding q None ≡ 0
-holding_none q = refl
-
 module _ (shape : List TypeShape) (end : ℕ) (w : Arena) (n : ℕ) (a : IsArena shape end w) (d : IsDrawn w) (y : ℕ) (h : IsIn w y n) where
   abbrev width : ℕ → ℕ
   width i = element_count (type_at shape (w.ty i))

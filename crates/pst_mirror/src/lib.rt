@@ -4,6 +4,9 @@
 //!
 //! Contract: laws alone. What keeps the mirror rule and every denotation: cuts on both sides, splits with their renaming; what
 //! in-degrees are by inverse slots; how a split lowers the potential. (After Driscoll, Sarnak, Sleator and Tarjan.)
+//!
+//! For example where a field of node 1 holds node 2 from position 5 up to position 9, an inverse slot of node 2 names that field
+//! of node 1 over the same stretch, and nowhere else.
 #![tactic(auto)]
 
 ghost use Rattle.pst_mirror.specs.Mirror.{CutLaw, CutRoundLaw, SplitLaw, SplitWholeLaw, UnlinkLaw, LinkLaw, AddLaw};

@@ -71,25 +71,3 @@ ready_inserted old new bed bed' z h ins row base stamps places =
           (cases_lt (rank old bed.row.lo.0) (rank old p));
       before = rise p bed.row.hi.0 a.before there;
     }
-
--- the row has another room
-pub ready_same : (list : List ℕ) (bed bed' : Bed) → IsReady list bed → IsSameRow bed.row bed'.row → bed'.base ≡ bed.base → bed'.stamps ≡ bed.stamps → bed'.places ≡ bed.places → IsReady list bed'
-ready_same list bed bed' h same base stamps places = record {
-  row_is = same.row_kept (rank list) (length list) h.row_is;
-  width = ap length same.slots ∙ h.width;
-  bases = rw base h.bases;
-  some = rw places h.some;
-  alive = rw places (λ (i : ℕ) (d : Pos) (l : i < length bed.places.items). record { after = rw same.lo ((h.alive i d l).after); before = rw same.hi ((h.alive i d l).before) });
-  known = rw stamps h.known;
-}
-
--- the row is set at the begin of its life
-pub ready_set : (list : List ℕ) (bed bed' : Bed) (f b : ℕ) (c : _) (e : Written) → IsReady list bed → IsRowSet (rank list) bed.row bed'.row f b c → IsRowIn list bed'.row → length bed'.base.items ≡ length bed.base.items → rank list e.place.0 < length list → bed'.stamps.items ≡ bed.stamps.items ++ e ∷ [] → bed'.places ≡ bed.places → IsReady list bed'
-ready_set list bed bed' f b c e h set row base there stamps places = record {
-  row_is = row;
-  width = set.width ∙ h.width;
-  bases = base ∙ h.bases;
-  some = rw places h.some;
-  alive = rw places (λ (i : ℕ) (d : Pos) (l : i < length bed.places.items). record { after = rw set.lo ((h.alive i d l).after); before = rw set.hi ((h.alive i d l).before) });
-  known = rw stamps (All-push (λ (x : Written). rank list x.place.0 < length list) bed.stamps.items e h.known there);
-}

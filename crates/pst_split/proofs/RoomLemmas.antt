@@ -101,13 +101,6 @@ named_there qs ns x s n j (FromOf ynode fslot) all mir e q =
     let slot : IsSlot qs ns y f n = target_slot qs ns y f n x all b in
     subst (λ (k : ℕ). k < length ns) (eqb-true y j q) slot.alive.there
 
-pub names_one : (i j : ℕ) (c : Content) → names i c ≡ true → names j c ≡ true → j ≡ i
-names_one i j (Number k) p q = absurd (false≢true p)
-names_one i j Null p q = absurd (false≢true p)
-names_one i j (TargetOf y) p q = sym (eqb-true y.0 j q) ∙ eqb-true y.0 i p
-names_one i j Free p q = absurd (false≢true p)
-names_one i j (FromOf y f) p q = sym (eqb-true y.0 j q) ∙ eqb-true y.0 i p
-
 -- the lives of two lists
 pub same_lives : (qs : List ℕ) (old new : List Node) → length new ≡ length old → ((i : ℕ) → lo_at new i ≡ lo_at old i) → ((i : ℕ) → hi_at new i ≡ hi_at old i) → frames_of new ≡ frames_of old → lives qs new ≡ lives qs old
 same_lives qs old new count lo hi frames =
