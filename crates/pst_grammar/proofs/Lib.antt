@@ -9,3 +9,4 @@ pub mod ProgramLaw
 pub mod StatementAgain
 pub mod DeclarationAgain
 pub mod Faults
+pub mod Stays

@@ -7,18 +7,22 @@
 //! Beside the grammar stands a reading of tokens from the front by precedence climbing, which a
 //! parser carries out.
 //!
-//! Contract: laws alone. Tokens are those of at most one program, whatever its depth; and reading gives exactly the programs
-//! within the limits, and else the first fault where it stands.
+//! Contract: laws alone. Tokens are those of at most one program, whatever its depth; reading gives exactly the programs
+//! within the limits, and else the first fault where it stands; and what is read of a declaration from some tokens stays so
+//! whatever follows them.
 //!
 //! For example `1 - 2 - 3` is spelled by the difference of `1 - 2` and 3 alone, since an operator's right side binds more
 //! tightly than the operator; and in `print 1 == 2 == 3;` the second `==` is unexpected, since comparisons form no chain.
 //!
 //!     tokens_have_one_tree(&tokens);
 //!     reading_answers_as_the_grammar();
+//!     reading_needs_no_more_tokens();
 #![tactic(auto)]
 
 mod laws;
 mod lexeme;
 
-pub use laws::{reading_answers_as_the_grammar, tokens_have_one_tree};
+pub use laws::{
+    reading_answers_as_the_grammar, reading_needs_no_more_tokens, tokens_have_one_tree,
+};
 pub use lexeme::{Label, Lead, Sign};

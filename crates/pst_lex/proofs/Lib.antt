@@ -6,4 +6,5 @@ pub mod Numbers
 pub mod Places
 pub mod Rows
 pub mod Spellings
+pub mod Taking
 pub mod Unique

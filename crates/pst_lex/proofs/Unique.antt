@@ -3,12 +3,11 @@ use Rattle.std.specs.Prelude.{◌≡◌, ℕ, ◌+◌, Bool, false, List, [], �
 use Rattle.std.proofs.Common.{refl, sym, ap, ◌∙◌, arith, subst, inl, inr}
 use Rattle.pst_lex.specs.declared.types.Token.{Token}
 use Rattle.pst_lex.specs.declared.types.TokenKind.{TokenKind}
-use Rattle.pst_lex.specs.declared.types.Tokens.{Tokens}
 use Rattle.pst_lex.specs.declared.faults.LexFault.{LexFault}
 use Rattle.pst_lex.specs.declared.faults.LexFault.TheVariants as fault
 use Rattle.pst_lex.specs.Bytes.{gap, feeds}
 use Rattle.pst_lex.specs.Words.{Word, word_of}
-use Rattle.pst_lex.specs.Lexing.{IsToken, IsFault, LexedTo, EndsAt, FaultsAt, Lexes, Faults, LexedAs, words_of, Tokenizes, AreWords, GivesTokens, GivesFault, GivesWords}
+use Rattle.pst_lex.specs.Lexing.{IsToken, IsFault, LexedTo, EndsAt, FaultsAt, Lexes, Faults, LexedAs, words_of, Scans, AreWords, GivesNoFault, GivesFault}
 use Rattle.pst_lex.proofs.Spellings.{kind_same}
 use Rattle.pst_lex.proofs.Fronts.{gap_stuck, gap_same, token_same, token_stuck, fault_stuck, token_no_fault, fault_same}
 
@@ -20,7 +19,7 @@ fields_same t u k f o l =
     ap (λ x. token x t.span.from t.span.to t.line) k ∙ ap (λ x. token u.kind x t.span.to t.line) f ∙ ap (λ x. token u.kind u.span.from x t.line) o ∙ ap (λ x. token u.kind u.span.from u.span.to x) l
 
 -- a token is the next
-abbrev NextIs : List ℕ → Type 0
+abbrev pub NextIs : List ℕ → Type 0
 NextIs text = (t : Word) × (blank : List ℕ) × (w : List ℕ) × (rest : List ℕ) × (text ≡ blank ++ (w ++ rest)) × (gap false blank ≡ Some false) × IsToken t w rest
 
 -- both say something of one place
@@ -28,16 +27,13 @@ abbrev Both : (List ℕ → ℕ → ℕ → Type 0) → (List ℕ → ℕ → �
 Both E F = (rest : List ℕ) × (at : ℕ) × (line : ℕ) × E rest at line × F rest at line
 
 -- this says something of a place where a token is the next
-abbrev Ahead : (List ℕ → ℕ → ℕ → Type 0) → Type 0
+abbrev pub Ahead : (List ℕ → ℕ → ℕ → Type 0) → Type 0
 Ahead E = (rest : List ℕ) × (at : ℕ) × (line : ℕ) × E rest at line × NextIs rest
 
--- two lists of tokens of one text are one, or one of them ends where the other has a token more
-meet : (E F : List ℕ → ℕ → ℕ → Type 0) (text : List ℕ) (at line : ℕ) (ts us : List Token) → LexedTo E text at line ts → LexedTo F text at line us →
-    ((ts ≡ us) × Both E F) ⊎ (Ahead E ⊎ Ahead F)
-meet E F text at line [] [] h g = inl (refl, (text, at, line, h, g))
-meet E F text at line [] (u ∷ us) h (blank, w, rest, is, gp, tok, f, o, l, more) = inr (inl (text, at, line, h, (word_of u.kind, blank, w, rest, is, gp, tok)))
-meet E F text at line (t ∷ ts) [] (blank, w, rest, is, gp, tok, f, o, l, more) g = inr (inr (text, at, line, g, (word_of t.kind, blank, w, rest, is, gp, tok)))
-meet E F text at line (t ∷ ts) (u ∷ us) (blank, w, rest, is, gp, tok, f, o, l, more) (blank', w', rest', is', gp', tok', f', o', l', more') =
+-- the first tokens of two lists of one text are one, and both lists go on from one place
+pub first_same : (E F : List ℕ → ℕ → ℕ → Type 0) (text : List ℕ) (at line : ℕ) (t u : Token) (ts us : List Token) → LexedTo E text at line (t ∷ ts) → LexedTo F text at line (u ∷ us) →
+    (t ≡ u) × (rest : List ℕ) × (at' : ℕ) × (line' : ℕ) × LexedTo E rest at' line' ts × LexedTo F rest at' line' us
+first_same E F text at line t u ts us (blank, w, rest, is, gp, tok, f, o, l, more) (blank', w', rest', is', gp', tok', f', o', l', more') =
     let front = gap_same false false false blank blank' (w ++ rest) (w' ++ rest') gp gp' (token_stuck (word_of t.kind) w rest tok) (token_stuck (word_of u.kind) w' rest' tok') (sym is ∙ is') in
     let one = token_same (word_of t.kind) (word_of u.kind) w w' rest rest' tok tok' front.2 in
     let long : length blank ≡ length blank' = ap length front.1 in
@@ -49,14 +45,24 @@ meet E F text at line (t ∷ ts) (u ∷ us) (blank, w, rest, is, gp, tok, f, o, 
     let more'' : LexedTo F rest (at + length blank + length w) (line + feeds blank) us =
     subst (λ r. LexedTo F r (at + length blank + length w) (line + feeds blank) us) (sym one.2)
     (subst (λ x. LexedTo F rest' x (line + feeds blank) us) place (subst (λ y. LexedTo F rest' (at + length blank' + length w') y us) line' more')) in
-    go (meet E F rest (at + length blank + length w) (line + feeds blank) ts us more more'') same
+    (same, rest, at + length blank + length w, line + feeds blank, more, more'')
+
+-- two lists of tokens of one text are one, or one of them ends where the other has a token more
+meet : (E F : List ℕ → ℕ → ℕ → Type 0) (text : List ℕ) (at line : ℕ) (ts us : List Token) → LexedTo E text at line ts → LexedTo F text at line us →
+    ((ts ≡ us) × Both E F) ⊎ (Ahead E ⊎ Ahead F)
+meet E F text at line [] [] h g = inl (refl, (text, at, line, h, g))
+meet E F text at line [] (u ∷ us) h (blank, w, rest, is, gp, tok, f, o, l, more) = inr (inl (text, at, line, h, (word_of u.kind, blank, w, rest, is, gp, tok)))
+meet E F text at line (t ∷ ts) [] (blank, w, rest, is, gp, tok, f, o, l, more) g = inr (inr (text, at, line, g, (word_of t.kind, blank, w, rest, is, gp, tok)))
+meet E F text at line (t ∷ ts) (u ∷ us) h g =
+    let (same, rest, at', line', more, more') = first_same E F text at line t u ts us h g in
+    go (meet E F rest at' line' ts us more more') same
   where
     go : ((ts ≡ us) × Both E F) ⊎ (Ahead E ⊎ Ahead F) → t ≡ u → ((t ∷ ts ≡ u ∷ us) × Both E F) ⊎ (Ahead E ⊎ Ahead F)
     go (inl p) same = inl (rw (same, p.0) refl, p.1)
     go (inr p) same = inr p
 
 -- no token is the next where the text ends
-end_no_token : (end : ℕ) → Ahead (EndsAt end) → ⊥
+pub end_no_token : (end : ℕ) → Ahead (EndsAt end) → ⊥
 end_no_token end (text, at, line, (inside, g, e), (t, blank, w, rest, is, gp, tok)) = gap_stuck false false blank (w ++ rest) inside gp (token_stuck t w rest tok) (rw is at g)
 
 -- no token is the next where a fault is
@@ -89,13 +95,17 @@ one_fault text f g (ts, h) (us, k) = go (meet (FaultsAt f) (FaultsAt g) text 0 1
     go (inr (inl a)) = absurd (fault_no_token f a)
     go (inr (inr a)) = absurd (fault_no_token g a)
 
-pub not_both : (text : List ℕ) (ts : List Token) (e : ℕ) (f : LexFault) → Lexes text ts e → Faults text f → ⊥
-not_both text ts e f h (us, k) = go (meet (EndsAt e) (FaultsAt f) text 0 1 ts us h k)
+-- the same wherever the text begins
+pub not_both_from : (text : List ℕ) (at line : ℕ) (ts us : List Token) (e : ℕ) (f : LexFault) → LexedTo (EndsAt e) text at line ts → LexedTo (FaultsAt f) text at line us → ⊥
+not_both_from text at line ts us e f h k = go (meet (EndsAt e) (FaultsAt f) text at line ts us h k)
   where
     go : ((ts ≡ us) × Both (EndsAt e) (FaultsAt f)) ⊎ (Ahead (EndsAt e) ⊎ Ahead (FaultsAt f)) → ⊥
     go (inl (same, (rest, at, line, (i, p, q), bad))) = end_no_fault rest i f at line p bad
     go (inr (inl a)) = end_no_token e a
     go (inr (inr a)) = fault_no_token f a
+
+pub not_both : (text : List ℕ) (ts : List Token) (e : ℕ) (f : LexFault) → Lexes text ts e → Faults text f → ⊥
+not_both text ts e f h (us, k) = not_both_from text 0 1 ts us e f h k
 
 -- ---- places and lines apart
 
@@ -132,26 +142,19 @@ no_fault text ws f h (us, k) = no_fault_after text 0 1 ws us f h k
 
 -- ---- what an answer says of a text of which something is known
 
-pub gives_tokens : (r : Result Tokens LexFault) (text : List ℕ) → Tokenizes r text → GivesTokens r text
-gives_tokens (Ok x) text h ts e g = one_lexing text x.list ts x.end e h g
-gives_tokens (Err fault.Memory) text h ts e g = refl
-gives_tokens (Err (fault.Byte l)) text h ts e g = absurd (not_both text ts e (fault.Byte l) g h)
-gives_tokens (Err (fault.Number l)) text h ts e g = absurd (not_both text ts e (fault.Number l) g h)
-gives_tokens (Err (fault.NameLength l)) text h ts e g = absurd (not_both text ts e (fault.NameLength l) g h)
+pub gives_no_fault : (r : Result (Unit {0}) LexFault) (text : List ℕ) → Scans r text → GivesNoFault r text
+gives_no_fault (Ok x) text h ts e g = tt
+gives_no_fault (Err fault.Memory) text h ts e g = refl
+gives_no_fault (Err (fault.Byte l)) text h ts e g = absurd (not_both text ts e (fault.Byte l) g h)
+gives_no_fault (Err (fault.Number l)) text h ts e g = absurd (not_both text ts e (fault.Number l) g h)
+gives_no_fault (Err (fault.NameLength l)) text h ts e g = absurd (not_both text ts e (fault.NameLength l) g h)
 
-pub gives_fault : (r : Result Tokens LexFault) (text : List ℕ) → Tokenizes r text → GivesFault r text
-gives_fault (Ok x) text h f g = not_both text x.list x.end f h g
+pub gives_fault : (r : Result (Unit {0}) LexFault) (text : List ℕ) → Scans r text → GivesFault r text
+gives_fault (Ok x) text (ts, e, h) f g = not_both text ts e f h g
 gives_fault (Err fault.Memory) text h f g = inr refl
 gives_fault (Err (fault.Byte l)) text h f g = inl (one_fault text (fault.Byte l) f h g)
 gives_fault (Err (fault.Number l)) text h f g = inl (one_fault text (fault.Number l) f h g)
 gives_fault (Err (fault.NameLength l)) text h f g = inl (one_fault text (fault.NameLength l) f h g)
-
-pub gives_words : (r : Result Tokens LexFault) (text : List ℕ) → Tokenizes r text → GivesWords r text
-gives_words (Ok x) text h ws g = sym ((its_words text x.list x.end h).1 ws g)
-gives_words (Err fault.Memory) text h ws g = refl
-gives_words (Err (fault.Byte l)) text h ws g = absurd (no_fault text ws (fault.Byte l) g h)
-gives_words (Err (fault.Number l)) text h ws g = absurd (no_fault text ws (fault.Number l) g h)
-gives_words (Err (fault.NameLength l)) text h ws g = absurd (no_fault text ws (fault.NameLength l) g h)
 
 -- ---- what tokens are, and how they stand
 

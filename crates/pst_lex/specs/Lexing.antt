@@ -1,12 +1,9 @@
 -- Which tokens a text has, and where its first fault stands.
-use Rattle.std.specs.Prelude.{take, drop, ◌≡◌, ℕ, ◌+◌, ◌^◌, ◌≤◌, ◌<◌, Bool, true, false, List, [], ◌∷◌, ◌++◌, length, Some, None, Result, Ok, Err, pos, negsuc, MatchResult, IsErrAnd, ◌⊎◌}
+use Rattle.std.specs.Prelude.{take, drop, ◌≡◌, ℕ, ◌+◌, ◌^◌, ◌≤◌, ◌<◌, Bool, true, false, List, [], ◌∷◌, ◌++◌, length, Some, None, Result, Ok, Err, pos, negsuc, IfErr, IsErrAnd, ◌⊎◌}
 use Rattle.std.specs.Bool.{OnTrue}
 use Rattle.std.specs.List.{list_all}
 use Rattle.std.specs.Fmt.{decimal}
 use Rattle.pst_lex.specs.declared.types.Token.{Token}
-use Rattle.pst_lex.specs.declared.types.Tokens.{Tokens}
-use Rattle.pst_lex.specs.declared.types.FirstTokens.{FirstTokens}
-use Rattle.pst_lex.specs.declared.types.FirstTokens.TheVariants as first
 use Rattle.pst_lex.specs.declared.types.Span.{Span}
 use Rattle.pst_lex.specs.declared.faults.LexFault.{LexFault}
 use Rattle.pst_lex.specs.declared.faults.LexFault.TheVariants as fault
@@ -95,19 +92,17 @@ FaultsAt f rest at line =
 abbrev pub Faults : List ℕ → LexFault → Type 0
 Faults text f = (tokens : List Token) × LexedTo (FaultsAt f) text 0 1 tokens
 
--- what reading a text gives: its tokens and the line of its end, or its first fault, unless memory ran out
-abbrev pub Tokenizes : Result Tokens LexFault → List ℕ → Type 0
-Tokenizes (Ok x) text = Lexes text x.list x.end
-Tokenizes (Err fault.Memory) text = Unit {0}
-Tokenizes (Err (fault.Byte line)) text = Faults text (fault.Byte line)
-Tokenizes (Err (fault.Number line)) text = Faults text (fault.Number line)
-Tokenizes (Err (fault.NameLength line)) text = Faults text (fault.NameLength line)
+-- the text has tokens up to its end
+abbrev pub HasLexing : List ℕ → Type 0
+HasLexing text = (tokens : List Token) × (end : ℕ) × Lexes text tokens end
 
--- the first tokens of a text, at most so many: all of them, or so many with another behind them
-abbrev pub AreFirst : (most : ℕ) → Result FirstTokens LexFault → List ℕ → Type 0
-AreFirst most (Ok (first.All x)) text = Lexes text x.list x.end × (length x.list ≤ most)
-AreFirst most (Ok (first.Front ts)) text = (t : Token) × (more : List Token) × (end : ℕ) × Lexes text (ts ++ t ∷ more) end × (length ts ≡ most)
-AreFirst most (Err f) text = Tokenizes (Err f) text
+-- what looking at a whole text tells: that it has tokens, or its first fault, unless memory ran out
+abbrev pub Scans : Result (Unit {0}) LexFault → List ℕ → Type 0
+Scans (Ok x) text = HasLexing text
+Scans (Err fault.Memory) text = Unit {0}
+Scans (Err (fault.Byte line)) text = Faults text (fault.Byte line)
+Scans (Err (fault.Number line)) text = Faults text (fault.Number line)
+Scans (Err (fault.NameLength line)) text = Faults text (fault.NameLength line)
 
 -- ---- tokens without places
 
@@ -147,17 +142,13 @@ AreInPlace text (t ∷ ts) = (bytes_at text t.span ≡ spelling (word_of t.kind)
 
 -- ---- what is answered for a text of which something is known
 
--- a text with these tokens gives them, unless memory ran out
-abbrev pub GivesTokens : Result Tokens LexFault → List ℕ → Type 0
-GivesTokens result text = (ts : List Token) (e : ℕ) → Lexes text ts e → MatchResult result (λ x. (x.list ≡ ts) × (x.end ≡ e)) (λ f. f ≡ fault.Memory)
+-- in a text with tokens no fault is found, unless memory ran out
+abbrev pub GivesNoFault : Result (Unit {0}) LexFault → List ℕ → Type 0
+GivesNoFault result text = (ts : List Token) (e : ℕ) → Lexes text ts e → IfErr result (λ f. f ≡ fault.Memory)
 
 -- a text with this fault gives it, unless memory ran out
-abbrev pub GivesFault : Result Tokens LexFault → List ℕ → Type 0
+abbrev pub GivesFault : Result (Unit {0}) LexFault → List ℕ → Type 0
 GivesFault result text = (f : LexFault) → Faults text f → IsErrAnd result (λ g. (g ≡ f) ⊎ (g ≡ fault.Memory))
-
--- a text with these tokens, places and lines apart, gives them, unless memory ran out
-abbrev pub GivesWords : Result Tokens LexFault → List ℕ → Type 0
-GivesWords result text = (ws : List Word) → LexedAs text ws → MatchResult result (λ x. words_of x.list ≡ ws) (λ f. f ≡ fault.Memory)
 
 -- ---- a text is read in one way
 

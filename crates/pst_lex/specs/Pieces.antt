@@ -1,5 +1,5 @@
 -- What the parts of the lexer answer at the front of a text.
-use Rattle.std.specs.Prelude.{◌++◌, ◌≡◌, ◌==◌, ℕ, ◌+◌, ◌^◌, ◌≤◌, ◌<◌, Bool, true, false, List, [], ◌∷◌, length, Option, Some, None, Result, Ok, Err, take, drop, slice_index, ◌⊎◌, IsSomeAnd}
+use Rattle.std.specs.Prelude.{◌≡◌, ◌==◌, ℕ, ◌+◌, ◌^◌, ◌≤◌, ◌<◌, Bool, true, false, List, [], ◌∷◌, length, Option, Some, None, Result, Ok, Err, take, drop, slice_index, ◌⊎◌, IsSomeAnd}
 use Rattle.std.specs.Fmt.{decimal}
 use Rattle.pst_lex.specs.declared.types.TokenKind.{TokenKind}
 use Rattle.pst_lex.specs.declared.faults.LexFault.{LexFault}
@@ -41,11 +41,6 @@ IsNameKind (Err f) w = f ≡ fault.Memory
 -- after these tokens exactly the rest is left, at this place and line
 abbrev pub Leaves : List ℕ → List Token → List ℕ → ℕ → ℕ → Type 0
 Leaves text tokens rest at line = LexedTo (λ r a l. (r ≡ rest) × (a ≡ at) × (l ≡ line)) text 0 1 tokens
-
--- Of the tokens so far the first ones are kept, at most so many: all of them, or so many with another behind them.
-abbrev pub Keeps : (most : ℕ) → (all : Bool) → List ℕ → (kept : List Token) → List ℕ → ℕ → ℕ → Type 0
-Keeps most true text kept rest at line = Leaves text kept rest at line × (length kept ≤ most)
-Keeps most false text kept rest at line = (t : Token) × (more : List Token) × Leaves text (kept ++ t ∷ more) rest at line × (length kept ≡ most)
 
 -- How many bytes stand before the next token, and the line behind them: they go up to the end, or to a byte that does not stand between tokens. Or a byte that may not stand in a text, in a comment.
 abbrev pub Skips : Result (ℕ × ℕ) LexFault → List ℕ → ℕ → Type 0

@@ -1,52 +1,22 @@
-//! The tokens of a whole text.
+//! The tokens of a text, one after another.
 
-ghost use Rattle.std.specs.Prelude.{◌≡◌, ◌+◌, ◌<◌, ◌^◌, length};
-ghost use Rattle.pst_lex.specs.Lexing.{AreFirst, Tokenizes, GivesTokens, GivesFault, GivesWords};
+ghost use Rattle.std.specs.Prelude.{◌≡◌, ◌+◌, ◌<◌, ◌≤◌, ◌^◌, length, IfOk, IfSome};
+ghost use Rattle.pst_lex.specs.Lexing.{Scans, GivesNoFault, GivesFault};
 
 use crate::faults::LexFault;
 use crate::gaps::gap_length;
 use crate::pieces::first_token;
-use crate::types::{FirstTokens, Span, Token, TokenKind, TokenList, Tokens};
+use crate::types::{Span, Token, TokenKind};
 use std::alloc::Global;
 
-/// The first tokens of a text of fewer than 4,294,967,295 bytes, in order, with their places and lines: at most so many. All
-/// of the text is looked at, but what is kept takes no more memory than these tokens.
-///
-/// # Errors
-/// The first fault in the text, or `Memory`.
-pub fn first_tokens(alloc: Global, text: &[u8], most: usize) -> Result<FirstTokens, LexFault>
-    requires { length text.now + 1 < 2 ^ 32 }
-    ensures { AreFirst most result text.now }
-{
-    let mut list = Vec::new(alloc);
-    let mut all = true;
-    let mut rest = text;
-    let mut at = 0;
-    let mut line = 1;
-    while !rest.is_empty() {
-        let (blank, start_line) = gap_length(rest, line)?;
-        line = start_line;
-        let (_, bytes) = rest.split_at(blank);
-        if bytes.is_empty() {
-            break;
-        }
-        let (kind, length) = first_token(alloc, bytes, line)?;
-        let (_, after) = bytes.split_at(length);
-        let from = at + blank;
-        at = from + length;
-        rest = after;
-        if list.len() == most {
-            all = false;
-        } else {
-            list.push(token(kind, from, at, line))?;
-        }
-    }
-    let list = TokenList::from_vec(list);
-    if all {
-        Ok(FirstTokens::All(Tokens { list, end: line }))
-    } else {
-        Ok(FirstTokens::Front(list))
-    }
+/// A text whose first tokens were taken: the bytes behind them, and their place and line. It keeps no token.
+#[derive(Debug, Drop)]
+pub struct Lexer<'a> {
+    rest: &'a [u8],
+    at: usize,
+    line: u32,
+    ghost short: { at + length rest.now + 1 < 2 ^ 32 },
+    ghost lines: { line ≤ at + 1 },
 }
 
 /// A token with its bytes, from one place of the text up to another.
@@ -64,20 +34,77 @@ fn token(kind: TokenKind, from: usize, to: usize, line: u32) -> Token
     }
 }
 
-/// The tokens of a text of fewer than 4,294,967,295 bytes, in order, with their places and lines, and the line of its end.
+impl<'a> Lexer<'a> {
+    ghost use Rattle.pst_lex.specs.Taking.{BeginsAt, TakesNext, TakesFromLeft, bytes_left, EndsThere, IsAtEnd, line_reached};
+
+    /// At the front of a text of fewer than 4,294,967,295 bytes.
+    pub fn new(text: &'a [u8]) -> Lexer<'a>
+        requires { length text.now + 1 < 2 ^ 32 }
+        ensures { BeginsAt result text.now }
+    {
+        Lexer {
+            rest: text,
+            at: 0,
+            line: 1,
+        }
+    }
+
+    /// Takes the next token, or finds the end of the text.
+    ///
+    /// # Errors
+    /// The fault that stands in the next token's place, or `Memory`. The text is left as it was.
+    pub fn next_token(&mut self, alloc: Global) -> Result<Option<Token>, LexFault>
+        ensures exact { TakesNext result self.old self.new }
+        ensures left { TakesFromLeft result self.old self.new }
+        ensures fewer { IfOk result (λ next. IfSome next (λ _. bytes_left self.new < bytes_left self.old)) }
+    {
+        let (blank, line) = gap_length(self.rest, self.line)?;
+        let from = self.at + blank;
+        let (_, bytes) = self.rest.split_at(blank);
+        if bytes.is_empty() {
+            *self = Lexer {
+                rest: bytes,
+                at: from,
+                line,
+            };
+            return Ok(None);
+        }
+        let (kind, length) = first_token(alloc, bytes, line)?;
+        let to = from + length;
+        let (_, rest) = bytes.split_at(length);
+        *self = Lexer { rest, at: to, line };
+        Ok(Some(token(kind, from, to, line)))
+    }
+
+    /// Whether no byte is left.
+    pub fn is_at_end(&self) -> bool
+        ensures exact { IsAtEnd result self.now }
+        ensures none_left { EndsThere result self.now }
+    {
+        self.rest.is_empty()
+    }
+
+    /// The line behind the bytes that were taken, from 1.
+    pub fn line(&self) -> u32
+        ensures { result ≡ line_reached self.now }
+    {
+        self.line
+    }
+}
+
+/// Looks at the whole of a text of fewer than 4,294,967,295 bytes, and keeps nothing: answers whether it has tokens.
 ///
 /// # Errors
 /// The first fault in the text, or `Memory`.
-pub fn tokens(alloc: Global, text: &[u8]) -> Result<Tokens, LexFault>
+pub fn find_fault(alloc: Global, text: &[u8]) -> Result<(), LexFault>
     requires { length text.now + 1 < 2 ^ 32 }
-    ensures exact { Tokenizes result text.now }
-    ensures tokens { GivesTokens result text.now }
+    ensures exact { Scans result text.now }
+    ensures tokens { GivesNoFault result text.now }
     ensures fault { GivesFault result text.now }
-    ensures words { GivesWords result text.now }
 {
-    // A token has a byte at least, so these are all.
-    match first_tokens(alloc, text, text.len())? {
-        FirstTokens::All(tokens) => Ok(tokens),
-        FirstTokens::Front(_) => unreachable!(),
+    let mut lexer = Lexer::new(text);
+    while let Some(token) = lexer.next_token(alloc)? {
+        drop(token);
     }
+    Ok(())
 }

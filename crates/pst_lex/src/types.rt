@@ -1,7 +1,6 @@
 //! Tokens, where they stand, and the list of them.
 
-use pst_base::Text;
-use std::marker::Model;
+use pst_base::{Items, Text};
 
 /// The bytes from `from` up to the one before `to`, counted from 0 at the front of the text.
 #[derive(Clone, Copy, Debug, PartialEq, Eq)]
@@ -32,57 +31,11 @@ pub struct Token {
 }
 
 /// A list of tokens.
-#[derive(Debug, Drop)]
-pub struct TokenList {
-    items: Vec<Token>,
-}
-
-impl Model for TokenList {
-    ghost use Rattle.std.specs.Prelude.{List};
-    ghost use Rattle.pst_lex.specs.declared.types.Token.{Token};
-
-    ghost Value = { List Token };
-
-    ghost view = { λ a. a.items.items };
-}
-
-impl TokenList {
-    ghost use Rattle.std.specs.Prelude.{◌≡◌};
-
-    /// The list of these items.
-    pub fn from_vec(items: Vec<Token>) -> Self
-        ensures { result ≡ items.items }
-    {
-        TokenList { items }
-    }
-
-    /// The items, given back.
-    pub fn into_vec(self) -> Vec<Token>
-        ensures { result.items ≡ self }
-    {
-        self.items
-    }
-
-    /// The items, in order.
-    pub fn as_slice(&self) -> &[Token]
-        ensures { result.now ≡ self.now }
-    {
-        self.items.as_slice()
-    }
-}
+pub type TokenList = Items<Token>;
 
 /// The tokens of a text in order, and the line of its end, from 1.
 #[derive(Debug, Drop)]
 pub struct Tokens {
     pub list: TokenList,
     pub end: u32,
-}
-
-/// The first tokens of a text, as many as were asked for.
-#[derive(Debug, Drop)]
-pub enum FirstTokens {
-    /// All tokens of the text: there are no more than were asked for.
-    All(Tokens),
-    /// As many as were asked for; others stand behind them.
-    Front(TokenList),
 }

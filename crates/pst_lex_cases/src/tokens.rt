@@ -1,6 +1,6 @@
 //! Texts with their tokens.
 
-use pst_lex::{FirstTokens, Mark, Token, TokenKind, first_tokens, mark_at, tokens};
+use pst_lex::{LexFault, Lexer, Mark, Token, TokenKind, find_fault, mark_at};
 use std::alloc::{AllocError, Global};
 use std::test::Fail;
 
@@ -30,11 +30,11 @@ fn all_shown(alloc: Global, text: &[u8]) -> Result<String, Fail> {
     if text.len() >= SMALL {
         return Ok(all);
     }
-    let read = tokens(alloc, text)?;
-    for token in read.list.as_slice() {
-        all.push_str(shown(alloc, token)?.as_str())?;
+    let mut lexer = Lexer::new(text);
+    while let Some(token) = lexer.next_token(alloc)? {
+        all.push_str(shown(alloc, &token)?.as_str())?;
     }
-    all.push_str(read.end.to_string(alloc)?.as_str())?;
+    all.push_str(lexer.line().to_string(alloc)?.as_str())?;
     Ok(all)
 }
 
@@ -112,23 +112,34 @@ fn marks_are_keywords_and_symbols(rt: HostRuntime) {
     assert_eq!(rt; mark_at(&TokenKind::Number(7)), None);
 }
 
-/// How many of the first tokens of a text of four there are, and whether these are all.
-fn first(alloc: Global, most: usize) -> Result<(usize, bool), Fail> {
-    match first_tokens(alloc, b"a = 1; # of four", most)? {
-        FirstTokens::All(tokens) => Ok((tokens.list.as_slice().len(), true)),
-        FirstTokens::Front(list) => Ok((list.as_slice().len(), false)),
-    }
+#[test]
+fn fault_behind_tokens_is_found(rt: HostRuntime) {
+    let alloc = rt.alloc();
+    assert_eq!(rt; find_fault(alloc, b"a = 1; # of four"), Ok(()));
+    assert_eq!(rt;
+        find_fault(alloc, b"a =\n007"),
+        Err(LexFault::Number { line: 2 })
+    );
+    assert_eq!(rt;
+        find_fault(alloc, b"# \x07"),
+        Err(LexFault::Byte { line: 1 })
+    );
 }
 
 #[test]
-fn first_tokens_are_as_many_as_are_asked_for(rt: HostRuntime) -> Result<(), Fail> {
+fn lexer_stays_before_a_fault_and_at_the_end(rt: HostRuntime) -> Result<(), Fail> {
     let alloc = rt.alloc();
-    assert_eq!(rt; first(alloc, 0)?, (0, false));
-    assert_eq!(rt; first(alloc, 3)?, (3, false));
-    assert_eq!(rt; first(alloc, 4)?, (4, true));
-    assert_eq!(rt; first(alloc, 5)?, (4, true));
-    // The fault behind them is found.
-    assert!(rt; first_tokens(alloc, b"a = 007", 1).is_err());
+    let mut lexer = Lexer::new(b"a\n&");
+    assert!(rt; lexer.next_token(alloc)?.is_some());
+    assert!(rt; lexer.next_token(alloc).is_err());
+    assert_eq!(rt; lexer.line(), 1);
+    assert!(rt; !lexer.is_at_end());
+    let mut lexer = Lexer::new(b"a # b\n");
+    assert!(rt; lexer.next_token(alloc)?.is_some());
+    assert!(rt; lexer.next_token(alloc)?.is_none());
+    assert!(rt; lexer.next_token(alloc)?.is_none());
+    assert_eq!(rt; lexer.line(), 2);
+    assert!(rt; lexer.is_at_end());
     Ok(())
 }
 
