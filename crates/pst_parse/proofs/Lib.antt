@@ -1,3 +1,4 @@
-pub mod Loops
-pub mod StatementEquations
+pub mod Opened
 pub mod Parsed
+pub mod Taken
+pub mod Windows

@@ -1,68 +1,73 @@
 -- From what reading a program gives to what parsing answers.
-use Rattle.std.specs.Prelude.{◌≡◌, ℕ, ◌≤◌, ◌+◌, ◌-◌, List, [], ◌∷◌, ◌++◌, length, take, drop}
+use Rattle.std.specs.Prelude.{◌≡◌, ℕ, ◌≤◌, ◌-◌, List, [], ◌++◌, length, take, drop, Result, Ok, Err}
 use Rattle.std.proofs.Common.{refl, sym, ap, ◌∙◌, subst, arith, length-append}
 use Rattle.std.proofs.Math.Seq.{drop-append_seam, take-append_seam}
-use Rattle.std.proofs.lemmas.List.{take-append-drop, take-map, drop-map, length-map}
+use Rattle.std.proofs.lemmas.List.{length-map, map-append, drop-map}
 use Rattle.pst_lex.specs.declared.types.Token.{Token}
 use Rattle.pst_lex.specs.declared.types.Tokens.{Tokens}
-use Rattle.pst_tree.specs.Syntax as tree
-use Rattle.pst_grammar.specs.Lexemes.{Lexeme, Name, lexeme, lexemes}
+use Rattle.pst_tree.specs.declared.declaration.Tree.{Tree}
+use Rattle.pst_tree.specs.View.{text_of}
+use Rattle.pst_grammar.specs.Lexemes.{Lexeme, lexeme, lexemes}
 use Rattle.pst_grammar.specs.Forms.{IsShallow}
 use Rattle.pst_grammar.specs.Spelling.{Program, program}
-use Rattle.pst_grammar.specs.Grammar.{Spells, IsUnexpected, IsTooDeep, IsFirstFaultOn, line_at}
-use Rattle.pst_grammar.specs.Reader.{Got, Bad, Fault, Unexpected, TooDeep}
-use Rattle.pst_grammar.specs.Declarations.{declarations, reading_program}
-use Rattle.pst_parse.specs.View.{BeginsOtherwise}
-use Rattle.pst_grammar.proofs.Faults.{only, unexpected, deep}
+use Rattle.pst_grammar.specs.Grammar.{Spells, IsUnexpected, IsTooDeep, IsFirstFaultOn}
+use Rattle.pst_grammar.specs.Reader.{Bad, Fault, Unexpected, TooDeep}
+use Rattle.pst_grammar.specs.Declarations.{reading_program}
+use Rattle.pst_parse.specs.declared.fault.ParseFault.{ParseFault}
+use Rattle.pst_parse.specs.declared.fault.ParseFault.TheVariants as fault
+use Rattle.pst_parse.specs.Answers.{Found, FindsOnly, FaultsUnexpected, FaultsTooDeep, IsReading, StopsOn}
+use Rattle.pst_parse.specs.Taking.{last}
+use Rattle.pst_grammar.proofs.Faults.{found, only, unexpected, deep}
 
-place_length : (list s : List Token) (u : List Lexeme) → lexemes list ≡ u ++ lexemes s → length list ≡ length u + length s
-place_length list s u at =
-    let long : length (lexemes list) ≡ length (u ++ lexemes s) = ap length at in
-    omega (arith, long, length-map list lexeme, length-map s lexeme, length-append u (lexemes s))
+-- what stands before ends that are as long is as long
+pub same_front : {A : Type 0} (u v x y : List A) → u ++ x ≡ v ++ y → length x ≡ length y → u ≡ v
+same_front u v x y e long =
+    let whole : length (u ++ x) ≡ length (v ++ y) = ap length e in
+    let n : length u ≡ length v = omega (arith, whole, long, length-append u x, length-append v y) in
+    sym (take-append_seam u x) ∙ ap (λ z. take (length u) z) e ∙ ap (λ k. take k (v ++ y)) n ∙ take-append_seam v y
 
-place_short : (list s : List Token) (u : List Lexeme) → lexemes list ≡ u ++ lexemes s → length s ≤ length list
-place_short list s u at = omega (arith, place_length list s u at)
+-- the last tokens are those that stand there
+pub last_same : (tokens s : List Token) (u : List Lexeme) → lexemes tokens ≡ u ++ lexemes s → lexemes (last (length s) tokens) ≡ lexemes s
+last_same tokens s u e =
+    let whole : length (lexemes tokens) ≡ length (u ++ lexemes s) = ap length e in
+    let n : length tokens - length s ≡ length u = omega (arith, whole, length-map tokens lexeme, length-map s lexeme, length-append u (lexemes s)) in
+    sym (drop-map lexeme (length tokens - length s) tokens) ∙ ap (drop (length tokens - length s)) e ∙ ap (λ k. drop k (u ++ lexemes s)) n ∙ drop-append_seam u (lexemes s)
 
--- a place in what the parser sees is one in the tokens
-place : (Is : List Lexeme → List Lexeme → Type 0) (tokens : Tokens) (s : List Token) → (u : List Lexeme) × (lexemes tokens.list ≡ u ++ lexemes s) × Is u (lexemes s) →
-    IsFirstFaultOn Is tokens (line_at tokens.end (drop (length tokens.list - length s) tokens.list))
-place Is tokens s (u, at, is) =
-    let long : length tokens.list ≡ length u + length s = place_length tokens.list s u at in
-    let n : length tokens.list - length s ≡ length u = omega arith in
-    let front : lexemes (take (length tokens.list - length s) tokens.list) ≡ u =
-    sym (take-map lexeme (length tokens.list - length s) tokens.list) ∙ ap (take (length tokens.list - length s)) at ∙ ap (λ k. take k (u ++ lexemes s)) n ∙ take-append_seam u (lexemes s) in
-    let back : lexemes (drop (length tokens.list - length s) tokens.list) ≡ lexemes s =
-    sym (drop-map lexeme (length tokens.list - length s) tokens.list) ∙ ap (drop (length tokens.list - length s)) at ∙ ap (λ k. drop k (u ++ lexemes s)) n ∙ drop-append_seam u (lexemes s) in (
-      take (length tokens.list - length s) tokens.list,
-      drop (length tokens.list - length s) tokens.list,
-      sym (take-append-drop (length tokens.list - length s) tokens.list),
-      subst (λ x. Is x (lexemes (drop (length tokens.list - length s) tokens.list))) (sym front) (subst (λ y. Is u y) (sym back) is),
-      refl,
-    )
+pub last_within : (tokens s : List Token) (u : List Lexeme) → lexemes tokens ≡ u ++ lexemes s → length s ≤ length tokens
+last_within tokens s u e =
+    let whole : length (lexemes tokens) ≡ length (u ++ lexemes s) = ap length e in
+    omega (arith, whole, length-map tokens lexeme, length-map s lexeme, length-append u (lexemes s))
 
-pub unexpected_on : (h d : ℕ) (tokens : Tokens) (s : List Token) (line : ℕ) → reading_program h d (lexemes tokens.list) ≡ Bad Unexpected (lexemes s) →
-    line ≡ line_at tokens.end (drop (length tokens.list - length s) tokens.list) → IsFirstFaultOn (IsUnexpected h d) tokens line
-unexpected_on h d tokens s line e on = subst (IsFirstFaultOn (IsUnexpected h d) tokens) (sym on) (place (IsUnexpected h d) tokens s (unexpected h d (lexemes tokens.list) (lexemes s) e))
+-- a fault in the words of reading is one in the grammar's
+first_fault : (Is : List Lexeme → List Lexeme → Type 0) (k : Fault) (tokens : Tokens) (line : ℕ) →
+    ((rest : List Lexeme) → reading_program 63 15 (lexemes tokens.list) ≡ Bad k rest → (before : List Lexeme) × (lexemes tokens.list ≡ before ++ rest) × Is before rest) →
+    StopsOn k line (reading_program 63 15 (lexemes tokens.list)) tokens.list tokens.end → IsFirstFaultOn Is tokens line
+first_fault Is k tokens line law (before, rest, at, bad, on) =
+    let (u, there, is) = law (lexemes rest) bad in
+    let whole : u ++ lexemes rest ≡ lexemes before ++ lexemes rest = sym there ∙ ap lexemes at ∙ map-append lexeme before rest in
+    (before, rest, at, subst (λ x. Is x (lexemes rest)) (same_front u (lexemes before) (lexemes rest) (lexemes rest) whole refl) is, on)
 
-pub deep_on : (h d : ℕ) (tokens : Tokens) (s : List Token) (line : ℕ) → reading_program h d (lexemes tokens.list) ≡ Bad TooDeep (lexemes s) →
-    line ≡ line_at tokens.end (drop (length tokens.list - length s) tokens.list) → IsFirstFaultOn (IsTooDeep h d) tokens line
-deep_on h d tokens s line e on = subst (IsFirstFaultOn (IsTooDeep h d) tokens) (sym on) (place (IsTooDeep h d) tokens s (deep h d (lexemes tokens.list) (lexemes s) e))
+pub has_found : (answer : Result Tree ParseFault) (tokens : Tokens) → IsReading answer tokens.list tokens.end → Found 63 15 answer tokens
+has_found (Ok tree) tokens h = found 63 15 (lexemes tokens.list) [] (text_of tree) h
+has_found (Err e) tokens h = tt
 
-pub unexpected_short : (h d : ℕ) (list s : List Token) → reading_program h d (lexemes list) ≡ Bad Unexpected (lexemes s) → length s ≤ length list
-unexpected_short h d list s e = let (u, at, is) = unexpected h d (lexemes list) (lexemes s) e in place_short list s u at
+no_program : (k : Fault) (ts rest : List Lexeme) (p : Program) → reading_program 63 15 ts ≡ Bad k rest → IsShallow 63 15 (program p) → Spells ts p → ⊥
+no_program k ts rest p e shallow sp = let o = only 63 15 ts p shallow sp in cc
 
-pub deep_short : (h d : ℕ) (list s : List Token) → reading_program h d (lexemes list) ≡ Bad TooDeep (lexemes s) → length s ≤ length list
-deep_short h d list s e = let (u, at, is) = deep h d (lexemes list) (lexemes s) e in place_short list s u at
+pub finds_only : (answer : Result Tree ParseFault) (tokens : Tokens) → IsReading answer tokens.list tokens.end → FindsOnly 63 15 answer tokens
+finds_only (Ok tree) tokens h p shallow sp = let o = only 63 15 (lexemes tokens.list) p shallow sp in cc
+finds_only (Err (fault.Unexpected line)) tokens (before, rest, at, bad, on) p shallow sp = absurd (no_program Unexpected (lexemes tokens.list) (lexemes rest) p bad shallow sp)
+finds_only (Err (fault.TooDeep line)) tokens (before, rest, at, bad, on) p shallow sp = absurd (no_program TooDeep (lexemes tokens.list) (lexemes rest) p bad shallow sp)
+finds_only (Err fault.Memory) tokens h p shallow sp = refl
 
--- what was read is that program
-pub same_program : (h d : ℕ) (ts rest : List Lexeme) (q : tree.ProgramText) (p : Program) → reading_program h d ts ≡ Got q rest → IsShallow h d (program p) → Spells ts p → q ≡ program p
-same_program h d ts rest q p e shallow sp = let o = only h d ts p shallow sp in cc
+pub faults_unexpected : (answer : Result Tree ParseFault) (tokens : Tokens) → IsReading answer tokens.list tokens.end → FaultsUnexpected 63 15 answer tokens
+faults_unexpected (Ok tree) tokens h = tt
+faults_unexpected (Err (fault.Unexpected line)) tokens h = first_fault (IsUnexpected 63 15) Unexpected tokens line (unexpected 63 15 (lexemes tokens.list)) h
+faults_unexpected (Err (fault.TooDeep line)) tokens h = tt
+faults_unexpected (Err fault.Memory) tokens h = tt
 
-pub no_fault : {X : Type 0} (h d : ℕ) (ts rest : List Lexeme) (k : Fault) (p : Program) → reading_program h d ts ≡ Bad k rest → IsShallow h d (program p) → Spells ts p → X
-no_fault h d ts rest k p e shallow sp = absurd (let o = only h d ts p shallow sp in cc)
-
--- where the first token is not the word of language 2, what stands there is read in language 1
-pub otherwise : (h d : ℕ) (ts : List Lexeme) → BeginsOtherwise ts → reading_program h d ts ≡ declarations 1 h d ts
-otherwise h d [] other = refl
-otherwise h d (Name x ∷ ts) other = rw other refl
-otherwise h d (t ∷ ts) other = refl
+pub faults_deep : (answer : Result Tree ParseFault) (tokens : Tokens) → IsReading answer tokens.list tokens.end → FaultsTooDeep 63 15 answer tokens
+faults_deep (Ok tree) tokens h = tt
+faults_deep (Err (fault.Unexpected line)) tokens h = tt
+faults_deep (Err (fault.TooDeep line)) tokens h = first_fault (IsTooDeep 63 15) TooDeep tokens line (deep 63 15 (lexemes tokens.list)) h
+faults_deep (Err fault.Memory) tokens h = tt

@@ -1,0 +1,15 @@
+use Rattle.std.proofs.Common.{◌≡◌, ◌≤◌, length}
+use Rattle.std.specs.Prelude.{map}
+use Rattle.pst_tree.specs.View.{field_of}
+use Rattle.pst_grammar.specs.Lexemes.{lexemes}
+use Rattle.pst_grammar.specs.Reader.{many}
+use Rattle.pst_grammar.specs.Declarations.{field, starts_field}
+use Rattle.pst_declarations.proofs.Loops.{behind}
+use Rattle.pst_declarations.proofs.declarations.fields.Given as goal
+
+abbrev pub invariant-loop-rest : goal.invariant-loop-rest
+invariant-loop-rest l =
+    (length l.rest ≤ length l.fn.tokens) × (behind (map field_of l.items.items) (many starts_field (field l.fn.language) (lexemes l.rest)) ≡ many starts_field (field l.fn.language) (lexemes l.fn.tokens))
+
+abbrev pub decreases-loop-rest : goal.decreases-loop-rest
+decreases-loop-rest l = length l.rest

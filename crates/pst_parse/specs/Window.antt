@@ -1,0 +1,35 @@
+-- The next tokens of a text, and what is left of it behind them.
+use Rattle.std.specs.Prelude.{◌≡◌, ◌≤◌, ◌<◌, ◌+◌, ◌⊎◌, ℕ, Bool, true, false, List, [], ◌++◌, length}
+use Rattle.pst_lex.specs.declared.types.Token.{Token}
+use Rattle.pst_lex.specs.Lexing.{Lexes}
+use Rattle.pst_lex.specs.Taking.{Left, bytes_left}
+use Rattle.pst_parse.specs.declared.window.Window.{Window}
+
+-- these tokens are still to be read, up to the end on this line: those at hand, and then those that the text has left
+abbrev pub Ahead : Window → List Token → (end : ℕ) → Type 0
+Ahead w tokens end = (left : List Token) × (tokens ≡ w.tokens.items ++ left) × Left w.lexer left end
+
+-- there are tokens up to the end
+abbrev pub HasAhead : Window → Type 0
+HasAhead w = (tokens : List Token) × (end : ℕ) × Ahead w tokens end
+
+-- what was still to be read is so
+abbrev pub KeepsAhead : (old new : Window) → Type 0
+KeepsAhead old new = (tokens : List Token) (end : ℕ) → Ahead old tokens end → Ahead new tokens end
+
+-- the tokens of the text are still to be read, and none is at hand
+abbrev pub IsFrontOf : Window → List ℕ → Type 0
+IsFrontOf w text = HasAhead w × (w.tokens.items ≡ []) × ((tokens : List Token) (end : ℕ) → Lexes text tokens end → Ahead w tokens end)
+
+-- no byte is left of the text, or two tokens were taken at least; and fewer bytes are left, where some were
+abbrev pub IsFilled : (old new : Window) → Type 0
+IsFilled old new = ((bytes_left new.lexer ≡ 0) ⊎ (length old.tokens.items + 2 ≤ length new.tokens.items)) × (0 < bytes_left old.lexer → bytes_left new.lexer < bytes_left old.lexer)
+
+-- whether the tokens at hand are the last
+abbrev pub IsLast : Bool → Window → Type 0
+IsLast true w = bytes_left w.lexer ≡ 0
+IsLast false w = 0 < bytes_left w.lexer
+
+-- where no byte is left, this is the line of the end
+abbrev pub EndsOn : ℕ → Window → Type 0
+EndsOn line w = bytes_left w.lexer ≡ 0 → (tokens : List Token) (end : ℕ) → Ahead w tokens end → end ≡ line
