@@ -2,8 +2,8 @@
 use Rattle.std.specs.Prelude.{ℕ}
 use Rattle.pst_lex.specs.declared.faults.LexFault.{LexFault}
 use Rattle.pst_lex.specs.declared.faults.LexFault.TheVariants as lexical
-use Rattle.pst_parse.specs.declared.program.ParseFault.{ParseFault}
-use Rattle.pst_parse.specs.declared.program.ParseFault.TheVariants as grammatical
+use Rattle.pst_parse.specs.declared.fault.ParseFault.{ParseFault}
+use Rattle.pst_parse.specs.declared.fault.ParseFault.TheVariants as grammatical
 use Rattle.pst_typing.specs.declared.fault.TypeFault.{TypeFault}
 use Rattle.pst_typing.specs.declared.fault.TypeFault.TheVariants as typing
 use Rattle.pst_judge.specs.declared.fault.FaultKind.{FaultKind}

@@ -1,7 +1,6 @@
 -- What is judged of the text of a program.
-use Rattle.std.specs.Prelude.{◌≡◌, ℕ, List, ◌∷◌, ◌++◌, Ok, Err, codes}
+use Rattle.std.specs.Prelude.{◌≡◌, ℕ, List, ◌++◌, Ok, Err, codes}
 use Rattle.std.specs.Fmt.{decimal}
-use Rattle.pst_lex.specs.declared.types.Token.{Token}
 use Rattle.pst_lex.specs.declared.types.Tokens.{Tokens}
 use Rattle.pst_lex.specs.declared.faults.LexFault.TheVariants as lexical
 use Rattle.pst_lex.specs.Lexing.{Lexes, Faults}
@@ -58,10 +57,6 @@ Judged text (Refused fault) = HasFault text fault.kind fault.line
 abbrev pub IsNoProgram : List ℕ → NoProgram → Type 0
 IsNoProgram text (no.Fault fault) = HasFault text fault.kind fault.line
 IsNoProgram text no.Memory = Unit {0}
-
--- each text that has these tokens and others behind them is refused for this reason
-abbrev pub IsEarlyFault : List Token → NoProgram → Type 0
-IsEarlyFault front why = (text : List ℕ) (t : Token) (more : List Token) (end : ℕ) → Lexes text (front ++ t ∷ more) end → IsNoProgram text why
 
 abbrev pub IsAccepted : Verdict → Type 0
 IsAccepted (Accepted syntax program) = Unit {0}

@@ -1,6 +1,6 @@
 //! The verdict on the text of a program.
 
-ghost use Rattle.std.specs.Prelude.{◌≡◌, ◌+◌, ◌<◌, ◌^◌, length, IfOk, IfErr, MatchResult};
+ghost use Rattle.std.specs.Prelude.{◌≡◌, ◌+◌, ◌<◌, ◌^◌, length, IfOk, MatchResult};
 ghost use Rattle.pst_tree.specs.Syntax.{ProgramText};
 ghost use Rattle.pst_tree.specs.View.{text_of};
 ghost use Rattle.pst_program.specs.View.{routines_of};
@@ -8,11 +8,11 @@ ghost use Rattle.pst_program.specs.Typed.{IsTyped};
 ghost use Rattle.pst_typing.specs.View.{program_of};
 ghost use Rattle.pst_grammar.specs.Grammar.{HasTree};
 ghost use Rattle.pst_judge.specs.Verdict.{Accepted};
-ghost use Rattle.pst_judge.specs.Verdict.{Judged, IsEarlyFault, IsNoProgram};
+ghost use Rattle.pst_judge.specs.Verdict.{Judged, IsNoProgram};
 
 use crate::fault::{Fault, FaultKind};
 use pst_base::NoMemory;
-use pst_lex::{FirstTokens, LexFault, TokenList, Tokens, first_tokens, tokens};
+use pst_lex::{LexFault, find_fault};
 use pst_parse::{ParseFault, parse};
 use pst_program::Program;
 use pst_tree::Tree;
@@ -94,53 +94,14 @@ impl From<NoMemory> for NoProgram {
     }
 }
 
-/// How many tokens of a text are kept at first. Where its fault stands among them, the others are looked at and not kept, so
-/// that a text which is no program takes little more than its own room.
-const FIRST_TOKENS: usize = 1 << 22;
-
-/// Refuses by a fault, where it has a line. No token has line 0.
-fn refuse_on(kind: FaultKind, line: u32) -> Result<(), NoProgram>
-    ensures { IfErr result (λ why. (0 < line) × (why ≡ NoProgram.Fault (record { kind = kind; line = line }))) }
-{
-    if line == 0 {
-        Ok(())
-    } else {
-        Err(NoProgram::at(kind, line))
-    }
-}
-
-/// Refuses the texts that have these tokens and others behind them, where their fault stands among these.
-fn refuse_early(alloc: Global, front: TokenList) -> Result<(), NoProgram>
-    ensures { IfErr result (IsEarlyFault front) }
-{
-    // These tokens do not end the text, so a fault at their end, which has line 0 here, is none of the text's.
-    let tokens = Tokens {
-        list: front,
-        end: 0,
-    };
-    match parse(alloc, &tokens) {
-        Ok(_) => Ok(()),
-        Err(ParseFault::Unexpected { line }) => refuse_on(FaultKind::Unexpected, line),
-        Err(ParseFault::TooDeep { line }) => refuse_on(FaultKind::TooDeep, line),
-        Err(ParseFault::Memory) => Err(NoProgram::Memory),
-    }
-}
-
-/// The tree of a text of fewer than 4,294,967,295 bytes. The text is let go once it is cut into tokens, and they once the
-/// tree is there.
+/// The tree of a text of fewer than 4,294,967,295 bytes. A lexical fault anywhere comes first, so the whole text is looked at
+/// before it is read. It is let go once the tree is there.
 fn read_tree(alloc: Global, text: Vec<u8>) -> Result<Tree, NoProgram>
     requires { length text.items + 1 < 2 ^ 32 }
     ensures { MatchResult result (λ tree. HasTree text.items (text_of tree)) (λ why. IsNoProgram text.items why) }
 {
-    let tokens = match first_tokens(alloc, &text, FIRST_TOKENS)? {
-        FirstTokens::All(tokens) => tokens,
-        FirstTokens::Front(front) => {
-            refuse_early(alloc, front)?;
-            tokens(alloc, &text)?
-        }
-    };
-    drop(text);
-    Ok(parse(alloc, &tokens)?)
+    find_fault(alloc, &text)?;
+    Ok(parse(alloc, &text)?)
 }
 
 /// The tree of a text of fewer than 4,294,967,295 bytes, and its typed program.

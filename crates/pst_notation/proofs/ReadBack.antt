@@ -2,7 +2,6 @@
 use Rattle.std.specs.Prelude.{◌≡◌, ℕ, List, [], ◌∷◌, Option, Some, None}
 use Rattle.std.proofs.Common.{refl, sym, ap, ◌∙◌, subst}
 use Rattle.pst_lex.specs.declared.types.Token.{Token}
-use Rattle.pst_lex.specs.declared.types.Tokens.{Tokens}
 use Rattle.pst_lex.specs.declared.types.TokenKind.{TokenKind}
 use Rattle.pst_lex.specs.declared.types.TokenKind.TheVariants as kind
 use Rattle.pst_lex.specs.declared.words.Mark.{Mark}
@@ -75,12 +74,12 @@ written : (text : List ℕ) (tokens : List Token) (end : ℕ) (p : Program) → 
 written text tokens end p lexes spells =
     subst AreWords (sym (spelled_words tokens p spells)) (are_words text (lexing.words_of tokens) (its_words text tokens end lexes).0)
 
-pub keeps_tokens : (text : List ℕ) (tokens : Tokens) (tree : Tree) → KeepsTokens text tokens tree
-keeps_tokens text tokens tree h d (lexes, (p, e, shallow, spells)) =
+pub keeps_tokens : (text : List ℕ) (tree : Tree) → KeepsTokens text tree
+keeps_tokens text tree h d tokens (lexes, (p, e, shallow, spells)) =
     subst (λ (ws : List Word). LexedAs (canonical (text_of tree)) ws) (spelled_words tokens.list p spells)
     (has_its_tokens (text_of tree) p e (written text tokens.list tokens.end p lexes spells))
 
-pub keeps_tree : (text : List ℕ) (tokens : Tokens) (tree : Tree) → KeepsTree text tokens tree
-keeps_tree text tokens tree h d (lexes, (p, e, shallow, spells)) ts end is =
+pub keeps_tree : (text : List ℕ) (tree : Tree) → KeepsTree text tree
+keeps_tree text tree h d tokens (lexes, (p, e, shallow, spells)) ts end is =
     let is_written = written text tokens.list tokens.end p lexes spells in
     (reads_back (text_of tree) h d p e is_written shallow ts end is, reads_as_no_other (text_of tree) p e is_written shallow.formed ts end is)

@@ -53,10 +53,10 @@ abbrev pub IsReadAs : (h d : ℕ) → List ℕ → Tokens → Tree → Type 0
 IsReadAs h d text tokens tree = Lexes text tokens.list tokens.end × Found h d (Ok tree) tokens
 
 -- the canonical text of the tree that a text was read as has the tokens of that text, places and lines apart
-abbrev pub KeepsTokens : List ℕ → Tokens → Tree → Type 0
-KeepsTokens text tokens tree = (h d : ℕ) → IsReadAs h d text tokens tree → LexedAs (canonical (text_of tree)) (words_of tokens.list)
+abbrev pub KeepsTokens : List ℕ → Tree → Type 0
+KeepsTokens text tree = (h d : ℕ) (tokens : Tokens) → IsReadAs h d text tokens tree → LexedAs (canonical (text_of tree)) (words_of tokens.list)
 
 -- the tokens of the canonical text of such a tree are those of the tree, lines apart, within the same limits, and of no other
-abbrev pub KeepsTree : List ℕ → Tokens → Tree → Type 0
-KeepsTree text tokens tree =
-    (h d : ℕ) → IsReadAs h d text tokens tree → (ts : List Token) (end : ℕ) → Lexes (canonical (text_of tree)) ts end → AreTokensOf h d (text_of tree) ts × AreTokensOfNoOther (text_of tree) ts
+abbrev pub KeepsTree : List ℕ → Tree → Type 0
+KeepsTree text tree =
+    (h d : ℕ) (tokens : Tokens) → IsReadAs h d text tokens tree → (ts : List Token) (end : ℕ) → Lexes (canonical (text_of tree)) ts end → AreTokensOf h d (text_of tree) ts × AreTokensOfNoOther (text_of tree) ts

@@ -3,7 +3,6 @@
 ghost use Rattle.pst_tree.specs.View.{text_of};
 ghost use Rattle.pst_notation.specs.Laws.{HasItsTokens, HasNoFault, ReadsBack, ReadsAsNoOther, DropsLines, KeepsTokens, KeepsTree};
 
-use pst_lex::Tokens;
 use pst_tree::Tree;
 
 /// The canonical text of a tree whose names are names and whose numbers are numbers: it has the tokens of the tree, lines
@@ -21,11 +20,10 @@ pub fn canonical_text_reads_as_its_tree(tree: &Tree)
 
 /// The canonical text of a tree that a text was read as: it has the same tokens as that text, places and lines apart, and
 /// is read as that tree, lines apart, and as no other.
-pub fn canonical_text_keeps_what_was_read(text: &[u8], tokens: &Tokens, tree: &Tree)
-    ensures tokens { KeepsTokens text.now tokens.now tree.now }
-    ensures program { KeepsTree text.now tokens.now tree.now }
+pub fn canonical_text_keeps_what_was_read(text: &[u8], tree: &Tree)
+    ensures tokens { KeepsTokens text.now tree.now }
+    ensures program { KeepsTree text.now tree.now }
 {
     let _ = text;
-    let _ = tokens;
     let _ = tree;
 }

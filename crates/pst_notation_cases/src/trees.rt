@@ -1,7 +1,7 @@
 //! Trees with their canonical texts.
 
 use pst_base::{NoMemory, Text};
-use pst_lex::tokens;
+use pst_lex::find_fault;
 use pst_notation::{
     canonical_text_keeps_what_was_read, canonical_text_reads_as_its_tree, print_program,
 };
@@ -15,9 +15,9 @@ use std::test::Fail;
 #[test]
 fn text_that_was_read_keeps_its_tokens(rt: HostRuntime) -> Result<(), Fail> {
     let text = b"language # of arrays\n 2";
-    let read = tokens(rt.alloc(), text)?;
-    let tree = parse(rt.alloc(), &read)?;
-    canonical_text_keeps_what_was_read(text, &read, &tree);
+    find_fault(rt.alloc(), text)?;
+    let tree = parse(rt.alloc(), text)?;
+    canonical_text_keeps_what_was_read(text, &tree);
     let canonical = print_program(rt.alloc(), &tree)?;
     assert_eq!(rt; canonical.as_slice(), b"language 2\n".as_slice());
     Ok(())
