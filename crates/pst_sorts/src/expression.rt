@@ -308,7 +308,7 @@ fn equality<'t>(
     left: Judged<'t>,
     right: Judged<'t>,
 ) -> Result<Judged<'t>, TypeFault>
-    ensures { Answers judged_of result (equality (setting_of setting.now) line written.entry.op (expr_of written.entry.left.now) (expr_of written.entry.right.now) (judged_of left.entry) (judged_of right.entry)) }
+    ensures { let w = written.entry in Answers judged_of result (equality (setting_of setting.now) line w.op (expr_of w.left.now) (expr_of w.right.now) (judged_of left.entry) (judged_of right.entry)) }
 {
     match left {
         Judged::Bare => match right {
@@ -342,7 +342,7 @@ fn combine<'t>(
     left: Judged<'t>,
     right: Judged<'t>,
 ) -> Result<Judged<'t>, TypeFault>
-    ensures { Answers judged_of result (combined (setting_of setting.now) line written.entry.op (expr_of written.entry.left.now) (expr_of written.entry.right.now) (judged_of left.entry) (judged_of right.entry)) }
+    ensures { let w = written.entry in Answers judged_of result (combined (setting_of setting.now) line w.op (expr_of w.left.now) (expr_of w.right.now) (judged_of left.entry) (judged_of right.entry)) }
 {
     let sorts = match written.op {
         Op::Add | Op::Sub | Op::Mul | Op::Div | Op::Rem => (Sort::Int, Sort::Int),

@@ -1,6 +1,5 @@
 pub mod Held
 pub mod Parts
-pub mod Blocks
 pub mod Few
 pub mod Noted
 pub mod Accepted

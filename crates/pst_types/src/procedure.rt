@@ -12,11 +12,11 @@ ghost use Rattle.pst_scope.specs.View.{kind_word, entries_of, local_of, scope_of
 ghost use Rattle.pst_types.specs.View.{procedure_text_of};
 ghost use Rattle.pst_types.specs.Parts.{counted, variables_in, procedure_in, by_parts};
 
-use crate::statement::judge_block;
 use indexmap::IndexMap;
 use pst_base::{Kind, Kinds, Text};
 use pst_program::TypedProc;
 use pst_scope::{Scope, Setting, Variable, Word};
+use pst_statements::judge_block;
 use pst_tree::{Block, Local, TypeName};
 use pst_typing::TypeFault;
 use std::alloc::{AllocError, Global};
@@ -92,7 +92,7 @@ fn add_variables<'t>(
     locals: &'t [Local],
 ) -> Result<(), TypeFault>
     requires { most ≤ 72 }
-    ensures { Answers (λ _. entries_of local_of variables.new.entries) result (through (variable (scope_of scope.now) most) (entries_of local_of variables.old.entries) (map tree_view.local_of locals.now)) }
+    ensures { let es = entries_of local_of in Answers (λ _. es variables.new.entries) result (through (variable (scope_of scope.now) most) (es variables.old.entries) (map tree_view.local_of locals.now)) }
 {
     for local in locals {
         add_variable(scope, most, variables, local)?;

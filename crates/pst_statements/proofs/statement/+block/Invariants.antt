@@ -3,8 +3,8 @@ use Rattle.pst_tree.specs.View as tree_view
 use Rattle.pst_program.specs.View as typed_view
 use Rattle.pst_typing.specs.Statements.{block}
 use Rattle.pst_scope.specs.View.{setting_of}
-use Rattle.pst_types.proofs.Blocks.{behind}
-use Rattle.pst_types.proofs.statement.+block.Given as goal
+use Rattle.pst_statements.proofs.Blocks.{behind}
+use Rattle.pst_statements.proofs.statement.+block.Given as goal
 
 abbrev pub invariant-judge_block-loop-statement : goal.invariant-judge_block-loop-statement
 invariant-judge_block-loop-statement l =

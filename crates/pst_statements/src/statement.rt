@@ -294,9 +294,10 @@ fn judge_form(
     }
 }
 
-/// The statements in order.
+/// Judges the statements of a block in order, each with the blocks inside it: the first fault with its line, or the typed
+/// block. Recursion is as deep as blocks stand in one another.
 #[cycle(block)]
-pub(crate) fn judge_block(
+pub fn judge_block(
     alloc: Global,
     setting: &Setting,
     statements: &Block,

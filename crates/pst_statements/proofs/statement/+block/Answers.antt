@@ -1,8 +1,8 @@
 use Rattle.std.proofs.Common.{◌≡◌, length, ap, arith}
 use Rattle.pst_program.specs.declared.block.TypedBlock.{out-roll-TypedBlock}
 use Rattle.pst_scope.specs.View.{setting_of}
-use Rattle.pst_types.proofs.Blocks.{block_starts, block_on, block_ends}
-use Rattle.pst_types.proofs.statement.+block.Goals as goal
+use Rattle.pst_statements.proofs.Blocks.{block_starts, block_on, block_ends}
+use Rattle.pst_statements.proofs.statement.+block.Goals as goal
 
 pub judge_block-loop-statement-init : goal.judge_block-loop-statement-init
 judge_block-loop-statement-init t c = block_starts (setting_of c.args.setting.now) c.args.statements.now _ _ c.in_ok-items.ensures.items c.deref-statement-items.ensures.value

@@ -3,8 +3,8 @@ use Rattle.pst_tree.specs.View as tree_view
 use Rattle.pst_program.specs.View as typed_view
 use Rattle.pst_typing.specs.Statements.{arguments}
 use Rattle.pst_scope.specs.View.{setting_of}
-use Rattle.pst_types.proofs.Blocks.{ahead}
-use Rattle.pst_types.proofs.statement.pass.Given as goal
+use Rattle.pst_statements.proofs.Blocks.{ahead}
+use Rattle.pst_statements.proofs.statement.pass.Given as goal
 
 abbrev pub invariant-loop-index : goal.invariant-loop-index
 invariant-loop-index l =
