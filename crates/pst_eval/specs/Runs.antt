@@ -7,7 +7,7 @@ use Rattle.pst_eval.specs.declared.whole.Outcome.{Outcome}
 
 -- the task that a run is given
 abbrev pub task_of : RunSpec → Task
-task_of s = record { run = s.run; calls = calls_of s.calls; budget = s.budget }
+task_of s = record { run = s.run; calls = calls_of s.calls.now; budget = s.budget }
 
 -- the answer and the heap that is left are this outcome
 pub record IsOutcome (o : Outcome) (heap : Heap) (is : Comes) : Type 0 where

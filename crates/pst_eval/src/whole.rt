@@ -12,14 +12,14 @@ use crate::calls::run_calls;
 use crate::tally::{End, Tally};
 use pst_base::{Counts, NoMemory, Numbers, RunNo, Trap, TrapKind};
 use pst_heap::PlainHeap;
-use pst_program::{Calls, Ended, Program};
+use pst_program::{Ended, ProcCall, Program};
 use std::alloc::Global;
 
 /// What is run: a run's number, its calls in order, the budget in charges that they share, and how many of these are granted.
-#[derive(Debug, Drop)]
-pub struct RunSpec {
+#[derive(Clone, Copy, Debug)]
+pub struct RunSpec<'a> {
     pub run: RunNo,
-    pub calls: Calls,
+    pub calls: &'a [ProcCall],
     pub budget: u32,
     /// At most the budget.
     pub granted: u32,
@@ -58,7 +58,7 @@ pub fn evaluate(
             value_writes: 0,
         },
     };
-    let end = run_calls(alloc, program, spec.calls.as_slice(), heap, &mut tally)?;
+    let end = run_calls(alloc, program, spec.calls, heap, &mut tally)?;
     Ok(Outcome {
         ended: ended(end, spec.budget <= spec.granted),
         printed: Numbers::from_vec(tally.printed),

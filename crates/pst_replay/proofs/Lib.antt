@@ -5,3 +5,4 @@ pub mod Progress
 pub mod Queries
 pub mod Counting
 pub mod Opening
+pub mod Numbers

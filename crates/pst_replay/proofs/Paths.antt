@@ -6,11 +6,11 @@ use Rattle.pst_history.specs.declared.history.Descent.{Descent}
 use Rattle.pst_history.specs.declared.history.Run.{Run}
 use Rattle.pst_history.specs.declared.history.Since.{Since}
 use Rattle.pst_history.specs.Meaning.{Meaning, IsLawful, CanBeDone}
-use Rattle.pst_history.specs.History.{History, heap_of, run_at, made_by, work_of}
+use Rattle.pst_history.specs.History.{History, heap_of, made_by, opening, run_at, since, work_of}
 use Rattle.pst_history.specs.Sound.{IsSoundHistory}
 use Rattle.pst_history.proofs.Heaps.{heap_of-made}
 use Rattle.pst_history.proofs.Sound.{run-ready}
-use Rattle.pst_replay.specs.Replay.{IsPath, IsFirst, kept, parent_in, parent_number}
+use Rattle.pst_replay.specs.Replay.{IsPath, IsFirst, parent_in, parent_number}
 
 pub path-last : (versions : List Descent) (from to : ℕ) (path : List ℕ) (v : ℕ) → IsPath versions from to (path ++ v ∷ []) → IsFirst versions from to path v
 path-last versions from to [] v p = record { parent = p.3; above = p.1; there = p.2; rest = sym p.0 }
@@ -30,12 +30,12 @@ pub record IsMade (m : Meaning) (h : History) (k : ℕ) (v : Descent) (run : Run
   pub ready : CanBeDone m (work_of v.run.0 run) (heap_of m h (parent_in h.versions k))
   pub heap : heap_of m h k ≡ made_by m v.run.0 (Some run) (heap_of m h (parent_in h.versions k))
 
-pub version-run : (m : Meaning) (s : Since) → IsSoundHistory m (kept m.shape s) → (k : ℕ) (v : Descent) → slice_get s.versions (k - 1) ≡ Some v → IsSome (run_at (kept m.shape s) v.run.0)
+pub version-run : (m : Meaning) (s : Since) → IsSoundHistory m (since (opening m.shape) s) → (k : ℕ) (v : Descent) → slice_get s.versions (k - 1) ≡ Some v → IsSome (run_at (since (opening m.shape) s) v.run.0)
 version-run m s sound k v e = let x = sound.versions (k - 1) v e in let P : Option Run → Type 0 = λ o. IsSome o in subst P (sym x.found) refl
 
-pub version-made : (m : Meaning) → IsLawful m → (s : Since) → IsSoundHistory m (kept m.shape s) → (k : ℕ) (v : Descent) (run : Run) → slice_get s.versions (k - 1) ≡ Some v → run_at (kept m.shape s) v.run.0 ≡ Some run → 0 < k → IsMade m (kept m.shape s) k v run
+pub version-made : (m : Meaning) → IsLawful m → (s : Since) → IsSoundHistory m (since (opening m.shape) s) → (k : ℕ) (v : Descent) (run : Run) → slice_get s.versions (k - 1) ≡ Some v → run_at (since (opening m.shape) s) v.run.0 ≡ Some run → 0 < k → IsMade m (since (opening m.shape) s) k v run
 version-made m law s sound k v run e found above =
-    let h : History = kept m.shape s in
+    let h : History = since (opening m.shape) s in
     let x = sound.versions (k - 1) v e in
     let at : 1 + (k - 1) ≡ k = omega arith in
     let one : x.run ≡ run = same_Some x.run run (sym x.found ∙ found) in

@@ -10,14 +10,14 @@ use Rattle.pst_history.specs.declared.history.Run.{Run}
 use Rattle.pst_history.specs.declared.history.Since.{Since}
 use Rattle.pst_history.specs.declared.history.NamedCall.{NamedCall}
 use Rattle.pst_history.specs.Meaning.{Meaning, kinds_refusal}
-use Rattle.pst_history.specs.History.{History, refusal, first, run_refusal, calls_refusal, run_at, is_open_run, outcome_of, work_of, stepped, step_reply, close_reply, closed, closed_run, called_more, granted_more, with_run, with_version, ended, version_count}
+use Rattle.pst_history.specs.History.{History, refusal, first, run_refusal, calls_refusal, run_at, is_open_run, outcome_of, work_of, stepped, step_reply, close_reply, closed, closed_run, called_more, granted_more, with_run, with_version, ended, opening, since, version_count}
 use Rattle.pst_history.specs.Sound.{IsSoundHistory}
 use Rattle.pst_history.proofs.Refusals.{first-none, accepted_kinds, accepted_run, has_calls, open_run, IsOpenRun}
 use Rattle.pst_history.proofs.Numbered.{numbered-same}
 use Rattle.pst_history.proofs.Steps.{IsRestated, restated, restated-sound, heap_of-restated}
 use Rattle.pst_history.proofs.After.{closed-is, closing, granting, calling}
 use Rattle.pst_eval.specs.declared.whole.Outcome.{Outcome as Told}
-use Rattle.pst_replay.specs.Replay.{IsEnd, kept}
+use Rattle.pst_replay.specs.Replay.{IsEnd}
 
 -- a history in which an open run was changed
 pub record IsChanged (m : Meaning) (h new : History) (n : ℕ) (f : Run → Run) : Type 0 where
@@ -89,5 +89,5 @@ progress-replies m h new number f r x = IfOk-weaker r (λ reply. (run : Run) →
 pub closed-replies : {E : Type 0} (m : Meaning) (h new : History) (number : RunNo) (o : Told) (r : Result Reply E) → (x : IsChanged m h new number.0 closed_run) → IsEnd (outcome_of m h number.0 x.run x.run.budget) o → IfOk r (λ reply. reply ≡ ended (version_count new) o.printed o.ended) → IfOk r (λ reply. reply ≡ close_reply m h number (run_at h number.0))
 closed-replies m h new number o r x is = IfOk-weaker r (λ reply. reply ≡ ended (version_count new) o.printed o.ended) (λ reply. reply ≡ close_reply m h number (run_at h number.0)) (λ reply e. closed-reply m h new number o reply x is e)
 
-pub closed-histories : {E : Type 0} (m : Meaning) (h new : History) (last : Since) (n : ℕ) (o : Told) (parent : VersionNo) (r : Result Reply E) → (x : IsChanged m h new n closed_run) → IsEnd (outcome_of m h n x.run x.run.budget) o → parent ≡ x.run.parent → OnOk r (kept m.shape last ≡ with_version new n parent o.ended) → OnOk r (kept m.shape last ≡ closed m h n)
-closed-histories m h new last n o parent r x is same = on_ok_weaker r (λ e. closed-history m h new (kept m.shape last) n o parent x is same e)
+pub closed-histories : {E : Type 0} (m : Meaning) (h new : History) (last : Since) (n : ℕ) (o : Told) (parent : VersionNo) (r : Result Reply E) → (x : IsChanged m h new n closed_run) → IsEnd (outcome_of m h n x.run x.run.budget) o → parent ≡ x.run.parent → OnOk r (since (opening m.shape) last ≡ with_version new n parent o.ended) → OnOk r (since (opening m.shape) last ≡ closed m h n)
+closed-histories m h new last n o parent r x is same = on_ok_weaker r (λ e. closed-history m h new (since (opening m.shape) last) n o parent x is same e)

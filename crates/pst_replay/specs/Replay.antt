@@ -1,12 +1,13 @@
 -- What the calls of a replayer come to.
-use Rattle.std.specs.Prelude.{◌≡◌, ◌<◌, ◌≤◌, ℕ, ◌+◌, ◌-◌, List, [], ◌∷◌, Option, Some, None, length, zero, suc, slice_get, count_by, Bool, true, false}
+use Rattle.std.specs.Prelude.{◌≡◌, ◌<◌, ◌≤◌, ℕ, ◌+◌, ◌-◌, List, [], ◌∷◌, Option, Some, None, length, map, zero, suc, slice_get, count_by, Bool, true, false}
 use Rattle.pst_base.specs.declared.names.RunNo.{RunNo}
 use Rattle.pst_base.specs.declared.names.VersionNo.{VersionNo}
 use Rattle.pst_base.specs.declared.names.Kind.{Kind}
 use Rattle.pst_base.specs.declared.names.Kind.TheVariants.{Int, Pointer}
 use Rattle.pst_base.specs.declared.shape.TypeShape.{TypeShape}
 use Rattle.pst_program.specs.declared.program.Program.{Program}
-use Rattle.pst_program.specs.Outcome.{Outcome}
+use Rattle.pst_program.specs.Outcome.{Outcome, TaskCall, calls_of}
+use Rattle.pst_program.specs.View.{routines_of}
 use Rattle.pst_script.specs.declared.command.Command.{Command}
 use Rattle.pst_script.specs.declared.command.Command.TheVariants as command
 use Rattle.pst_script.specs.declared.reply.Reply.{Reply}
@@ -17,22 +18,36 @@ use Rattle.pst_history.specs.declared.history.Since.{Since}
 use Rattle.pst_history.specs.Meaning.{Meaning}
 use Rattle.pst_history.specs.History.{History, opening, since, is_open, with_run, run_at, opened, outcome_of, stepped, reply, after}
 use Rattle.pst_history.specs.Sound.{IsSoundHistory}
-use Rattle.pst_history.specs.Direct.{meaning_of}
+use Rattle.pst_history.specs.Direct.{direct_call, meaning_of}
 use Rattle.pst_eval.specs.declared.whole.Outcome.{Outcome as Told}
+use Rattle.pst_replay.specs.declared.history.NumberedHistory.{NumberedHistory}
 use Rattle.pst_replay.specs.declared.replayer.Replayer.{Replayer}
 
--- what is kept, as a history: it began with version 0 alone
-abbrev pub kept : List TypeShape → Since → History
-kept shape s = since (opening shape) s
+-- what has happened since version 0 was alone, as a history of a program
+abbrev pub history_for : Program → Since → History
+history_for program s = since (opening (meaning_of program).shape) s
+
+-- what is kept, as a history
+abbrev pub kept : List TypeShape → NumberedHistory → History
+kept shape k = since (opening shape) k.since
 
 -- the history that is kept for a program
-abbrev pub kept_for : Program → Since → History
-kept_for program s = kept (meaning_of program).shape s
+abbrev pub kept_for : Program → NumberedHistory → History
+kept_for program k = history_for program k.since
 
--- a replayer that may answer another command of a program: it keeps a history, and how many of its runs are open
+-- the calls of a run by the numbers of their procedures
+abbrev pub direct_calls : Program → Run → List TaskCall
+direct_calls program r = map (direct_call (routines_of program)) r.calls
+
+-- the calls that are kept by number are those of the runs
+abbrev pub IsNumbered : Program → NumberedHistory → Type 0
+IsNumbered program k = map calls_of k.calls ≡ map (direct_calls program) k.since.runs
+
+-- a replayer that may answer another command of a program: it keeps a history, its calls by number, and how many of its runs are open
 pub record MayApply (program : Program) (r : Replayer) : Type 0 where
   pub sound : IsSoundHistory (meaning_of program) (kept_for program r.history)
-  pub counted : r.open_runs ≡ count_by is_open r.history.runs
+  pub numbered : IsNumbered program r.history
+  pub counted : r.open_runs ≡ count_by is_open r.history.since.runs
 
 -- how many runs are open after a command that is not refused
 abbrev pub open_after : ℕ → Command → ℕ
@@ -60,21 +75,21 @@ pub record IsEnd (o : Outcome) (e : Told) : Type 0 where
   pub counts : e.counts ≡ o.counts
 
 -- what is told of the end of a run of the history that is kept, under its grant
-abbrev pub IsEndOfRun : Program → Since → (number : ℕ) → Told → Type 0
-IsEndOfRun program s n told = (r : Run) → run_at (kept_for program s) n ≡ Some r → IsEnd (outcome_of (meaning_of program) (kept_for program s) n r r.granted) told
+abbrev pub IsEndOfRun : Program → NumberedHistory → (number : ℕ) → Told → Type 0
+IsEndOfRun program k n told = (r : Run) → run_at (kept_for program k) n ≡ Some r → IsEnd (outcome_of (meaning_of program) (kept_for program k) n r r.granted) told
 
 -- whether a run of the history that is kept has ended under its grant
-abbrev pub TellsProgress : Program → Since → RunNo → Reply → Type 0
-TellsProgress program s run reply =
-    (r : Run) → run_at (kept_for program s) run.0 ≡ Some r → reply ≡ stepped run (outcome_of (meaning_of program) (kept_for program s) run.0 r r.granted).end
+abbrev pub TellsProgress : Program → NumberedHistory → RunNo → Reply → Type 0
+TellsProgress program k run reply =
+    (r : Run) → run_at (kept_for program k) run.0 ≡ Some r → reply ≡ stepped run (outcome_of (meaning_of program) (kept_for program k) run.0 r r.granted).end
 
 -- a run more, and nothing else
 abbrev pub Opens : VersionNo → List NamedCall → (old new : Since) → Type 0
-Opens version calls old new = (shape : List TypeShape) → kept shape new ≡ opened (kept shape old) version calls
+Opens version calls old new = (shape : List TypeShape) → since (opening shape) new ≡ opened (since (opening shape) old) version calls
 
 -- the run with a number is changed, and nothing else
 abbrev pub Changes : (Run → Run) → ℕ → (old new : Since) → Type 0
-Changes f n old new = (shape : List TypeShape) → kept shape new ≡ with_run (kept shape old) n f (run_at (kept shape old) n)
+Changes f n old new = (shape : List TypeShape) → since (opening shape) new ≡ with_run (since (opening shape) old) n f (run_at (since (opening shape) old) n)
 
 abbrev pub is_number : Kind → Bool
 is_number Int = true

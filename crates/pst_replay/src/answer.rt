@@ -10,14 +10,16 @@ ghost use Rattle.pst_base.specs.Counts.{counts_plus};
 ghost use Rattle.pst_history.specs.History.{refusal, run_at, run_counts, counts_of, queried, answered, changed};
 ghost use Rattle.pst_history.specs.Sound.{IsSoundHistory};
 ghost use Rattle.pst_history.specs.Direct.{meaning_of};
-ghost use Rattle.pst_replay.specs.Replay.{kept_for};
+ghost use Rattle.pst_replay.specs.Replay.{IsNumbered, kept_for};
 
+use crate::history::NumberedHistory;
 use crate::path::{outcome_under, worked};
+use crate::program::numbered_calls;
 use crate::rows::{give_up, next_number, one_call, parents};
 use crate::runs::{begin, call, close, run, step};
 use pst_base::{Counts, NoMemory, RunNo};
 use pst_eval::Outcome;
-use pst_history::{NamedCalls, Run, RunState, Since};
+use pst_history::{NamedCalls, Run, RunState};
 use pst_program::{Ended, Program};
 use pst_script::{Call, Command, Reply};
 use std::alloc::Global;
@@ -38,20 +40,29 @@ fn queried(outcome: Outcome) -> Reply
 }
 
 /// Answers a query, which is given the next run number and does not take it.
-fn query(alloc: Global, program: &Program, history: &Since, call: &Call) -> Result<Reply, NoMemory>
+fn query(
+    alloc: Global,
+    program: &Program,
+    history: &NumberedHistory,
+    call: &Call,
+) -> Result<Reply, NoMemory>
     requires typed { IsTyped (routines_of program.now) }
     requires sound { IsSoundHistory (meaning_of program.now) (kept_for program.now history.now) }
+    requires numbered { IsNumbered program.now history.now }
     requires accepted { refusal (meaning_of program.now) (kept_for program.now history.now) (command.Query call.now) ≡ None }
     ensures { IfOk result (λ r. r ≡ answered (meaning_of program.now) (kept_for program.now history.now) (command.Query call.now)) }
 {
+    let calls = one_call(alloc, call)?;
+    let by_number = numbered_calls(alloc, program, &calls)?;
     let run = Run {
         parent: call.version,
-        calls: one_call(alloc, call)?,
-        budget: history.budget,
-        granted: history.budget,
+        calls,
+        budget: history.since.budget,
+        granted: history.since.budget,
         state: RunState::Open,
     };
-    let outcome = worked(alloc, program, history, next_number(history), &run)?;
+    let number = next_number(&history.since);
+    let outcome = worked(alloc, program, history, number, &run, by_number.as_slice())?;
     Ok(queried(outcome))
 }
 
@@ -59,11 +70,12 @@ fn query(alloc: Global, program: &Program, history: &Since, call: &Call) -> Resu
 fn counts_under(
     alloc: Global,
     program: &Program,
-    history: &Since,
+    history: &NumberedHistory,
     number: RunNo,
 ) -> Result<Counts, NoMemory>
     requires typed { IsTyped (routines_of program.now) }
     requires sound { IsSoundHistory (meaning_of program.now) (kept_for program.now history.now) }
+    requires numbered { IsNumbered program.now history.now }
     requires there { IsSome (run_at (kept_for program.now history.now) number.0) }
     ensures counts { IfOk result (λ c. (r : Run) → run_at (kept_for program.now history.now) number.0 ≡ Some r →
         c ≡ run_counts (meaning_of program.now) (kept_for program.now history.now) number.0 r) }
@@ -88,9 +100,10 @@ fn plus(a: Counts, b: Counts) -> Counts
 
 /// The root record, and what all runs counted, whether open, closed, trapped or dropped. It executes each run once, and
 /// before it the runs on the path to its version.
-fn stats(alloc: Global, program: &Program, history: &Since) -> Result<Counts, NoMemory>
+fn stats(alloc: Global, program: &Program, history: &NumberedHistory) -> Result<Counts, NoMemory>
     requires typed { IsTyped (routines_of program.now) }
     requires sound { IsSoundHistory (meaning_of program.now) (kept_for program.now history.now) }
+    requires numbered { IsNumbered program.now history.now }
     ensures { IfOk result (λ c. c ≡ counts_of (meaning_of program.now) (kept_for program.now history.now)) }
 {
     let mut total = Counts {
@@ -98,7 +111,7 @@ fn stats(alloc: Global, program: &Program, history: &Since) -> Result<Counts, No
         pointer_writes: 0,
         value_writes: 0,
     };
-    for at in 0..history.runs.items.len() {
+    for at in 0..history.since.runs.items.len() {
         let counts = counts_under(alloc, program, history, RunNo(at as u32 + 1))?;
         total = plus(total, counts);
     }
@@ -109,24 +122,31 @@ fn stats(alloc: Global, program: &Program, history: &Since) -> Result<Counts, No
 pub(crate) fn answer(
     alloc: Global,
     program: &Program,
-    history: &mut Since,
+    history: &mut NumberedHistory,
     line: &Command,
 ) -> Result<Reply, NoMemory>
     requires typed { IsTyped (routines_of program.now) }
     requires sound { IsSoundHistory (meaning_of program.now) (kept_for program.now history.old) }
+    requires numbered { IsNumbered program.now history.old }
     requires accepted { refusal (meaning_of program.now) (kept_for program.now history.old) line.now ≡ None }
     ensures reply { IfOk result (λ r. r ≡ answered (meaning_of program.now) (kept_for program.now history.old) line.now) }
     ensures changed { OnOk result (kept_for program.now history.new ≡ changed (meaning_of program.now) (kept_for program.now history.old) line.now) }
+    ensures numbered { OnOk result (IsNumbered program.now history.new) }
 {
     match line {
         Command::Run(call) => run(alloc, program, history, call),
         Command::Query(call) => query(alloc, program, history, call),
-        Command::OpenRun(call) => begin(history, call.version, one_call(alloc, call)?),
+        Command::OpenRun(call) => {
+            begin(
+                alloc,
+                program,
+                history,
+                call.version,
+                one_call(alloc, call)?,
+            )
+        }
         Command::OpenEmpty { version } => {
-            let calls = NamedCalls {
-                items: Vec::new(alloc),
-            };
-            begin(history, *version, calls)
+            begin(alloc, program, history, *version, NamedCalls::new(alloc))
         }
         Command::CallRun {
             run,
@@ -136,14 +156,14 @@ pub(crate) fn answer(
         Command::StepRun { run, charges } => step(alloc, program, history, *run, *charges),
         Command::CloseRun { run } => close(alloc, program, history, *run),
         Command::DropRun { run } => {
-            give_up(history, *run);
+            give_up(&mut history.since, *run);
             Ok(Reply::Dropped { run: *run })
         }
         Command::Budget { charges } => {
-            history.budget = *charges;
+            history.since.budget = *charges;
             Ok(Reply::BudgetSet { charges: *charges })
         }
-        Command::Versions => Ok(Reply::VersionList(parents(alloc, history)?)),
+        Command::Versions => Ok(Reply::VersionList(parents(alloc, &history.since)?)),
         Command::Stats => Ok(Reply::StatsAre(stats(alloc, program, history)?)),
     }
 }

@@ -4,7 +4,8 @@
 //! stands and the runs and versions since, and no heap. [`Replayer::apply`] gives the reply to a command, and keeps the
 //! history after it: for a version's heap it executes the runs on the path from version 0 again, each with its whole budget,
 //! and then the run that is asked for under the charges granted to it. So a line costs what the runs on one path cost, and
-//! `stats` costs that for each run so far.
+//! `stats` costs that for each run so far. A procedure is looked up by its name where a line names it, and kept by its number
+//! beside the history, so that no run on a path asks for it again.
 //!
 //! ```text
 //! run 0 add 5      version 1      executes add 5
@@ -15,6 +16,7 @@
 #![tactic(auto)]
 
 mod answer;
+mod history;
 mod path;
 mod program;
 mod refusal;
@@ -22,4 +24,5 @@ mod replayer;
 mod rows;
 mod runs;
 
+pub use history::{NumberedHistory, RunCalls};
 pub use replayer::Replayer;

@@ -2,6 +2,7 @@
 
 ghost use Rattle.std.specs.Prelude.{◌≡◌, ◌<◌, ◌≤◌, ℕ, ◌+◌, IfOk, OnOk, IsSome, length, Some, slice_get};
 ghost use Rattle.pst_base.specs.Heap.{OrdinaryHeap};
+ghost use Rattle.pst_program.specs.Outcome.{calls_of};
 ghost use Rattle.pst_program.specs.View.{routines_of};
 ghost use Rattle.pst_program.specs.Typed.{IsTyped};
 ghost use Rattle.pst_history.specs.declared.history.Descent.{Descent};
@@ -9,15 +10,16 @@ ghost use Rattle.pst_history.specs.Meaning.{IsWork};
 ghost use Rattle.pst_history.specs.History.{heap_of, outcome_of, run_at, version_count, work_of};
 ghost use Rattle.pst_history.specs.Sound.{IsSoundHistory, made_below};
 ghost use Rattle.pst_history.specs.Direct.{meaning_of};
-ghost use Rattle.pst_replay.specs.Replay.{IsEnd, IsEndOfRun, IsPath, kept_for, parent_in};
+ghost use Rattle.pst_replay.specs.Replay.{IsEnd, IsEndOfRun, IsNumbered, IsPath, direct_calls, kept_for, parent_in};
 
+use crate::history::NumberedHistory;
 use crate::program::{execute, first_heap};
 use crate::rows::{run_of, version_of};
 use pst_base::{NoMemory, RunNo, VersionNo};
 use pst_eval::Outcome;
 use pst_heap::PlainHeap;
 use pst_history::{Run, Since};
-use pst_program::Program;
+use pst_program::{ProcCall, Program};
 use std::alloc::Global;
 
 /// The versions from this one down to 1, each the parent of the one before.
@@ -39,22 +41,24 @@ fn path_to(alloc: Global, history: &Since, version: VersionNo) -> Result<Vec<u32
 fn carry(
     alloc: Global,
     program: &Program,
-    history: &Since,
+    history: &NumberedHistory,
     heap: &mut PlainHeap,
     version: u32,
 ) -> Result<(), NoMemory>
     requires typed { IsTyped (routines_of program.now) }
     requires sound { IsSoundHistory (meaning_of program.now) (kept_for program.now history.now) }
+    requires numbered { IsNumbered program.now history.now }
     requires above { 0 < version }
-    requires there { version ≤ length history.now.versions }
+    requires there { version ≤ length history.now.since.versions }
     requires shape { heap.old.shape ≡ (meaning_of program.now).shape }
-    requires heap { heap.old.heap ≡ heap_of (meaning_of program.now) (kept_for program.now history.now) (parent_in history.now.versions version) }
+    requires heap { heap.old.heap ≡ heap_of (meaning_of program.now) (kept_for program.now history.now) (parent_in history.now.since.versions version) }
     ensures shape { OnOk result (heap.new.shape ≡ (meaning_of program.now).shape) }
     ensures heap { OnOk result (heap.new.heap ≡ heap_of (meaning_of program.now) (kept_for program.now history.now) version) }
 {
-    let made = version_of(history, version);
-    let run = run_of(history, made.run);
-    execute(alloc, program, heap, made.run, run, run.budget)?;
+    let made = version_of(&history.since, version);
+    let run = run_of(&history.since, made.run);
+    let calls = history.calls_of_run(made.run);
+    execute(alloc, program, heap, made.run, run, calls, run.budget)?;
     Ok(())
 }
 
@@ -62,16 +66,17 @@ fn carry(
 fn heap_at(
     alloc: Global,
     program: &Program,
-    history: &Since,
+    history: &NumberedHistory,
     version: VersionNo,
 ) -> Result<PlainHeap, NoMemory>
     requires typed { IsTyped (routines_of program.now) }
     requires sound { IsSoundHistory (meaning_of program.now) (kept_for program.now history.now) }
-    requires there { version.0 ≤ length history.now.versions }
+    requires numbered { IsNumbered program.now history.now }
+    requires there { version.0 ≤ length history.now.since.versions }
     ensures shape { IfOk result (λ heap. heap.shape ≡ (meaning_of program.now).shape) }
     ensures heap { IfOk result (λ heap. heap.heap ≡ heap_of (meaning_of program.now) (kept_for program.now history.now) version.0) }
 {
-    let mut path = path_to(alloc, history, version)?;
+    let mut path = path_to(alloc, &history.since, version)?;
     let mut heap = first_heap(alloc, program)?;
     let mut at = 0;
     while let Some(next) = path.pop() {
@@ -82,36 +87,42 @@ fn heap_at(
     Ok(heap)
 }
 
-/// What a run with a number comes to under its grant, on the heap of its parent.
+/// What a run with a number, and with these calls by number, comes to under its grant on the heap of its parent.
 pub(crate) fn worked(
     alloc: Global,
     program: &Program,
-    history: &Since,
+    history: &NumberedHistory,
     number: RunNo,
     run: &Run,
+    calls: &[ProcCall],
 ) -> Result<Outcome, NoMemory>
     requires typed { IsTyped (routines_of program.now) }
     requires sound { IsSoundHistory (meaning_of program.now) (kept_for program.now history.now) }
+    requires numbered { IsNumbered program.now history.now }
+    requires calls { calls_of calls.now ≡ direct_calls program.now run.now }
     requires there { run.now.parent.0 < version_count (kept_for program.now history.now) }
-    requires older { made_below (kept_for program.now history.now).start history.now.versions run.now.parent.0 ≤ number.0 }
+    requires older { made_below (kept_for program.now history.now).start history.now.since.versions run.now.parent.0 ≤ number.0 }
     requires work { IsWork (meaning_of program.now) (work_of number.0 run.now) }
     ensures { IfOk result (IsEnd (outcome_of (meaning_of program.now) (kept_for program.now history.now) number.0 run.now run.now.granted)) }
 {
     let mut heap = heap_at(alloc, program, history, run.parent)?;
-    execute(alloc, program, &mut heap, number, run, run.granted)
+    execute(alloc, program, &mut heap, number, run, calls, run.granted)
 }
 
 /// What a run of the history comes to under its grant.
 pub(crate) fn outcome_under(
     alloc: Global,
     program: &Program,
-    history: &Since,
+    history: &NumberedHistory,
     number: RunNo,
 ) -> Result<Outcome, NoMemory>
     requires typed { IsTyped (routines_of program.now) }
     requires sound { IsSoundHistory (meaning_of program.now) (kept_for program.now history.now) }
+    requires numbered { IsNumbered program.now history.now }
     requires there { IsSome (run_at (kept_for program.now history.now) number.0) }
     ensures { IfOk result (IsEndOfRun program.now history.now number.0) }
 {
-    worked(alloc, program, history, number, run_of(history, number))
+    let run = run_of(&history.since, number);
+    let calls = history.calls_of_run(number);
+    worked(alloc, program, history, number, run, calls)
 }

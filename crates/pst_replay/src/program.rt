@@ -9,7 +9,7 @@ ghost use Rattle.pst_history.specs.Meaning.{CanBeDone, fits, kinds_refusal};
 ghost use Rattle.pst_history.specs.History.{work_of};
 ghost use Rattle.pst_history.specs.Direct.{direct_call, meaning_of, procedure_number};
 ghost use Rattle.pst_program.specs.Outcome.{calls_of, task_call};
-ghost use Rattle.pst_replay.specs.Replay.{IsEnd, is_number};
+ghost use Rattle.pst_replay.specs.Replay.{IsEnd, direct_calls, is_number};
 
 use pst_base::{Kind, NoMemory, ProcNo, RunNo};
 use pst_eval::{Outcome, RunSpec, evaluate};
@@ -93,7 +93,7 @@ fn number_of(program: &Program, name: &[u8]) -> ProcNo
 }
 
 /// A call by the number of its procedure.
-fn numbered_call(program: &Program, call: &NamedCall) -> Result<ProcCall, NoMemory>
+pub(crate) fn numbered_call(program: &Program, call: &NamedCall) -> Result<ProcCall, NoMemory>
     requires { length program.now.procedures.items.items ≤ 256 }
     ensures { IfOk result (λ c. task_call c ≡ direct_call (routines_of program.now) call.now) }
 {
@@ -104,7 +104,11 @@ fn numbered_call(program: &Program, call: &NamedCall) -> Result<ProcCall, NoMemo
 }
 
 /// Calls by the numbers of their procedures.
-fn numbered_calls(alloc: Global, program: &Program, calls: &NamedCalls) -> Result<Calls, NoMemory>
+pub(crate) fn numbered_calls(
+    alloc: Global,
+    program: &Program,
+    calls: &NamedCalls,
+) -> Result<Calls, NoMemory>
     requires { length program.now.procedures.items.items ≤ 256 }
     ensures { IfOk result (λ cs. calls_of cs ≡ map (direct_call (routines_of program.now)) calls.now) }
 {
@@ -125,7 +129,7 @@ pub(crate) fn first_heap(alloc: Global, program: &Program) -> Result<PlainHeap, 
     PlainHeap::initial(alloc, &program.shape)
 }
 
-/// Executes the calls of a run on a heap, which becomes the heap that they leave.
+/// Executes a run with these calls by number on a heap, which becomes the heap that they leave.
 #[tactic(auto, unfolding(pst_history::specs::Direct::direct))]
 pub(crate) fn execute(
     alloc: Global,
@@ -133,10 +137,12 @@ pub(crate) fn execute(
     heap: &mut PlainHeap,
     number: RunNo,
     run: &Run,
+    calls: &[ProcCall],
     granted: u32,
 ) -> Result<Outcome, NoMemory>
     requires typed { IsTyped (routines_of program.now) }
     requires shape { heap.old.shape ≡ (meaning_of program.now).shape }
+    requires calls { calls_of calls.now ≡ direct_calls program.now run.now }
     requires ready { CanBeDone (meaning_of program.now) (work_of number.0 run.now) heap.old.heap }
     ensures ended { IfOk result (IsEnd ((meaning_of program.now).outcome (work_of number.0 run.now) granted heap.old.heap)) }
     ensures heap { OnOk result (heap.new.heap ≡ ((meaning_of program.now).outcome (work_of number.0 run.now) granted heap.old.heap).heap) }
@@ -144,9 +150,9 @@ pub(crate) fn execute(
 {
     let spec = RunSpec {
         run: number,
+        calls,
         budget: run.budget,
         granted,
-        calls: numbered_calls(alloc, program, &run.calls)?,
     };
     let outcome = evaluate(alloc, program, heap, &spec)?;
     Ok(outcome)

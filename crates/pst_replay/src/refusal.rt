@@ -7,7 +7,7 @@ ghost use Rattle.pst_script.specs.declared.reply.Refusal.TheVariants as because;
 ghost use Rattle.pst_history.specs.Meaning.{when};
 ghost use Rattle.pst_history.specs.History.{call_refusal, first, is_full_run, is_open, is_open_run, numbered, refusal};
 ghost use Rattle.pst_history.specs.Direct.{meaning_of};
-ghost use Rattle.pst_replay.specs.Replay.{kept_for};
+ghost use Rattle.pst_replay.specs.Replay.{history_for};
 
 use crate::program::{proc_refused, query_refused};
 use pst_base::{RunNo, VersionNo};
@@ -84,7 +84,7 @@ fn calls_refused(history: &Since, number: RunNo) -> Option<Refusal>
 /// Whether the call of a command is refused: its procedure and arguments, then its version.
 fn call_refused(program: &Program, history: &Since, call: &Call) -> Option<Refusal>
     requires typed { IsTyped (routines_of program.now) }
-    ensures { result ≡ call_refusal (kept_for program.now history.now) ((meaning_of program.now).proc call.now.procedure) call.now }
+    ensures { result ≡ call_refusal (history_for program.now history.now) ((meaning_of program.now).proc call.now.procedure) call.now }
 {
     first_of(
         proc_refused(
@@ -123,7 +123,7 @@ pub(crate) fn refused(
 ) -> Option<Refusal>
     requires typed { IsTyped (routines_of program.now) }
     requires counted { open_runs ≡ count_by is_open history.now.runs }
-    ensures { result ≡ refusal (meaning_of program.now) (kept_for program.now history.now) command.now }
+    ensures { result ≡ refusal (meaning_of program.now) (history_for program.now history.now) command.now }
 {
     match command {
         Command::Run(call) => first_of(call_refused(program, history, call), runs_refused(history)),

@@ -14,9 +14,9 @@ ghost use Rattle.pst_history.specs.Direct.{meaning_of};
 ghost use Rattle.pst_replay.specs.Replay.{Answers, MayApply, kept, kept_for, open_after};
 
 use crate::answer::answer;
+use crate::history::NumberedHistory;
 use crate::refusal::refused;
 use pst_base::NoMemory;
-use pst_history::Since;
 use pst_program::Program;
 use pst_script::{Command, Reply};
 use std::alloc::Global;
@@ -27,8 +27,8 @@ pub struct Replayer {
     alloc: Global,
     /// Memory was wanting: no more is answered.
     pub failed: bool,
-    /// What has happened since the opening with version 0 alone.
-    pub history: Since,
+    /// What has happened since the opening with version 0 alone, with the calls by number.
+    pub history: NumberedHistory,
     /// How many runs are open, so that they need not be counted at each line.
     pub open_runs: usize,
 }
@@ -63,7 +63,7 @@ impl Replayer {
         Replayer {
             alloc,
             failed: false,
-            history: Since::nothing(alloc),
+            history: NumberedHistory::nothing(alloc),
             open_runs: 0,
         }
     }
@@ -85,7 +85,7 @@ impl Replayer {
         if self.failed {
             return Err(NoMemory);
         }
-        if let Some(refusal) = refused(program, &self.history, self.open_runs, line) {
+        if let Some(refusal) = refused(program, &self.history.since, self.open_runs, line) {
             return Ok(Reply::Refused(refusal));
         }
         self.failed = true;

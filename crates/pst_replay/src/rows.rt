@@ -19,7 +19,7 @@ pub(crate) fn version_of(history: &Since, number: u32) -> Descent
 }
 
 /// The index of the run with a number.
-fn index_of(history: &Since, number: RunNo) -> usize
+pub(crate) fn index_of(history: &Since, number: RunNo) -> usize
     requires { IsSome (numbered 1 history.now.runs number.0) }
     ensures within { result < length history.now.runs }
     ensures number { number.0 ≡ 1 + result }
@@ -68,9 +68,9 @@ pub(crate) fn named_call(procedure: &Text, arguments: &Numbers) -> Result<NamedC
 pub(crate) fn one_call(alloc: Global, call: &Call) -> Result<NamedCalls, NoMemory>
     ensures { IfOk result (λ calls. calls ≡ call_of call.now ∷ []) }
 {
-    let mut items = Vec::new(alloc);
+    let mut items = Vec::with_capacity(alloc, 1)?;
     items.push(named_call(&call.procedure, &call.arguments)?)?;
-    Ok(NamedCalls { items })
+    Ok(NamedCalls::from_vec(items))
 }
 
 /// Opens a run on a version, under the budget that stands.

@@ -6,13 +6,14 @@ ghost use Rattle.pst_script.specs.declared.reply.Reply.TheVariants as answer;
 ghost use Rattle.pst_base.specs.declared.shape.TypeShape.{TypeShape};
 ghost use Rattle.pst_program.specs.View.{routines_of};
 ghost use Rattle.pst_program.specs.Typed.{IsTyped};
-ghost use Rattle.pst_history.specs.History.{refusal, run_at, is_open_run, step_reply, close_reply, closed, ended, with_run, with_version, granted_more, called_more, answered, changed};
+ghost use Rattle.pst_history.specs.History.{opening, refusal, run_at, since, is_open_run, step_reply, close_reply, closed, ended, with_run, with_version, granted_more, called_more, answered, changed};
 ghost use Rattle.pst_history.specs.Sound.{IsSoundHistory};
 ghost use Rattle.pst_history.specs.Direct.{meaning_of};
-ghost use Rattle.pst_replay.specs.Replay.{Opens, TellsProgress, kept, kept_for};
+ghost use Rattle.pst_replay.specs.Replay.{IsNumbered, Opens, TellsProgress, kept_for};
 
+use crate::history::NumberedHistory;
 use crate::path::outcome_under;
-use crate::rows::{add, grant, named_call, next_number, one_call, open, publish, run_of, shut};
+use crate::rows::{grant, named_call, next_number, one_call, publish, run_of, shut};
 use pst_base::{NoMemory, Numbers, RunNo, Text, VersionNo};
 use pst_eval::Outcome;
 use pst_history::{NamedCalls, Since};
@@ -22,16 +23,21 @@ use std::alloc::Global;
 
 /// Opens a run on a version, and gives its number.
 pub(crate) fn begin(
-    history: &mut Since,
+    alloc: Global,
+    program: &Program,
+    history: &mut NumberedHistory,
     version: VersionNo,
     calls: NamedCalls,
 ) -> Result<Reply, NoMemory>
-    requires { length history.old.runs ≤ 1048576 }
-    ensures number { IfOk result (λ r. r ≡ answer.Opened (record { 0 = 1 + length history.old.runs })) }
-    ensures opens { OnOk result (Opens version calls history.old history.new) }
+    requires typed { IsTyped (routines_of program.now) }
+    requires numbered { IsNumbered program.now history.old }
+    requires few { length history.old.since.runs ≤ 1048576 }
+    ensures number { IfOk result (λ r. r ≡ answer.Opened (record { 0 = 1 + length history.old.since.runs })) }
+    ensures opens { OnOk result (Opens version calls history.old.since history.new.since) }
+    ensures numbered { OnOk result (IsNumbered program.now history.new) }
 {
-    let run = next_number(history);
-    open(history, version, calls)?;
+    let run = next_number(&history.since);
+    history.open(alloc, program, version, calls)?;
     Ok(Reply::Opened { run })
 }
 
@@ -39,11 +45,12 @@ pub(crate) fn begin(
 fn progress(
     alloc: Global,
     program: &Program,
-    history: &Since,
+    history: &NumberedHistory,
     number: RunNo,
 ) -> Result<Reply, NoMemory>
     requires typed { IsTyped (routines_of program.now) }
     requires sound { IsSoundHistory (meaning_of program.now) (kept_for program.now history.now) }
+    requires numbered { IsNumbered program.now history.now }
     requires there { IsSome (run_at (kept_for program.now history.now) number.0) }
     ensures { IfOk result (TellsProgress program.now history.now number) }
 {
@@ -58,17 +65,19 @@ fn progress(
 pub(crate) fn step(
     alloc: Global,
     program: &Program,
-    history: &mut Since,
+    history: &mut NumberedHistory,
     number: RunNo,
     charges: u32,
 ) -> Result<Reply, NoMemory>
     requires typed { IsTyped (routines_of program.now) }
     requires sound { IsSoundHistory (meaning_of program.now) (kept_for program.now history.old) }
+    requires numbered { IsNumbered program.now history.old }
     requires accepted { refusal (meaning_of program.now) (kept_for program.now history.old) (command.StepRun number charges) ≡ None }
     ensures reply { IfOk result (λ r. r ≡ answered (meaning_of program.now) (kept_for program.now history.old) (command.StepRun number charges)) }
     ensures changed { OnOk result (kept_for program.now history.new ≡ changed (meaning_of program.now) (kept_for program.now history.old) (command.StepRun number charges)) }
+    ensures numbered { OnOk result (IsNumbered program.now history.new) }
 {
-    grant(history, number, charges);
+    grant(&mut history.since, number, charges);
     progress(alloc, program, history, number)
 }
 
@@ -76,18 +85,20 @@ pub(crate) fn step(
 pub(crate) fn call(
     alloc: Global,
     program: &Program,
-    history: &mut Since,
+    history: &mut NumberedHistory,
     number: RunNo,
     procedure: &Text,
     arguments: &Numbers,
 ) -> Result<Reply, NoMemory>
     requires typed { IsTyped (routines_of program.now) }
     requires sound { IsSoundHistory (meaning_of program.now) (kept_for program.now history.old) }
+    requires numbered { IsNumbered program.now history.old }
     requires accepted { refusal (meaning_of program.now) (kept_for program.now history.old) (command.CallRun number procedure.now arguments.now) ≡ None }
     ensures reply { IfOk result (λ r. r ≡ answered (meaning_of program.now) (kept_for program.now history.old) (command.CallRun number procedure.now arguments.now)) }
     ensures changed { OnOk result (kept_for program.now history.new ≡ changed (meaning_of program.now) (kept_for program.now history.old) (command.CallRun number procedure.now arguments.now)) }
+    ensures numbered { OnOk result (IsNumbered program.now history.new) }
 {
-    add(history, number, named_call(procedure, arguments)?)?;
+    history.add(program, number, named_call(procedure, arguments)?)?;
     progress(alloc, program, history, number)
 }
 
@@ -100,7 +111,7 @@ fn finish(
 ) -> Result<Reply, NoMemory>
     requires { length history.old.versions ≤ 1048576 }
     ensures reply { IfOk result (λ r. r ≡ ended (1 + length history.old.versions) outcome.printed outcome.ended) }
-    ensures version { OnOk result ((shape : List TypeShape) → kept shape history.new ≡ with_version (kept shape history.old) number.0 parent outcome.ended) }
+    ensures version { OnOk result ((shape : List TypeShape) → since (opening shape) history.new ≡ with_version (since (opening shape) history.old) number.0 parent outcome.ended) }
 {
     match outcome.ended {
         Ended::Done => {
@@ -124,35 +135,39 @@ fn finish(
 pub(crate) fn close(
     alloc: Global,
     program: &Program,
-    history: &mut Since,
+    history: &mut NumberedHistory,
     number: RunNo,
 ) -> Result<Reply, NoMemory>
     requires typed { IsTyped (routines_of program.now) }
     requires sound { IsSoundHistory (meaning_of program.now) (kept_for program.now history.old) }
+    requires numbered { IsNumbered program.now history.old }
     requires open { IsTrue (is_open_run (run_at (kept_for program.now history.old) number.0)) }
     ensures reply { IfOk result (λ r. r ≡ close_reply (meaning_of program.now) (kept_for program.now history.old) number (run_at (kept_for program.now history.old) number.0)) }
     ensures closed { OnOk result (kept_for program.now history.new ≡ closed (meaning_of program.now) (kept_for program.now history.old) number.0) }
+    ensures numbered { OnOk result (IsNumbered program.now history.new) }
 {
-    shut(history, number);
+    shut(&mut history.since, number);
     let outcome = outcome_under(alloc, program, history, number)?;
-    let parent = run_of(history, number).parent;
-    finish(history, number, parent, outcome)
+    let parent = run_of(&history.since, number).parent;
+    finish(&mut history.since, number, parent, outcome)
 }
 
 /// Opens a run and closes it at once.
 pub(crate) fn run(
     alloc: Global,
     program: &Program,
-    history: &mut Since,
+    history: &mut NumberedHistory,
     call: &Call,
 ) -> Result<Reply, NoMemory>
     requires typed { IsTyped (routines_of program.now) }
     requires sound { IsSoundHistory (meaning_of program.now) (kept_for program.now history.old) }
+    requires numbered { IsNumbered program.now history.old }
     requires accepted { refusal (meaning_of program.now) (kept_for program.now history.old) (command.Run call.now) ≡ None }
     ensures reply { IfOk result (λ r. r ≡ answered (meaning_of program.now) (kept_for program.now history.old) (command.Run call.now)) }
     ensures changed { OnOk result (kept_for program.now history.new ≡ changed (meaning_of program.now) (kept_for program.now history.old) (command.Run call.now)) }
+    ensures numbered { OnOk result (IsNumbered program.now history.new) }
 {
-    let number = next_number(history);
-    open(history, call.version, one_call(alloc, call)?)?;
+    let number = next_number(&history.since);
+    history.open(alloc, program, call.version, one_call(alloc, call)?)?;
     close(alloc, program, history, number)
 }

@@ -31,5 +31,6 @@ returns-clause-may c = λ given.
     let P : History → Type 0 = λ x. IsSoundHistory m x in
     record {
       sound = subst P (sym c.in_ok-reply.ensures.changed) extends.sound;
+      numbered = c.in_ok-reply.ensures.numbered;
       counted = c.open_after-self.ensures ∙ ap (λ n. open_after n c.args.line.now) may.counted ∙ counted-after m h c.args.line.now accepted ∙ ap (λ (x : History). count_by is_open x.runs) (sym c.in_ok-reply.ensures.changed);
     }
