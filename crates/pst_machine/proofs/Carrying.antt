@@ -9,13 +9,14 @@ use Rattle.pst_code.specs.Valid.{IsValidCode}
 use Rattle.pst_places.specs.State.{State, IsFresh, Unchanged, WritesStay}
 use Rattle.pst_places.proofs.StateLemmas.{WritesStay_refl, WritesStay_trans}
 use Rattle.pst_machine.specs.declared.pending.ProcCall.{ProcCall}
-use Rattle.pst_machine.specs.declared.standing.Standing.{Standing}
-use Rattle.pst_machine.specs.declared.standing.Step.{Step}
-use Rattle.pst_machine.specs.declared.standing.Step.TheVariants.{Next, Here, Switched, Waits, Ends, Trap}
+use Rattle.pst_steps.specs.declared.standing.Standing.{Standing}
+use Rattle.pst_steps.specs.declared.standing.Step.{Step}
+use Rattle.pst_steps.specs.declared.standing.Step.TheVariants.{Next, Here, Switched, Waits, Ends, Trap}
 use Rattle.pst_machine.specs.declared.stage.Stage.{Stage}
-use Rattle.pst_machine.specs.View.{move_of}
-use Rattle.pst_machine.specs.Ready.{world_of, current_of, waiting_of, spendable_of, HoldsNothing, IsFunded, IsRest, KeepsOthers, Ran}
-use Rattle.pst_machine.specs.Calls.{SameTally}
+use Rattle.pst_steps.specs.View.{move_of}
+use Rattle.pst_machine.specs.Ready.{world_of, current_of, waiting_of, spendable_of, IsFunded, IsRest, Ran}
+use Rattle.pst_steps.specs.Calls.{HoldsNothing, SameTally}
+use Rattle.pst_steps.specs.Fields.{KeepsOthers}
 use Rattle.pst_machine.specs.Advance.{AllMayCall, CanGoOn, Carried, CarriedOut, ComesBetween, ComesIn, GoesInto, IsAt, IsInto, MayCarryOn, ReadyAfter, RestsIn, SameTerms, calls_of, payable}
 use Rattle.pst_machine.proofs.Acting.{same_tally}
 use Rattle.pst_machine.proofs.Moving.{kept_refl, kept_trans}
@@ -145,24 +146,3 @@ module _ {P R : Type 0} (parts : Parts) (valid : IsValidCode parts) (s t u : Sta
     reads = far_reads u (ran_reads parts valid t u b.standing d into.running step ran);
     names = far_names step ran;
   }
-
--- all calls have ended
-pub carried_over : {P R : Type 0} (parts : Parts) (s t : State P R) (old a b : Stage P R) → Carried parts s old t a → GoesInto parts t a false b → CarriedOut parts s old (Ends None) t b
-carried_over parts s t old a b far over =
-    let same : a ≡ b = sym over.2 in
-    let out : CarriedOut parts s old (Ends None) t a = record {
-      rests = λ calls first at. (
-        over.0,
-        over.1,
-        subst (λ (ws : List ProcCall). ComesBetween parts calls first (calls_of ws) (world_of t a.standing)) over.1 (subst (λ (x : Bool). IsAt x parts calls first t a.standing (calls_of a.waiting)) over.0 (far.leads calls first at)),
-      );
-      ready = (far.may.goes, far.may.calls, far.made);
-      place = far.place;
-      run = far.run;
-      terms = far.terms;
-      kept = far.kept;
-      writes = far.writes;
-      reads = far.reads;
-      names = far.names;
-    } in
-    subst (CarriedOut parts s old (Ends None) t) same out

@@ -20,7 +20,7 @@ use Rattle.pst_history.specs.Meaning.{Meaning, Work, AllFit, fits, fits_one}
 use Rattle.pst_history.proofs.Lists.{slice_get-last}
 use Rattle.pst_coded.specs.Coded.{code_call, code_parameters, IsMeaningOf}
 use Rattle.pst_machine.specs.declared.pending.ProcCall.{ProcCall}
-use Rattle.pst_machine.specs.View.{no_procedure}
+use Rattle.pst_steps.specs.View.{no_procedure}
 use Rattle.pst_machine.specs.Advance.{MayCall, TakesNumbers, task_call}
 use Rattle.pst_runs.specs.Runs.{Runs, MayAdd, is_number}
 

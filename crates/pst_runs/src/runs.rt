@@ -5,7 +5,7 @@ ghost use Rattle.pst_places.specs.State.{Unchanged, WritesStay};
 ghost use Rattle.pst_history.specs.Meaning.{IsLawful, kinds_refusal};
 ghost use Rattle.pst_machine.specs.declared.activation.Activation.{Activation};
 ghost use Rattle.pst_machine.specs.Advance.{HasFewCounts};
-ghost use Rattle.pst_machine.specs.Ready.{KeepsOthers};
+ghost use Rattle.pst_steps.specs.Fields.{KeepsOthers};
 ghost use Rattle.pst_runs.specs.Runs.{AdvancedBy, MayAddSome, StandingWaits, StandsBare, SurvivesOthers, WaitsForSome, WaitsWithCall, ended_of, named, runs_of};
 
 use crate::calls::{call_of, kinds_refused};

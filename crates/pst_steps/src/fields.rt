@@ -1,0 +1,300 @@
+//! The instructions that read and write records.
+
+ghost use Rattle.std.specs.Prelude.{◌≡◌, ◌+◌, ◌<◌, ◌≤◌, ◌^◌, All, Some, IfOk, OnErr, slice_get, slice_index_or, slice_set};
+ghost use Rattle.std.specs.Option.{option_map};
+ghost use Rattle.pst_base.specs.Name.{root_name};
+ghost use Rattle.pst_base.specs.Heap.{kind_in};
+ghost use Rattle.pst_program.specs.declared.meaning.Value.TheVariants as value;
+ghost use Rattle.pst_program.specs.Value.{number_of, content, load as load_of};
+ghost use Rattle.pst_code.specs.declared.instr.Instr.TheVariants.{Loadx};
+ghost use Rattle.pst_code.specs.Machine.{held, act};
+ghost use Rattle.pst_places.specs.State.{IsFresh, IsNewType, HasRoom};
+ghost use Rattle.pst_places.specs.Store.{MayStorePointer};
+ghost use Rattle.pst_steps.specs.View.{value_of, set_to};
+ghost use Rattle.pst_steps.specs.Live.{IsLive, IsPlainRegister};
+ghost use Rattle.pst_steps.specs.Calls.{held_in};
+ghost use Rattle.pst_steps.specs.Steps.{MayWriteRoot, MayStore, MayStoreElements, ReadsAs, Stored, StoredElement, slot_in, RefusesElement};
+ghost use Rattle.pst_steps.specs.Fields.{FieldIs, ElementsAre, MayWriteField, FieldWritten, PointerWritten, Made, KeepsOthers};
+
+use crate::frame::{held, index, set};
+use crate::register::Register;
+use crate::standing::{CallFrame, Standing, Step};
+use pst_base::{Kind, Name, NoMemory, SlotNo, TrapKind, TypeNo};
+use pst_code::{Procedure, Reg};
+use pst_places::{HeapAt, StoreFault};
+
+/// An element of an array: the slot of the first one, how many there are, and the register that holds the index.
+#[derive(Clone, Copy)]
+pub struct Element {
+    pub first: SlotNo,
+    pub elements: u8,
+    pub index: Reg,
+}
+
+impl Element {
+    ghost use Rattle.std.specs.Prelude.{◌≡◌};
+
+    /// The element of these terms.
+    #[inline(always)]
+    pub fn new(first: SlotNo, elements: u8, index: Reg) -> Element
+        ensures { result ≡ record { first = first; elements = elements; index = index } }
+    {
+        Element {
+            first,
+            elements,
+            index,
+        }
+    }
+}
+
+/// What a register of a procedure holds.
+#[inline(always)]
+fn kind_at(procedure: &Procedure, r: Reg) -> Option<Kind>
+    ensures { result ≡ slice_get procedure.now.kinds r.0 }
+{
+    procedure.kinds.as_slice().get(usize::from(r.0)).copied()
+}
+
+/// The slot of an element, or None where the index is that of none.
+#[inline(always)]
+fn slot_of<R: Copy>(frame: &CallFrame<R>, element: Element) -> Option<SlotNo>
+    requires { element.first.0 + element.elements ≤ 2 ^ 16 }
+    ensures { (name : R → Name) → option_map (λ s. s.0) result ≡ slot_in name frame.now element }
+{
+    let k = index(frame, element.index, element.elements)?;
+    Some(SlotNo(element.first.0 + u16::from(k)))
+}
+
+/// What a field of a record holds, at a place.
+#[inline(always)]
+fn field<H: HeapAt>(
+    heap: &H,
+    at: H::Place,
+    r: H::Ref,
+    slot: SlotNo,
+    kind: Option<Kind>,
+) -> Register<H::Ref>
+    requires live { (H.state heap.now).live at r }
+    requires kind { kind_in (H.state heap.now).shape ((H.state heap.now).heap at) ((H.state heap.now).name r) slot.0 ≡ kind }
+    ensures value { value_of (H.state heap.now).name result ≡ content kind ((H.state heap.now).heap at) ((H.state heap.now).name r) slot.0 }
+    ensures live { IsLive (H.state heap.now) at result }
+{
+    match kind {
+        None => Register::Null,
+        Some(Kind::Int) => Register::Number(heap.load_value(at, r, slot)),
+        Some(Kind::Pointer(_)) => match heap.load_pointer(at, r, slot) {
+            None => Register::Null,
+            Some(target) => Register::Reference(target),
+        },
+    }
+}
+
+/// Sets a register to a field of the root record, which is of the register's kind.
+#[inline(always)]
+pub fn root<H: HeapAt>(
+    heap: &H,
+    at: H::Place,
+    frame: &mut CallFrame<H::Ref>,
+    procedure: &Procedure,
+    d: Reg,
+    slot: SlotNo,
+) -> Step
+    requires has { (H.state heap.now).has at }
+    requires kind { kind_in (H.state heap.now).shape ((H.state heap.now).heap at) root_name slot.0 ≡ slice_get procedure.now.kinds d.0 }
+    ensures acts { ReadsAs (H.state heap.now) at frame.old (λ parts f c w. set_to d (load_of parts.shape w.heap slot.0 (value.Record root_name)) f c w) result frame.new }
+    ensures live { All (IsLive (H.state heap.now) at) frame.old.registers.items → All (IsLive (H.state heap.now) at) frame.new.registers.items }
+    ensures same { frame.new.procedure ≡ frame.old.procedure }
+{
+    let r = heap.root(at);
+    let v = field(heap, at, r, slot, kind_at(procedure, d));
+    set(frame, d, v)
+}
+
+/// Sets a register to a field of the record that another one points to, which is of the register's kind; null traps.
+#[inline(always)]
+pub fn load<H: HeapAt>(
+    heap: &H,
+    at: H::Place,
+    frame: &mut CallFrame<H::Ref>,
+    procedure: &Procedure,
+    d: Reg,
+    object: Reg,
+    slot: SlotNo,
+) -> Step
+    requires live { All (IsLive (H.state heap.now) at) frame.old.registers.items }
+    requires kind { FieldIs (H.state heap.now) at (slice_get procedure.now.kinds d.0) slot.0 (slice_index_or frame.old.registers.items object.0 Register.Null) }
+    ensures acts { ReadsAs (H.state heap.now) at frame.old (λ parts f c w. set_to d (load_of parts.shape w.heap slot.0 (held f.registers object)) f c w) result frame.new }
+    ensures live { All (IsLive (H.state heap.now) at) frame.new.registers.items }
+    ensures same { frame.new.procedure ≡ frame.old.procedure }
+{
+    match held(frame, object) {
+        Register::Reference(r) => {
+            let v = field(heap, at, r, slot, kind_at(procedure, d));
+            set(frame, d, v)
+        }
+        _ => Step::Trap(TrapKind::Null),
+    }
+}
+
+/// Sets a register to an element of an array of the record that another one points to, whose elements are of the register's
+/// kind; null traps, and then an index of no element.
+#[inline(always)]
+pub fn load_element<H: HeapAt>(
+    heap: &H,
+    at: H::Place,
+    frame: &mut CallFrame<H::Ref>,
+    procedure: &Procedure,
+    d: Reg,
+    object: Reg,
+    element: Element,
+) -> Step
+    requires live { All (IsLive (H.state heap.now) at) frame.old.registers.items }
+    requires kind { ElementsAre (H.state heap.now) at (slice_get procedure.now.kinds d.0) element.first.0 element.elements (held_in frame.old object) }
+    ensures acts { ReadsAs (H.state heap.now) at frame.old (λ parts. act parts (Some (Loadx d object element.first element.elements element.index))) result frame.new }
+    ensures live { All (IsLive (H.state heap.now) at) frame.new.registers.items }
+    ensures same { frame.new.procedure ≡ frame.old.procedure }
+{
+    let Register::Reference(r) = held(frame, object) else {
+        return Step::Trap(TrapKind::Null);
+    };
+    match slot_of(frame, element) {
+        None => Step::Trap(TrapKind::Index),
+        Some(slot) => {
+            let v = field(heap, at, r, slot, kind_at(procedure, d));
+            set(frame, d, v)
+        }
+    }
+}
+
+/// Writes a field of a record. The answer is why it was refused, if it was.
+pub fn write<H: HeapAt>(
+    heap: &mut H,
+    at: H::Place,
+    r: H::Ref,
+    slot: SlotNo,
+    v: Register<H::Ref>,
+) -> Result<Option<TrapKind>, NoMemory>
+    requires { MayWriteField (H.state heap.old) at r slot.0 v }
+    ensures ok { IfOk result (λ trap. FieldWritten (H.state heap.old) at ((H.state heap.old).name r) slot.0 v trap (H.state heap.new)) }
+    ensures err { OnErr result (KeepsOthers at (H.state heap.old) (H.state heap.new)) }
+{
+    heap.known();
+    match v {
+        Register::Number(n) => {
+            heap.store_value(at, r, slot, n)?;
+            Ok(None)
+        }
+        Register::Null => write_pointer(heap, at, r, slot, None),
+        Register::Reference(target) => write_pointer(heap, at, r, slot, Some(target)),
+    }
+}
+
+/// Writes a field of the root record. The answer is why it was refused, if it was.
+pub fn set_root<H: HeapAt>(
+    heap: &mut H,
+    at: H::Place,
+    frame: &CallFrame<H::Ref>,
+    slot: SlotNo,
+    s: Reg,
+) -> Result<Option<TrapKind>, NoMemory>
+    requires { MayWriteRoot (H.state heap.old) at slot.0 (held_in frame.now s) }
+    ensures ok { IfOk result (λ trap. FieldWritten (H.state heap.old) at root_name slot.0 (held_in frame.now s) trap (H.state heap.new)) }
+    ensures err { OnErr result (KeepsOthers at (H.state heap.old) (H.state heap.new)) }
+{
+    let r = heap.root(at);
+    let v = held(frame, s);
+    write(heap, at, r, slot, v)
+}
+
+/// Writes a field of the record that a register points to; null traps.
+pub fn store<H: HeapAt>(
+    heap: &mut H,
+    at: H::Place,
+    frame: &CallFrame<H::Ref>,
+    object: Reg,
+    slot: SlotNo,
+    s: Reg,
+) -> Result<Option<TrapKind>, NoMemory>
+    requires { MayStore (H.state heap.old) at (held_in frame.now object) slot.0 (held_in frame.now s) }
+    ensures ok { IfOk result (λ trap. Stored (H.state heap.old) at (held_in frame.now object) slot.0 (held_in frame.now s) trap (H.state heap.new)) }
+    ensures null { IsPlainRegister (held_in frame.now object) → heap.new ≡ heap.old }
+    ensures err { OnErr result (KeepsOthers at (H.state heap.old) (H.state heap.new)) }
+{
+    match held(frame, object) {
+        Register::Reference(r) => {
+            let v = held(frame, s);
+            write(heap, at, r, slot, v)
+        }
+        _ => Ok(Some(TrapKind::Null)),
+    }
+}
+
+/// Writes an element of an array of the record that a register points to; null traps, and then an index of no element.
+pub fn store_element<H: HeapAt>(
+    heap: &mut H,
+    at: H::Place,
+    frame: &CallFrame<H::Ref>,
+    object: Reg,
+    element: Element,
+    s: Reg,
+) -> Result<Option<TrapKind>, NoMemory>
+    requires { MayStoreElements (H.state heap.old) at (held_in frame.now object) element.first.0 element.elements (held_in frame.now s) }
+    ensures ok { IfOk result (λ trap. StoredElement (H.state heap.old) at frame.now object element (held_in frame.now s) trap (H.state heap.new)) }
+    ensures refused { RefusesElement (held_in frame.now object) (slot_in (H.state heap.old).name frame.now element) → heap.new ≡ heap.old }
+    ensures err { OnErr result (KeepsOthers at (H.state heap.old) (H.state heap.new)) }
+{
+    let Register::Reference(r) = held(frame, object) else {
+        return Ok(Some(TrapKind::Null));
+    };
+    match slot_of(frame, element) {
+        None => Ok(Some(TrapKind::Index)),
+        Some(slot) => {
+            let v = held(frame, s);
+            write(heap, at, r, slot, v)
+        }
+    }
+}
+
+/// Writes a pointer field of a record. The answer is why it was refused, if it was.
+fn write_pointer<H: HeapAt>(
+    heap: &mut H,
+    at: H::Place,
+    r: H::Ref,
+    slot: SlotNo,
+    target: Option<H::Ref>,
+) -> Result<Option<TrapKind>, NoMemory>
+    requires { MayStorePointer (H.state heap.old) at r slot.0 target }
+    ensures ok { IfOk result (λ trap. PointerWritten (H.state heap.old) at ((H.state heap.old).name r) slot.0 (option_map (H.state heap.old).name target) trap (H.state heap.new)) }
+    ensures err { OnErr result (KeepsOthers at (H.state heap.old) (H.state heap.new)) }
+{
+    match heap.store_pointer(at, r, slot, target) {
+        Ok(()) => Ok(None),
+        Err(StoreFault::InDegree) => Ok(Some(TrapKind::InDegree)),
+        Err(StoreFault::Memory) => Err(NoMemory),
+    }
+}
+
+/// Makes a record whose fields are 0 or null, and sets a register to it.
+pub fn make<H: HeapAt>(
+    standing: &mut Standing<H::Place, H::Ref>,
+    heap: &mut H,
+    d: Reg,
+    ty: TypeNo,
+) -> Result<Step, NoMemory>
+    requires writable { (H.state heap.old).writable standing.old.place }
+    requires known_type { IsNewType (H.state heap.old) ty }
+    requires fresh { IsFresh (H.state heap.old) record { run = standing.old.run; ordinal = standing.old.made } }
+    requires numbered { standing.old.made + 1 < 2 ^ 32 }
+    requires room { HasRoom (H.state heap.old) }
+    ensures ok { IfOk result (λ step. Made (H.state heap.old) standing.old d.0 ty step (H.state heap.new) standing.new) }
+    ensures err { OnErr result (KeepsOthers standing.old.place (H.state heap.old) (H.state heap.new)) }
+    ensures home { (standing.new.place ≡ standing.old.place) × (standing.new.run ≡ standing.old.run) }
+{
+    let name = Name {
+        run: standing.run,
+        ordinal: standing.made,
+    };
+    let r = heap.allocate(standing.place, ty, name)?;
+    standing.made += 1;
+    Ok(set(&mut standing.current, d, Register::Reference(r)))
+}
