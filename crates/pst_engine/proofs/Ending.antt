@@ -1,6 +1,6 @@
 -- An open run is carried to its end, and its place becomes a version where it is done.
 use Rattle.std.proofs.Common.{◌≡◌, ℕ, ◌+◌, List, ℤ, [], ◌∷◌, length, min, refl, ap, sym, ◌∙◌, subst, arith, zero, suc, slice_get, Option, Some, None}
-use Rattle.std.specs.Prelude.{slice_set, remove, IfSome}
+use Rattle.std.specs.Prelude.{slice_set, remove}
 use Rattle.std.proofs.lemmas.Option.{same_Some, slice_get_within}
 use Rattle.pst_base.specs.declared.names.Counts.{Counts}
 use Rattle.pst_base.specs.declared.names.RunNo.{RunNo}
@@ -21,15 +21,17 @@ use Rattle.pst_history.proofs.Numbered.{numbered-same, numbered-length}
 use Rattle.pst_history.proofs.Steps.{restated, run-sound, heap_of-restated}
 use Rattle.pst_history.proofs.After.{same_calls, closing, closed-is, closed-publishable}
 use Rattle.pst_machine.specs.declared.activation.Activation.{Activation}
-use Rattle.pst_engine.specs.declared.entry.OpenEntry.{OpenEntry}
-use Rattle.pst_machine.specs.Ready.{KeepsOthers}
+use Rattle.pst_active.specs.declared.entry.OpenEntry.{OpenEntry}
+use Rattle.pst_steps.specs.Fields.{KeepsOthers}
 use Rattle.pst_runs.specs.Runs.{Runs, IsWaiting, RanOn, StandingWaits, SurvivesOthers}
-use Rattle.pst_engine.specs.Stands.{IsEntry, StandsFor, MayPublish, Settled}
-use Rattle.pst_engine.proofs.Parts.{IsOpenAt, entry-run, entry-open, entry-writable}
-use Rattle.pst_engine.proofs.Moving.{move-keeps, restated-run}
+use Rattle.pst_active.specs.Stands.{IsEntry, StandsFor}
+use Rattle.pst_engine.specs.Stands.{MayPublish, Settled}
+use Rattle.pst_active.proofs.Parts.{IsOpenAt, entry-run, entry-open, entry-writable}
+use Rattle.pst_active.proofs.Moving.{move-keeps, restated-run}
 use Rattle.pst_engine.proofs.Leaving.{leave-keeps}
 use Rattle.pst_engine.proofs.Publishing.{IsEnded, publish-keeps}
-use Rattle.pst_engine.proofs.Slicing.{entry-waits}
+use Rattle.pst_active.proofs.Slicing.{entry-waits}
+use Rattle.pst_active.proofs.Entries.{if-some}
 
 set-twice : {X : Type 0} (xs : List X) (i : ℕ) (a b : X) → slice_set (slice_set xs i a) i b ≡ slice_set xs i b
 set-twice [] i a b = refl
@@ -42,9 +44,6 @@ index-twice runs (Some i) a b = set-twice runs i a b
 
 numbered-twice : (first : ℕ) (runs : List Run) (n : ℕ) (a b : Run) → with_numbered first (with_numbered first runs n a) n b ≡ with_numbered first runs n b
 numbered-twice first runs n a b = index-twice runs (index_from first n) a b
-
-pub if-some : {X : Type 0} (Q : X → Type 0) (o : Option X) (y : X) → o ≡ Some y → Q y → IfSome o Q
-if-some Q o y e q = let S : Option _ → Type 0 = λ z. IfSome z Q in subst S (sym e) q
 
 module _ {H P R : Type 0} (m : Meaning) (x : Runs P R (Activation H R P)) (law : IsLawful m) (s : State P R) (waits : StandingWaits x s) (known : IsVersioned s) (placed : (p : P) → s.writable p → s.has p)
     (active : List (OpenEntry H R P)) (budget next : ℕ) (h : History) (stand : StandsFor m x active budget next s h) (at : ℕ) (e : OpenEntry H R P) (found : slice_get active at ≡ Some e)

@@ -19,8 +19,9 @@ use Rattle.pst_history.proofs.Sums.{counts_plus-none}
 use Rattle.pst_history.proofs.After.{begun-sound}
 use Rattle.pst_machine.specs.declared.activation.Activation.{Activation}
 use Rattle.pst_runs.specs.Runs.{Runs}
-use Rattle.pst_engine.specs.Stands.{StandsFor, IsOpeningHeap, opening_of, row_of, IsStartedHeap}
-use Rattle.pst_engine.proofs.Entries.{get-drop}
+use Rattle.pst_active.specs.Stands.{StandsFor}
+use Rattle.pst_engine.specs.Stands.{IsOpeningHeap, opening_of, row_of, IsStartedHeap}
+use Rattle.pst_engine.proofs.Commands.{get-drop}
 
 -- an element of a mapped list
 mapped : {X Y : Type 0} (f : X → Y) (xs : List X) (i : ℕ) (y : Y) → slice_get (map f xs) i ≡ Some y → (x : X) × (slice_get xs i ≡ Some x) × (f x ≡ y)

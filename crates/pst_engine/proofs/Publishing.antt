@@ -1,10 +1,10 @@
--- The place of a closed run becomes a version; and what a query leaves; and an engine and a heap that begin.
+-- The place of a closed run becomes a version.
 use Rattle.std.proofs.Common.{◌≡◌, ◌≢◌, ◌⊎◌, inl, inr, ℕ, ◌+◌, ◌<◌, List, [], ◌∷◌, ◌++◌, length, refl, ap, sym, ◌∙◌, subst, arith, zero, suc, slice_get, Some, true, false, length-append}
 use Rattle.std.proofs.lemmas.Option.{same_Some, slice_get_within}
 use Rattle.pst_base.specs.declared.names.VersionNo.{VersionNo}
 use Rattle.pst_program.specs.Laws.{IsOlder}
 use Rattle.pst_versions.specs.declared.rows.VersionRow.{VersionRow}
-use Rattle.pst_places.specs.State.{State, ForkRow, WritesStay, Unchanged, IsVersioned, Published, published_in}
+use Rattle.pst_places.specs.State.{State, ForkRow, IsVersioned, Published, published_in}
 use Rattle.pst_history.specs.declared.history.Run.{Run}
 use Rattle.pst_history.specs.declared.history.Descent.{Descent}
 use Rattle.pst_history.specs.Meaning.{Meaning}
@@ -13,10 +13,10 @@ use Rattle.pst_history.proofs.Lists.{slice_get-before, slice_get-last, slice_get
 use Rattle.pst_history.proofs.Heaps.{heap_of-more, heap_of-new}
 use Rattle.pst_history.proofs.Steps.{IsPublishable, published, published-sound, counts_of-published, run-sound}
 use Rattle.pst_machine.specs.declared.activation.Activation.{Activation}
-use Rattle.pst_engine.specs.declared.entry.OpenEntry.{OpenEntry}
+use Rattle.pst_active.specs.declared.entry.OpenEntry.{OpenEntry}
 use Rattle.pst_runs.specs.Runs.{Runs, SurvivesOthers}
-use Rattle.pst_engine.specs.Stands.{IsVersion, SameRow, HasVersion, IsForkOf, IsEntry, StandsFor}
-use Rattle.pst_engine.proofs.Parts.{versions-kept, forks-kept, entry-run, entry-writable, entry-kept, published-alone, unchanged-alone}
+use Rattle.pst_active.specs.Stands.{IsVersion, SameRow, HasVersion, IsForkOf, IsEntry, StandsFor}
+use Rattle.pst_active.proofs.Parts.{entry-run, entry-writable, entry-kept, published-alone}
 
 -- ---- lists of forks
 
@@ -171,31 +171,3 @@ module _ {H P R : Type 0} (m : Meaning) (x : Runs P R (Activation H R P)) (s t :
               ];
             }
           ]
-
-  -- ---- a query
-
-  pub read-keeps : (active : List (OpenEntry H R P)) (budget next : ℕ) (h : History) → StandsFor m x active budget next s h → Unchanged s t → WritesStay s t → StandsFor m x active budget next t h
-  read-keeps active budget next h stand same writes =
-      let keeps = same.keeps in
-      let calls = stand.calls in
-      let same_calls = keeps.fork_calls in
-      record {
-        sound = stand.sound;
-        same_budget = stand.same_budget;
-        same_next = stand.same_next;
-        shape = keeps.grows.shape ∙ stand.shape;
-        counts = same.counts ∙ stand.counts;
-        calls = omega arith;
-        older = λ p has. subst (λ y. IsOlder y next) (sym (same.heaps p (keeps.back p has))) (stand.older p (keeps.back p has));
-        versions = versions-kept m s t h keeps.versions keeps.grows.has (λ k row q. same.heaps row.place (stand.versions.versions k row q).has) stand.versions;
-        before = stand.before;
-        forks = forks-kept s t h stand.before keeps.versions keeps.forks stand.forks;
-        many = stand.many;
-        entries = λ j e q.
-            let old = stand.entries j e q in
-            let has = placed (x.place e.activation) (entry-writable m x s h stand.before e known stand.sound stand.forks old) in
-            entry-kept m x s t h stand.before h.runs h.versions e old old.found refl still (unchanged-alone s t (x.place e.activation) e.run same writes has)
-            (ap (λ rows. slice_get rows (stand.before + old.index)) keeps.forks ∙ old.fork_found);
-        all = stand.all;
-        apart = stand.apart;
-      }

@@ -1,7 +1,8 @@
 //! The answer to a command that is not refused.
 
 ghost use Rattle.std.specs.Prelude.{◌≡◌, ◌<◌, ◌+◌, IfOk, OnErr, length, map, drop, slice_get, Some};
-ghost use Rattle.pst_engine.specs.Stands.{Carries, MayAnswer, VersionsStay};
+ghost use Rattle.pst_active.specs.Stands.{VersionsStay};
+ghost use Rattle.pst_engine.specs.Stands.{Carries, MayAnswer};
 
 use crate::engine::Engine;
 use crate::lines::{ask, call_run, close_run, drop_run, open_empty, open_run, run, step_run};

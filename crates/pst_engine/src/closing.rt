@@ -1,10 +1,11 @@
 //! The ends of open runs.
 
 ghost use Rattle.std.specs.Prelude.{◌≡◌, ◌<◌, IfOk, OnErr, length};
-ghost use Rattle.pst_engine.specs.Stands.{IsRunAt, MayPublish, Settled, StandForSome, VersionsStay};
+ghost use Rattle.pst_active.specs.Stands.{IsRunAt, StandForSome, VersionsStay};
+ghost use Rattle.pst_engine.specs.Stands.{MayPublish, Settled};
 ghost use Rattle.pst_engine.specs.Changes.{Closes};
 
-use crate::entry::OpenEntry;
+use pst_active::{OpenEntry, copy_of};
 use pst_base::{NoMemory, Numbers, RunNo, VersionNo};
 use pst_coded::Meant;
 use pst_places::VersionedHeap;
@@ -12,13 +13,6 @@ use pst_program::Ended;
 use pst_runs::{advance, known};
 use pst_script::Reply;
 use std::alloc::Global;
-
-/// The same numbers.
-pub(crate) fn copy_of(alloc: Global, numbers: &[i64]) -> Result<Numbers, NoMemory>
-    ensures { IfOk result (λ copy. copy ≡ numbers.now) }
-{
-    Ok(Numbers::from_vec(numbers.to_vec(alloc)?))
-}
 
 /// Publishes the place of a run that is done, and gives the answer to the run's end.
 fn settle<H: VersionedHeap>(

@@ -8,8 +8,7 @@ ghost use Rattle.pst_history.specs.Sound.{IsBudget};
 ghost use Rattle.pst_engine.specs.Stands.{Answers, MayApply, Wants};
 
 use crate::answer::answer;
-use crate::entry::Activations;
-use crate::refusal::refused;
+use pst_active::{Activations, refused};
 use pst_base::{NoMemory, RunNo};
 use pst_coded::Meant;
 use pst_history::BUDGET;

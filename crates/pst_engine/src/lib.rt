@@ -13,14 +13,9 @@
 mod answer;
 mod closing;
 mod engine;
-mod entry;
 mod laws;
 mod lines;
 mod opening;
-mod reading;
-mod refusal;
-mod slices;
 
 pub use engine::Engine;
-pub use entry::{Activations, OpenEntry};
 pub use laws::{a_new_engine_stands, an_opening_stands};

@@ -1,26 +1,17 @@
 //! Runs that are opened.
 
-ghost use Rattle.std.specs.Prelude.{◌≡◌, ◌+◌, ◌<◌, ◌∷◌, [], IfOk, IfSome, OnOk, length, slice_get};
+ghost use Rattle.std.specs.Prelude.{◌≡◌, ◌+◌, ◌<◌, ◌∷◌, [], IfOk, OnOk, length};
 ghost use Rattle.pst_history.specs.History.{call_of};
-ghost use Rattle.pst_engine.specs.Stands.{IsRunAt, VersionsStay};
+ghost use Rattle.pst_active.specs.Stands.{IsRunAt, VersionsStay};
 ghost use Rattle.pst_engine.specs.Changes.{MayOpenSome, Opens, OpensWith};
 
-use crate::entry::OpenEntry;
-use crate::slices::call;
+use pst_active::{OpenEntry, call, place_at};
 use pst_base::{NoMemory, RunNo, VersionNo};
 use pst_coded::Meant;
 use pst_places::VersionedHeap;
 use pst_runs::{bare, known};
 use pst_script::Call;
 use std::alloc::Global;
-
-/// The place of a version that is there.
-pub(crate) fn place_at<H: VersionedHeap>(heap: &H, version: VersionNo) -> H::Place
-    requires { version.0 < length (H.state heap.now).versions }
-    ensures { IfSome (slice_get (H.state heap.now).versions version.0) (λ row. row.place ≡ result) }
-{
-    heap.place_of(version).unwrap()
-}
 
 /// Opens a run without a call on the heap of a version, and gives the index of its entry.
 pub(crate) fn open<H: VersionedHeap, C: Meant>(

@@ -13,7 +13,7 @@ use pst_base::NoMemory;
 use pst_coded::{Compiled, Meant, compiled_code_means_the_program};
 use pst_codegen::compile;
 use pst_forest::Forest;
-use pst_lex::tokens;
+use pst_lex::find_fault;
 use pst_parse::parse;
 use pst_program::Program;
 use pst_types::check;
@@ -26,7 +26,8 @@ pub fn program_of(alloc: Global, text: &[u8]) -> Result<Program, Trouble>
     if text.len() > 65_536 {
         return Err(Trouble::Program);
     }
-    let tree = parse(alloc, &tokens(alloc, text)?)?;
+    find_fault(alloc, text)?;
+    let tree = parse(alloc, text)?;
     Ok(check(alloc, &tree)?)
 }
 

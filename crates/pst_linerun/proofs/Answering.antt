@@ -16,7 +16,7 @@ use Rattle.pst_history.specs.Meaning.{Meaning, IsLawful}
 use Rattle.pst_history.specs.History.{History, refusal}
 use Rattle.pst_history.proofs.After.{counts_of-budget, heap_of-budget}
 use Rattle.pst_history.proofs.Sound.{present}
-use Rattle.pst_engine.proofs.Entries as entries
+use Rattle.pst_engine.proofs.Commands as commands
 use Rattle.pst_line.specs.declared.place.LinePlace.{LinePlace}
 use Rattle.pst_line.specs.Store.{Stored, IsChain}
 use Rattle.pst_linerun.specs.Linear.{line_refusal, line_answered}
@@ -40,7 +40,7 @@ budget-accepted m h charges = refl
 
 pub budget-stands : (m : Meaning) → IsLawful m → (budget next charges : ℕ) (s : State LinePlace NodeId) (stored : Stored) (h : History) → LineStands m budget next s stored h → in_range (command.Budget charges) ≡ true → LineStands m charges next s stored (record h { budget = charges })
 budget-stands m law budget next charges s stored h stand range = record {
-  sound = entries.budget-set m law h charges range stand.sound (budget-accepted m h charges);
+  sound = commands.budget-set m law h charges range stand.sound (budget-accepted m h charges);
   same_budget = refl;
   same_next = stand.same_next;
   shape = stand.shape;
@@ -60,10 +60,10 @@ budget-stands m law budget next charges s stored h stand range = record {
 pub not-refused : (m : Meaning) (h : History) (line : Command) (r : Reply) (why : Refusal) → line_refusal m h line ≡ None → r ≡ line_answered m h line → r ≡ answer.Refused why → ⊥
 not-refused m h (command.Run call) r why none is refused =
     let free = run-accepted m h call none in
-    entries.not-refused m h (command.Run call) r why free (entries.carried-reply m h (command.Run call) r free is) refused
+    commands.not-refused m h (command.Run call) r why free (commands.carried-reply m h (command.Run call) r free is) refused
 not-refused m h (command.Query call) r why none is refused =
     let free = query-accepted m h call none in
-    entries.not-refused m h (command.Query call) r why free (entries.carried-reply m h (command.Query call) r free is) refused
+    commands.not-refused m h (command.Query call) r why free (commands.carried-reply m h (command.Query call) r free is) refused
 not-refused m h (command.OpenRun call) r why none is refused = cc (none)
 not-refused m h (command.OpenEmpty version) r why none is refused = cc (none)
 not-refused m h (command.CallRun run procedure arguments) r why none is refused = cc (none)

@@ -5,7 +5,7 @@ use Rattle.pst_base.specs.Counts.{counts_plus}
 use Rattle.pst_program.specs.declared.meaning.Ended.{Ended}
 use Rattle.pst_program.specs.Outcome.{Outcome, no_counts}
 use Rattle.pst_places.specs.State.{State, Unchanged, Keeps}
-use Rattle.pst_machine.specs.Ready.{KeepsOthers}
+use Rattle.pst_steps.specs.Fields.{KeepsOthers}
 use Rattle.pst_history.specs.declared.history.NamedCall.{NamedCall}
 use Rattle.pst_history.specs.Meaning.{Meaning, Work}
 use Rattle.pst_history.proofs.Sums.{counts_plus-none}
@@ -13,15 +13,6 @@ use Rattle.pst_runs.specs.Runs.{Runs, MayAdd, IsWaiting, RanOn}
 use Rattle.pst_linerun.specs.Carried.{MayCarryOut, CameTo, one_call}
 
 -- ---- nothing was done
-
-keeps-refl : {P R : Type 0} (s : State P R) → Keeps s s
-keeps-refl s = record { grows = record { shape = refl; has = λ p q. q; live = λ p r q. q; name = λ p r q. refl }; back = λ p q. q; versions = refl; forks = refl; fork_calls = refl }
-
-pub kept-refl : {P R : Type 0} (at : P) (s : State P R) → KeepsOthers at s s
-kept-refl at s = record { keeps = keeps-refl s; others = record { stay = λ p q. inr refl } }
-
-pub unchanged-refl : {P R : Type 0} (s : State P R) → Unchanged s s
-unchanged-refl s = record { keeps = keeps-refl s; heaps = λ p q. refl; counts = refl }
 
 -- ---- the call
 

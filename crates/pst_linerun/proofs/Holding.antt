@@ -13,7 +13,7 @@ use Rattle.pst_history.specs.History.{History, counts_of, heap_of, next_run, ver
 use Rattle.pst_history.specs.Sound.{IsBefore}
 use Rattle.pst_history.proofs.Room.{counts-few}
 use Rattle.pst_history.proofs.Sound.{next-before, present}
-use Rattle.pst_engine.specs.Stands.{VersionsStay}
+use Rattle.pst_active.specs.Stands.{VersionsStay}
 use Rattle.pst_line.specs.declared.place.LinePlace.{LinePlace}
 use Rattle.pst_line.specs.declared.place.Stretch.{Stretch}
 use Rattle.pst_line.specs.Store.{Stored, IsChain, IsPlace, Means, rows_from, stamp}

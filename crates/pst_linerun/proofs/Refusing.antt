@@ -15,7 +15,7 @@ use Rattle.pst_history.specs.History.{History, refusal, call_refusal, runs_refus
 use Rattle.pst_history.proofs.Refusals.{first-none}
 use Rattle.pst_line.specs.declared.place.LinePlace.{LinePlace}
 use Rattle.pst_line.specs.Store.{Stored}
-use Rattle.pst_engine.specs.Refused.{runs_by}
+use Rattle.pst_active.specs.Refused.{runs_by}
 use Rattle.pst_linerun.specs.Linear.{old_refusal, line_refusal, line_answered, line_reply, line_after}
 use Rattle.pst_linerun.specs.Standing.{LineStands}
 use Rattle.pst_linerun.specs.Carried.{line_refusal_by}
@@ -61,9 +61,6 @@ carried-after m h line none = ap (λ o. unless o (changed m h line) h) (sym none
 
 pub carried-reply : (m : Meaning) (h : History) (line : Command) (r : Reply) → line_refusal m h line ≡ None → r ≡ line_answered m h line → r ≡ line_reply m h line
 carried-reply m h line r none is = is ∙ ap (λ o. unless_refused o (line_answered m h line)) (sym none)
-
-pub refused-after : (m : Meaning) (h : History) (line : Command) (why : Refusal) → line_refusal m h line ≡ Some why → h ≡ line_after m h line
-refused-after m h line why e = ap (λ o. unless o (changed m h line) h) (sym e)
 
 pub refused-reply : (m : Meaning) (h : History) (line : Command) (why : Refusal) → line_refusal m h line ≡ Some why → answer.Refused why ≡ line_reply m h line
 refused-reply m h line why e = ap (λ o. unless_refused o (line_answered m h line)) (sym e)

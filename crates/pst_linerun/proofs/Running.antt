@@ -21,7 +21,7 @@ use Rattle.pst_script.specs.declared.reply.Reply.TheVariants as answer
 use Rattle.pst_script.specs.declared.reply.Refusal.TheVariants as because
 use Rattle.pst_versions.specs.declared.rows.VersionRow.{VersionRow}
 use Rattle.pst_places.specs.State.{State, IsSound, IsFresh, Unchanged, WritesStay}
-use Rattle.pst_machine.specs.Ready.{KeepsOthers}
+use Rattle.pst_steps.specs.Fields.{KeepsOthers}
 use Rattle.pst_history.specs.declared.history.Descent.{Descent}
 use Rattle.pst_history.specs.Meaning.{Meaning, IsLawful, Work}
 use Rattle.pst_history.specs.History.{History, refusal, answered, changed, call_of, counts_of, ended, heap_of, new_run, next_run, version_count, with_version, work_of}
@@ -29,9 +29,9 @@ use Rattle.pst_history.proofs.Heaps.{heap_of-more}
 use Rattle.pst_history.proofs.Lists.{slice_get-of_append}
 use Rattle.pst_history.proofs.Refusals.{not-false, when-none}
 use Rattle.pst_history.specs.Sound.{IsSoundHistory}
-use Rattle.pst_engine.proofs.Parts.{other_heap, versions-same}
-use Rattle.pst_engine.proofs.Slicing.{stay-holds}
-use Rattle.pst_engine.specs.Stands.{HoldsVersions, IsVersion, SameRow, VersionsStay}
+use Rattle.pst_active.proofs.Parts.{other_heap, versions-same}
+use Rattle.pst_active.proofs.Slicing.{stay-holds}
+use Rattle.pst_active.specs.Stands.{HoldsVersions, IsVersion, SameRow, VersionsStay}
 use Rattle.pst_line.specs.declared.place.LinePlace.{LinePlace}
 use Rattle.pst_line.specs.Store.{Stored, Began, IsChain, LinePublished, Means, Undone}
 use Rattle.pst_linerun.specs.Linear.{line_refusal, old_refusal}

@@ -20,8 +20,8 @@ use Rattle.pst_history.specs.declared.history.NamedCall.{NamedCall}
 use Rattle.pst_history.specs.Meaning.{Meaning, Work, CanBeDone, fits_one, when, kinds_refusal}
 use Rattle.pst_history.specs.History.{History, changed, first}
 use Rattle.pst_runs.specs.Runs.{IsFreeFor}
-use Rattle.pst_engine.specs.Refused.{call_by, runs_by}
-use Rattle.pst_engine.specs.Stands.{HoldsVersions}
+use Rattle.pst_active.specs.Refused.{call_by, runs_by}
+use Rattle.pst_active.specs.Stands.{HoldsVersions}
 use Rattle.pst_line.specs.declared.place.LinePlace.{LinePlace}
 use Rattle.pst_line.specs.Store.{Stored, LinePublished, Undone}
 use Rattle.pst_linerun.specs.declared.session.LineSession.{LineSession}

@@ -1,7 +1,7 @@
 //! The answer to a command that is not refused.
 
 ghost use Rattle.std.specs.Prelude.{◌≡◌, IfOk, OnErr, None, drop, map};
-ghost use Rattle.pst_engine.specs.Stands.{VersionsStay};
+ghost use Rattle.pst_active.specs.Stands.{VersionsStay};
 ghost use Rattle.pst_linerun.specs.Carried.{MayCarry, SessionCarries};
 
 use crate::lines::{ask, run};

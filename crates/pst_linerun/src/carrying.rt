@@ -2,7 +2,7 @@
 
 ghost use Rattle.std.specs.Prelude.{◌≡◌, IfOk, OnOk};
 ghost use Rattle.pst_places.specs.State.{Unchanged, WritesStay};
-ghost use Rattle.pst_machine.specs.Ready.{KeepsOthers};
+ghost use Rattle.pst_steps.specs.Fields.{KeepsOthers};
 ghost use Rattle.pst_history.specs.History.{call_of};
 ghost use Rattle.pst_linerun.specs.Carried.{CameTo, MayCarryOut, one_call};
 

@@ -4,7 +4,7 @@ ghost use Rattle.std.specs.Prelude.{◌≡◌, ◌<◌, IfOk, OnOk, OnErr, None,
 ghost use Rattle.pst_places.specs.State.{Unchanged};
 ghost use Rattle.pst_script.specs.declared.command.Command.TheVariants as command;
 ghost use Rattle.pst_history.specs.History.{queried};
-ghost use Rattle.pst_engine.specs.Stands.{VersionsStay};
+ghost use Rattle.pst_active.specs.Stands.{VersionsStay};
 ghost use Rattle.pst_line.specs.declared.place.LinePlace.{LinePlace};
 ghost use Rattle.pst_linerun.specs.Carried.{CarriesQuery, CarriesRun, MayCarry, Settled};
 

@@ -2,7 +2,7 @@
 
 ghost use Rattle.std.specs.Prelude.{◌≡◌};
 ghost use Rattle.pst_history.specs.History.{first};
-ghost use Rattle.pst_engine.specs.Refused.{version_by, runs_by};
+ghost use Rattle.pst_active.specs.Refused.{version_by, runs_by};
 ghost use Rattle.pst_linerun.specs.Carried.{old_by, line_refusal_by};
 
 use pst_base::{RunNo, VersionNo};

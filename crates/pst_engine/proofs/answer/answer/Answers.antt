@@ -1,10 +1,11 @@
 use Rattle.std.proofs.Common.{subst, sym}
 use Rattle.pst_script.specs.declared.command.Command.{Command}
-use Rattle.pst_engine.specs.Stands.{MayAnswer, Carries, machine_runs}
+use Rattle.pst_active.specs.Stands.{machine_runs}
+use Rattle.pst_engine.specs.Stands.{MayAnswer, Carries}
 use Rattle.std.specs.Prelude.{IfOk}
 use Rattle.std.proofs.Common.{refl, ap, ◌∙◌}
 use Rattle.pst_script.specs.declared.reply.Reply.TheVariants as answer
-use Rattle.pst_engine.proofs.Entries.{budget-keeps, budget-set, parents-are}
+use Rattle.pst_engine.proofs.Commands.{budget-keeps, budget-set, parents-are}
 use Rattle.pst_engine.proofs.answer.answer.Goals as goal
 
 pub run-requires : goal.run-requires

@@ -1,6 +1,6 @@
 use Rattle.std.proofs.Common.{◌≡◌, ◌∷◌, [], ◌++◌, ap, sym, ◌∙◌, Some}
 use Rattle.pst_versions.specs.Rows.{parent_of}
-use Rattle.pst_engine.proofs.Entries.{parents-more}
+use Rattle.pst_engine.proofs.Commands.{parents-more}
 use Rattle.pst_engine.proofs.answer.parents.Goals as goal
 
 pub loop-version-preserved : goal.loop-version-preserved

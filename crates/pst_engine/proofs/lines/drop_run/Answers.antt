@@ -1,8 +1,9 @@
 use Rattle.std.proofs.Common.{sym, subst, refl}
 use Rattle.pst_history.specs.History.{with_run, dropped_run, run_at}
 use Rattle.pst_history.proofs.Accepting.{drop-open}
-use Rattle.pst_engine.specs.Stands.{StandsFor, machine_runs}
-use Rattle.pst_engine.proofs.Entries.{open-found-if, drop-keeps, entry-there}
+use Rattle.pst_active.specs.Stands.{StandsFor, machine_runs}
+use Rattle.pst_active.proofs.Entries.{open-found-if, entry-there}
+use Rattle.pst_engine.proofs.Commands.{drop-keeps}
 use Rattle.pst_engine.proofs.lines.drop_run.Goals as goal
 
 pub index_of-at-requires : goal.index_of-at-requires

@@ -1,7 +1,7 @@
 use Rattle.std.proofs.Common.{◌+◌, ◌<◌, ◌^◌, arith}
 use Rattle.pst_history.proofs.After.{open-opens}
-use Rattle.pst_engine.specs.Stands.{machine_runs}
-use Rattle.pst_engine.proofs.Entries.{opened-reply}
+use Rattle.pst_active.specs.Stands.{machine_runs}
+use Rattle.pst_engine.proofs.Commands.{opened-reply}
 use Rattle.pst_engine.proofs.lines.open_run.Goals as goal
 
 pub open_with-requires : goal.open_with-requires

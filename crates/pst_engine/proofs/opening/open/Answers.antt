@@ -1,13 +1,14 @@
 use Rattle.std.proofs.Common.{◌≡◌, ◌+◌, [], ◌∷◌, ◌++◌, ap, sym, ◌∙◌, subst, refl, arith, slice_get, length-append}
 use Rattle.pst_history.proofs.Lists.{slice_get-last}
-use Rattle.pst_engine.proofs.Ending.{if-some}
+use Rattle.pst_active.proofs.Entries.{if-some}
 use Rattle.std.specs.Prelude.{length}
 use Rattle.pst_history.specs.History.{opened}
 use Rattle.pst_places.specs.State.{Forked, IsPublished}
-use Rattle.pst_engine.specs.declared.entry.OpenEntry.{OpenEntry}
-use Rattle.pst_engine.specs.Stands.{StandsFor, machine_runs}
-use Rattle.pst_engine.proofs.Slicing.{stay-forked, stay-refused}
-use Rattle.pst_engine.proofs.Begin.{row-at, begins-forked, open-keeps}
+use Rattle.pst_active.specs.declared.entry.OpenEntry.{OpenEntry}
+use Rattle.pst_active.specs.Stands.{StandsFor, machine_runs}
+use Rattle.pst_active.proofs.Slicing.{stay-forked, stay-refused}
+use Rattle.pst_active.proofs.NewRuns.{row-at, begins-forked}
+use Rattle.pst_engine.proofs.Begin.{open-keeps}
 use Rattle.pst_engine.proofs.opening.open.Goals as goal
 
 pub place_at-requires : goal.place_at-requires

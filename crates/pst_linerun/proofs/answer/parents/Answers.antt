@@ -1,6 +1,6 @@
 use Rattle.std.proofs.Common.{◌≡◌, ◌∷◌, [], ◌++◌, ◌-◌, ◌<◌, length, ap, ◌∙◌, arith, Some}
 use Rattle.pst_versions.specs.Rows.{parent_of}
-use Rattle.pst_engine.proofs.Entries.{parents-more}
+use Rattle.pst_engine.proofs.Commands.{parents-more}
 use Rattle.pst_linerun.proofs.Answering.{parent-before}
 use Rattle.pst_linerun.proofs.answer.parents.Goals as goal
 

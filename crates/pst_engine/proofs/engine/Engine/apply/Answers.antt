@@ -1,8 +1,9 @@
 use Rattle.std.proofs.Common.{◌≡◌, Some, None, ◌∙◌}
 use Rattle.pst_history.specs.History.{refusal, after}
-use Rattle.pst_engine.specs.Stands.{machine_runs}
-use Rattle.pst_engine.proofs.Slicing.{on-err, stay-holds}
-use Rattle.pst_engine.proofs.Entries.{refusal-told, carried-stands, carried-reply, refused-stands, refused-reply, not-refused}
+use Rattle.pst_active.specs.Stands.{machine_runs}
+use Rattle.pst_active.proofs.Slicing.{on-err, stay-holds}
+use Rattle.pst_active.proofs.Entries.{refusal-told}
+use Rattle.pst_engine.proofs.Commands.{carried-stands, carried-reply, refused-stands, refused-reply, not-refused}
 use Rattle.pst_engine.proofs.engine.Engine.apply.Goals as goal
 
 pub answer-requires : goal.answer-requires

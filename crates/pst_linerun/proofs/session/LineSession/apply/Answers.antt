@@ -1,5 +1,5 @@
 use Rattle.std.proofs.Common.{◌≡◌, None, false, ◌∙◌, sym, subst, refl}
-use Rattle.pst_engine.proofs.Slicing.{on-err, stay-holds}
+use Rattle.pst_active.proofs.Slicing.{on-err, stay-holds}
 use Rattle.pst_history.specs.History.{History}
 use Rattle.pst_linerun.specs.Linear.{line_refusal, line_after}
 use Rattle.pst_linerun.specs.Standing.{SessionStands}

@@ -2,11 +2,11 @@ use Rattle.std.proofs.Common.{◌≡◌, ◌+◌, ◌<◌, ◌^◌, sym, ◌∙�
 use Rattle.pst_history.specs.declared.history.NamedCall.{NamedCall}
 use Rattle.pst_history.specs.History.{History}
 use Rattle.pst_base.specs.declared.names.RunNo.{RunNo}
-use Rattle.pst_engine.specs.Stands.{MayCall, VersionsStay, machine_runs}
-use Rattle.pst_engine.proofs.Slicing.{room, run-is, entry-at, may-add, few-calls, called-waits, called-keeps, slice-stays}
-use Rattle.pst_engine.proofs.slices.call.Given.{Over}
-use Rattle.pst_engine.proofs.slices.call.Goals.{After-index_mut-entry, After-advance}
-use Rattle.pst_engine.proofs.slices.call.Goals as goal
+use Rattle.pst_active.specs.Stands.{MayCall, VersionsStay, machine_runs}
+use Rattle.pst_active.proofs.Slicing.{room, run-is, entry-at, may-add, few-calls, called-waits, called-keeps, slice-stays}
+use Rattle.pst_active.proofs.slices.call.Given.{Over}
+use Rattle.pst_active.proofs.slices.call.Goals.{After-index_mut-entry, After-advance}
+use Rattle.pst_active.proofs.slices.call.Goals as goal
 
 found : (g : Over) (c : After-index_mut-entry g) → slice_get c.args.active.now.items c.args.at ≡ Some c.index_mut-entry.result.now
 found g c = entry-at c.args.active.now.items c.args.at c.index_mut-entry.result.now c.requires.at c.index_mut-entry.ensures.value

@@ -3,8 +3,8 @@
 ghost use Rattle.std.specs.Prelude.{◌≡◌, ◌<◌, IsSome, length, position};
 ghost use Rattle.pst_history.specs.History.{first};
 ghost use Rattle.pst_history.specs.Meaning.{kinds_refusal};
-ghost use Rattle.pst_engine.specs.Stands.{IsRunAt};
-ghost use Rattle.pst_engine.specs.Refused.{is_run, entry_of, version_by, call_by, runs_by, open_by, run_by, calls_by, refusal_by};
+ghost use Rattle.pst_active.specs.Stands.{IsRunAt};
+ghost use Rattle.pst_active.specs.Refused.{is_run, entry_of, version_by, call_by, runs_by, open_by, run_by, calls_by, refusal_by};
 
 use crate::entry::{Activations, OpenEntry};
 use pst_base::{RunNo, VersionNo};
@@ -29,7 +29,7 @@ fn entry_at<H: VersionedHeap>(active: &[OpenEntry<H>], run: RunNo) -> Option<usi
 }
 
 /// The index of the entry of a run that is open.
-pub(crate) fn index_of<H: VersionedHeap>(active: &Activations<H>, run: RunNo) -> usize
+pub fn index_of<H: VersionedHeap>(active: &Activations<H>, run: RunNo) -> usize
     requires { IsSome (position (is_run run) active.now.items.items) }
     ensures at { result < length active.now.items.items }
     ensures run { IsRunAt active.now.items.items result run }
@@ -119,8 +119,8 @@ fn opening_refused<H: VersionedHeap>(active: &[OpenEntry<H>], next_run: RunNo) -
     first_of(runs_refused(next_run), open_refused(active))
 }
 
-/// The first refusal of a command that holds, if one does.
-pub(crate) fn refused<H: VersionedHeap, C: Meant>(
+/// Why a command is refused, by what open runs and heap hold: the first refusal that holds, or None where none does.
+pub fn refused<H: VersionedHeap, C: Meant>(
     code: &C,
     heap: &H,
     active: &[OpenEntry<H>],

@@ -16,13 +16,13 @@ use Rattle.pst_history.proofs.Sound.{run-ready}
 use Rattle.pst_history.proofs.After.{granting, calling, more_fits}
 use Rattle.pst_history.proofs.Room.{counts-few}
 use Rattle.pst_machine.specs.declared.activation.Activation.{Activation}
-use Rattle.pst_engine.specs.declared.entry.OpenEntry.{OpenEntry}
-use Rattle.pst_machine.specs.Ready.{KeepsOthers}
+use Rattle.pst_active.specs.declared.entry.OpenEntry.{OpenEntry}
+use Rattle.pst_steps.specs.Fields.{KeepsOthers}
 use Rattle.pst_machine.specs.Advance.{HasFewCounts}
 use Rattle.pst_runs.specs.Runs.{Runs, IsWaiting, MayAdd, RanOn, StandingWaits, SurvivesOthers}
-use Rattle.pst_engine.specs.Stands.{HoldsVersions, IsEntry, StandsFor, VersionsStay, IsRunAt, MayCall}
-use Rattle.pst_engine.proofs.Parts.{other_heap, not_version, entry-run, entry-writable}
-use Rattle.pst_engine.proofs.Moving.{IsMove, move-keeps}
+use Rattle.pst_active.specs.Stands.{HoldsVersions, IsEntry, StandsFor, VersionsStay, IsRunAt, MayCall}
+use Rattle.pst_active.proofs.Parts.{other_heap, not_version, entry-run, entry-writable}
+use Rattle.pst_active.proofs.Moving.{IsMove, move-keeps}
 
 -- ---- versions that stay
 

@@ -3,11 +3,11 @@ use Rattle.std.proofs.lemmas.Bool.Decides.{nat_tests}
 use Rattle.std.specs.Prelude.{nat_le, position}
 use Rattle.pst_history.specs.Meaning.{when}
 use Rattle.pst_script.specs.declared.reply.Refusal.TheVariants as because
-use Rattle.pst_engine.specs.declared.entry.OpenEntry.{OpenEntry}
-use Rattle.pst_engine.specs.Refused.{is_run, calls_by}
-use Rattle.pst_engine.proofs.Entries.{found-at, entry_of-at}
-use Rattle.pst_engine.proofs.Slicing.{entry-at}
-use Rattle.pst_engine.proofs.refusal.calls_refused.Goals as goal
+use Rattle.pst_active.specs.declared.entry.OpenEntry.{OpenEntry}
+use Rattle.pst_active.specs.Refused.{is_run, calls_by}
+use Rattle.pst_active.proofs.Entries.{found-at, entry_of-at}
+use Rattle.pst_active.proofs.Slicing.{entry-at}
+use Rattle.pst_active.proofs.refusal.calls_refused.Goals as goal
 
 is_full : (n : ℕ) → 1024 ≤ n → nat_le 1024 n ≡ true
 is_full n most = grind (arith, nat_tests)

@@ -3,8 +3,8 @@
 ghost use Rattle.std.specs.Prelude.{◌≡◌, ◌<◌, ◌^◌, IfOk, OnOk, length};
 ghost use Rattle.pst_history.specs.History.{granted_more, stepped};
 ghost use Rattle.pst_runs.specs.Runs.{named};
-ghost use Rattle.pst_engine.specs.Stands.{IsRunAt, StandForSome, VersionsStay};
-ghost use Rattle.pst_engine.specs.Changes.{Calls, MayCallSome, Steps};
+ghost use Rattle.pst_active.specs.Stands.{IsRunAt, StandForSome, VersionsStay};
+ghost use Rattle.pst_active.specs.Changes.{Calls, MayCallSome, Steps};
 
 use crate::entry::OpenEntry;
 use pst_base::{NoMemory, Numbers, RunNo, Text};
@@ -15,7 +15,7 @@ use pst_runs::{add, advance, known};
 use pst_script::Reply;
 
 /// The answer to a run that was executed as far as its grant reaches.
-pub(crate) fn stepped(run: RunNo, end: Ended) -> Reply
+fn stepped(run: RunNo, end: Ended) -> Reply
     ensures { result ≡ stepped run end }
 {
     match end {
@@ -24,8 +24,9 @@ pub(crate) fn stepped(run: RunNo, end: Ended) -> Reply
     }
 }
 
-/// Grants an open run more charges, and executes it as far as they reach.
-pub(crate) fn step<H: VersionedHeap, C: Meant>(
+/// Grants an open run more charges, executes it as far as they reach, and gives the answer. The versions are those of before,
+/// also where memory was wanting.
+pub fn step<H: VersionedHeap, C: Meant>(
     code: &C,
     heap: &mut H,
     active: &mut Vec<OpenEntry<H>>,
@@ -46,8 +47,9 @@ pub(crate) fn step<H: VersionedHeap, C: Meant>(
     Ok(stepped(run, end))
 }
 
-/// Adds a call to an open run, and executes it as far as the charges granted so far reach.
-pub(crate) fn call<H: VersionedHeap, C: Meant>(
+/// Adds a call to an open run, executes it as far as the charges granted so far reach, and gives the answer. The run keeps its
+/// place among the entries, and the versions are those of before, also where memory was wanting.
+pub fn call<H: VersionedHeap, C: Meant>(
     code: &C,
     heap: &mut H,
     active: &mut Vec<OpenEntry<H>>,

@@ -4,14 +4,14 @@ use Rattle.pst_places.specs.State.{Unchanged}
 use Rattle.pst_history.specs.History.{History, call_of}
 use Rattle.pst_history.specs.Accepted.{IsAccepted}
 use Rattle.pst_runs.specs.Runs.{MayAdd}
-use Rattle.pst_engine.specs.declared.entry.OpenEntry.{OpenEntry}
-use Rattle.pst_engine.specs.Stands.{StandsFor, machine_runs}
-use Rattle.pst_engine.proofs.Slicing.{room, stay-refl, stay-unchanged}
-use Rattle.pst_engine.proofs.Publishing.{read-keeps}
-use Rattle.pst_engine.proofs.Queries.{query-begins, query-may-add, query-waits, query-closed, query-answers}
-use Rattle.pst_engine.proofs.reading.query.Given.{Over}
-use Rattle.pst_engine.proofs.reading.query.Goals.{In_ok-activation, After-advance}
-use Rattle.pst_engine.proofs.reading.query.Goals as goal
+use Rattle.pst_active.specs.declared.entry.OpenEntry.{OpenEntry}
+use Rattle.pst_active.specs.Stands.{StandsFor, machine_runs}
+use Rattle.pst_active.proofs.Slicing.{room, stay-refl, stay-unchanged}
+use Rattle.pst_active.proofs.Queries.{read-keeps}
+use Rattle.pst_active.proofs.Queries.{query-begins, query-may-add, query-waits, query-closed, query-answers}
+use Rattle.pst_active.proofs.reading.query.Given.{Over}
+use Rattle.pst_active.proofs.reading.query.Goals.{In_ok-activation, After-advance}
+use Rattle.pst_active.proofs.reading.query.Goals as goal
 
 -- the call can be added to the run without a call
 may-add : (g : Over) (c : In_ok-activation g) (active : List (OpenEntry g.row.H.Denot g.row.H-Ref.Denot g.row.H-Place.Denot)) (h : History)

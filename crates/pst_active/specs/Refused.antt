@@ -1,4 +1,4 @@
--- Why a command is refused, by what an engine and a heap hold.
+-- Why a command is refused, by what open runs and a heap hold.
 use Rattle.std.specs.Prelude.{ℕ, List, length, Option, Some, None, Bool, nat_eq, nat_lt, nat_le, slice_get, position}
 use Rattle.std.specs.Option.{option_and_then}
 use Rattle.pst_base.specs.declared.names.RunNo.{RunNo}
@@ -10,7 +10,7 @@ use Rattle.pst_script.specs.declared.reply.Refusal.{Refusal}
 use Rattle.pst_script.specs.declared.reply.Refusal.TheVariants as because
 use Rattle.pst_history.specs.Meaning.{Meaning, when, kinds_refusal}
 use Rattle.pst_history.specs.History.{first}
-use Rattle.pst_engine.specs.declared.entry.OpenEntry.{OpenEntry}
+use Rattle.pst_active.specs.declared.entry.OpenEntry.{OpenEntry}
 
 -- whether an entry is that of a run
 abbrev pub is_run : {H P R : Type 0} → RunNo → OpenEntry H R P → Bool

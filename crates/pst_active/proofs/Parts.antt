@@ -21,10 +21,10 @@ use Rattle.pst_history.proofs.Numbered.{numbered-at}
 use Rattle.pst_history.proofs.Steps.{not_open}
 use Rattle.pst_history.proofs.Sound.{present}
 use Rattle.pst_machine.specs.declared.activation.Activation.{Activation}
-use Rattle.pst_engine.specs.declared.entry.OpenEntry.{OpenEntry}
-use Rattle.pst_machine.specs.Ready.{KeepsOthers}
+use Rattle.pst_active.specs.declared.entry.OpenEntry.{OpenEntry}
+use Rattle.pst_steps.specs.Fields.{KeepsOthers}
 use Rattle.pst_runs.specs.Runs.{Runs, SparesRun, RanOn, SurvivesOthers}
-use Rattle.pst_engine.specs.Stands.{HoldsVersions, HasVersion, IsForkOf, HoldsForks, IsEntry}
+use Rattle.pst_active.specs.Stands.{HoldsVersions, HasVersion, IsForkOf, HoldsForks, IsEntry}
 
 -- ---- the heap
 
@@ -53,15 +53,6 @@ pub versions-same : {P R : Type 0} (m : Meaning) (s : State P R) (h : History) (
 versions-same m s h runs heaps holds = record {
   many = holds.many;
   versions = λ k row q. let v = holds.versions k row q in record { has = v.has; heap = v.heap ∙ sym (heaps k) };
-  given = holds.given;
-  rows = holds.rows;
-}
-
--- and back
-pub versions-before : {P R : Type 0} (m : Meaning) (s : State P R) (h : History) (runs : List Run) → ((k : ℕ) → heap_of m (record h { runs = runs }) k ≡ heap_of m h k) → HoldsVersions m s (record h { runs = runs }) → HoldsVersions m s h
-versions-before m s h runs heaps holds = record {
-  many = holds.many;
-  versions = λ k row q. let v = holds.versions k row q in record { has = v.has; heap = v.heap ∙ heaps k };
   given = holds.given;
   rows = holds.rows;
 }

@@ -21,11 +21,11 @@ use Rattle.pst_history.proofs.Steps.{IsRestated, restated, restated-sound, heap_
 use Rattle.pst_history.proofs.Sound.{older-more, run-ready}
 use Rattle.pst_history.proofs.After.{restated-counts}
 use Rattle.pst_machine.specs.declared.activation.Activation.{Activation}
-use Rattle.pst_engine.specs.declared.entry.OpenEntry.{OpenEntry}
-use Rattle.pst_machine.specs.Ready.{KeepsOthers}
+use Rattle.pst_active.specs.declared.entry.OpenEntry.{OpenEntry}
+use Rattle.pst_steps.specs.Fields.{KeepsOthers}
 use Rattle.pst_runs.specs.Runs.{Runs, RanOn, SurvivesOthers}
-use Rattle.pst_engine.specs.Stands.{IsForkOf, HoldsForks, IsEntry, StandsFor}
-use Rattle.pst_engine.proofs.Parts.{counts_plus-cancel, slice-versions, versions-same, forks-kept, entry-writable, entries-apart, entry-kept, slice-alone}
+use Rattle.pst_active.specs.Stands.{IsForkOf, HoldsForks, IsEntry, StandsFor}
+use Rattle.pst_active.proofs.Parts.{counts_plus-cancel, slice-versions, versions-same, forks-kept, entry-writable, entries-apart, entry-kept, slice-alone}
 
 -- ---- the history's side
 

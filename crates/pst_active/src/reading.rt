@@ -1,19 +1,32 @@
-//! Queries.
+//! Queries, and what is read for them.
 
-ghost use Rattle.std.specs.Prelude.{◌≡◌, IfOk};
+ghost use Rattle.std.specs.Prelude.{◌≡◌, ◌<◌, IfOk, IfSome, length, slice_get};
 ghost use Rattle.pst_history.specs.History.{queried};
-ghost use Rattle.pst_engine.specs.Stands.{VersionsStay};
-ghost use Rattle.pst_engine.specs.Changes.{Asks, MayAskSome};
+ghost use Rattle.pst_active.specs.Stands.{VersionsStay};
+ghost use Rattle.pst_active.specs.Changes.{Asks, MayAskSome};
 
-use crate::closing::copy_of;
-use crate::opening::place_at;
-use pst_base::{NoMemory, Numbers, RunNo};
+use pst_base::{NoMemory, Numbers, RunNo, VersionNo};
 use pst_coded::Meant;
 use pst_places::VersionedHeap;
 use pst_program::Ended;
 use pst_runs::{add, advance, bare, known};
 use pst_script::{Call, Reply};
 use std::alloc::Global;
+
+/// The place of a version that is there.
+pub fn place_at<H: VersionedHeap>(heap: &H, version: VersionNo) -> H::Place
+    requires { version.0 < length (H.state heap.now).versions }
+    ensures { IfSome (slice_get (H.state heap.now).versions version.0) (λ row. row.place ≡ result) }
+{
+    heap.place_of(version).unwrap()
+}
+
+/// The same numbers, in memory of their own.
+pub fn copy_of(alloc: Global, numbers: &[i64]) -> Result<Numbers, NoMemory>
+    ensures { IfOk result (λ copy. copy ≡ numbers.now) }
+{
+    Ok(Numbers::from_vec(numbers.to_vec(alloc)?))
+}
 
 /// The answer to a query.
 fn queried(printed: Numbers, end: Ended) -> Reply
@@ -25,8 +38,9 @@ fn queried(printed: Numbers, end: Ended) -> Reply
     }
 }
 
-/// Carries out a query at the place of a version. It is given the next run number, and does not take it.
-pub(crate) fn query<H: VersionedHeap, C: Meant>(
+/// Carries out a query at the place of a version, and gives its answer. It is given the next run number, and does not take it.
+/// Open runs and heap stand for the same history afterwards, and the versions are those of before, also where memory was wanting.
+pub fn query<H: VersionedHeap, C: Meant>(
     alloc: Global,
     code: &C,
     heap: &mut H,

@@ -1,9 +1,9 @@
 use Rattle.std.proofs.Common.{◌≡◌, ◌∙◌, refl, slice_get, Some}
-use Rattle.pst_engine.specs.Stands.{VersionsStay, machine_runs}
-use Rattle.pst_engine.proofs.Slicing.{room, run-is, entry-at, entry-waits, slice-stays, granted-keeps}
-use Rattle.pst_engine.proofs.slices.step.Given.{Over}
-use Rattle.pst_engine.proofs.slices.step.Goals.{After-index_mut, After-advance}
-use Rattle.pst_engine.proofs.slices.step.Goals as goal
+use Rattle.pst_active.specs.Stands.{VersionsStay, machine_runs}
+use Rattle.pst_active.proofs.Slicing.{room, run-is, entry-at, entry-waits, slice-stays, granted-keeps}
+use Rattle.pst_active.proofs.slices.step.Given.{Over}
+use Rattle.pst_active.proofs.slices.step.Goals.{After-index_mut, After-advance}
+use Rattle.pst_active.proofs.slices.step.Goals as goal
 
 found : (g : Over) (c : After-index_mut g) → slice_get c.args.active.now.items c.args.at ≡ Some c.index_mut.result.now
 found g c = entry-at c.args.active.now.items c.args.at c.index_mut.result.now c.requires.at c.index_mut.ensures.value

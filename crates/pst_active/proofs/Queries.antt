@@ -8,17 +8,19 @@ use Rattle.pst_program.specs.declared.meaning.Ended.{Ended}
 use Rattle.pst_program.specs.Outcome.{Outcome, no_counts}
 use Rattle.pst_script.specs.declared.command.Call.{Call}
 use Rattle.pst_versions.specs.declared.rows.VersionRow.{VersionRow}
-use Rattle.pst_places.specs.State.{State, IsSound, IsVersioned}
+use Rattle.pst_places.specs.State.{State, IsSound, IsVersioned, WritesStay, Unchanged}
 use Rattle.pst_history.specs.declared.history.NamedCall.{NamedCall}
 use Rattle.pst_history.specs.Meaning.{Meaning, Work, IsLawful, CanBeDone, AllFit, fits_one}
 use Rattle.pst_history.specs.History.{History, work_of, heap_of, outcome_of, next_run, new_run, call_of, queried, queried_as}
 use Rattle.pst_history.specs.Accepted.{IsAccepted}
 use Rattle.pst_history.proofs.Sound.{next-before, older-more}
 use Rattle.pst_machine.specs.declared.activation.Activation.{Activation}
-use Rattle.pst_engine.specs.declared.entry.OpenEntry.{OpenEntry}
-use Rattle.pst_runs.specs.Runs.{Runs, IsFreeFor, MayAdd, IsWaiting, RanOn}
-use Rattle.pst_engine.specs.Stands.{StandsFor}
-use Rattle.pst_engine.proofs.Begin.{row-at, begins-at}
+use Rattle.pst_active.specs.declared.entry.OpenEntry.{OpenEntry}
+use Rattle.pst_runs.specs.Runs.{Runs, IsFreeFor, MayAdd, IsWaiting, RanOn, SurvivesOthers}
+use Rattle.pst_active.specs.Stands.{StandsFor}
+use Rattle.pst_active.proofs.NewRuns.{row-at, begins-at}
+use Rattle.pst_program.specs.Laws.{IsOlder}
+use Rattle.pst_active.proofs.Parts.{versions-kept, forks-kept, entry-writable, entry-kept, unchanged-alone}
 
 single : (kinds : List ℕ → Option (List Kind)) (c : NamedCall) → IsTrue (fits_one (kinds c.procedure) c.arguments) → AllFit kinds (c ∷ [])
 single kinds c fits zero d e = let P : NamedCall → Type 0 = λ x. IsTrue (fits_one (kinds x.procedure) x.arguments) in subst P (let same : c ≡ d = cc in same) fits
@@ -73,3 +75,32 @@ module _ {H P R : Type 0} (m : Meaning) (x : Runs P R (Activation H R P)) (law :
       let theirs : Work = work_of (next_run h) (new_run h call.version (call_of call ∷ [])) in
       let works : work ≡ theirs = ap (λ (k : ℕ). record work { run = record { 0 = k } }) number ∙ ap (λ (k : ℕ). record theirs { budget = k }) stand.same_budget in
       one ∙ ap (λ w. queried_as (m.outcome w budget y)) works ∙ ap (λ (k : ℕ). queried_as (m.outcome theirs k y)) stand.same_budget
+
+-- ---- what a query leaves
+
+module _ {H P R : Type 0} (m : Meaning) (x : Runs P R (Activation H R P)) (s t : State P R) (still : SurvivesOthers x s t) (known : IsVersioned s) (placed : (p : P) → s.writable p → s.has p) where
+  pub read-keeps : (active : List (OpenEntry H R P)) (budget next : ℕ) (h : History) → StandsFor m x active budget next s h → Unchanged s t → WritesStay s t → StandsFor m x active budget next t h
+  read-keeps active budget next h stand same writes =
+      let keeps = same.keeps in
+      let calls = stand.calls in
+      let same_calls = keeps.fork_calls in
+      record {
+        sound = stand.sound;
+        same_budget = stand.same_budget;
+        same_next = stand.same_next;
+        shape = keeps.grows.shape ∙ stand.shape;
+        counts = same.counts ∙ stand.counts;
+        calls = omega arith;
+        older = λ p has. subst (λ y. IsOlder y next) (sym (same.heaps p (keeps.back p has))) (stand.older p (keeps.back p has));
+        versions = versions-kept m s t h keeps.versions keeps.grows.has (λ k row q. same.heaps row.place (stand.versions.versions k row q).has) stand.versions;
+        before = stand.before;
+        forks = forks-kept s t h stand.before keeps.versions keeps.forks stand.forks;
+        many = stand.many;
+        entries = λ j e q.
+            let old = stand.entries j e q in
+            let has = placed (x.place e.activation) (entry-writable m x s h stand.before e known stand.sound stand.forks old) in
+            entry-kept m x s t h stand.before h.runs h.versions e old old.found refl still (unchanged-alone s t (x.place e.activation) e.run same writes has)
+            (ap (λ rows. slice_get rows (stand.before + old.index)) keeps.forks ∙ old.fork_found);
+        all = stand.all;
+        apart = stand.apart;
+      }
