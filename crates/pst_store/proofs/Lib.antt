@@ -1,12 +1,1 @@
-pub mod Held
-pub mod Stores
-pub mod Links
-pub mod Forks
-pub mod Answered
-pub mod Starts
 pub mod Wholes
-pub mod Trying
-pub mod Started
-pub mod Unrepaired
-pub mod Rings
-pub mod Repeats

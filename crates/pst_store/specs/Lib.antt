@@ -1,5 +1,1 @@
-pub mod Codes
-pub mod Calls
 pub mod Whole
-pub mod Trials
-pub mod Rings

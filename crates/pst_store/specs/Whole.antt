@@ -1,12 +1,10 @@
 -- What a store means that may not be started yet: an empty store has no place, no version and no node.
-use Rattle.std.specs.Prelude.{◌≡◌, ℕ, ◌+◌, ◌≤◌, List, [], length, map, slice_get, Option, Some, None, Result, Ok, Err}
+use Rattle.std.specs.Prelude.{◌≡◌, ℕ, ◌+◌, ◌≤◌, List, [], length, map, slice_get, Option, Some, None}
 use Rattle.std.specs.FinMap.{empty}
 use Rattle.pst_base.specs.declared.names.NodeId.{NodeId}
 use Rattle.pst_base.specs.Name.{root_name}
 use Rattle.pst_base.specs.Shape.{type_at}
 use Rattle.pst_mirror.specs.Potential.{capacity, potential}
-use Rattle.pst_places.specs.declared.heap_at.StoreFault.{StoreFault}
-use Rattle.pst_places.specs.declared.heap_at.StoreFault.TheVariants.{InDegree, Memory}
 use Rattle.pst_places.specs.State.{State}
 use Rattle.pst_meaning.specs.declared.place.Place.{Place}
 use Rattle.pst_meaning.specs.Store.{Node, Stored, bound, load_of, state_of}
@@ -46,9 +44,3 @@ pub record IsBounded (o : Option Stored) : Type 0 where
 -- no node has more stamped values than its type's capacity
 pub record IsSmall (o : Option Stored) : Type 0 where
   pub small : (i : ℕ) (n : Node) → slice_get (nodes_in o) i ≡ Some n → length n.row.stamps ≤ capacity (type_at (state_in o).shape n.head.ty)
-
--- nothing waits after a pointer write, but where memory ran out
-abbrev pub RestsAfter : Result (Unit {0}) StoreFault → List ℕ → Type 0
-RestsAfter (Ok u) queue = queue ≡ []
-RestsAfter (Err InDegree) queue = queue ≡ []
-RestsAfter (Err Memory) queue = Unit {0}

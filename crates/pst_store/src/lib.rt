@@ -14,14 +14,7 @@
 //!     store.store_value(at, store.root(at), field, 7)?;
 #![tactic(auto)]
 
-mod inner;
-#[cfg(test)]
-mod one_split;
-#[cfg(test)]
-mod repeated;
 mod store;
 mod store_heap;
-#[cfg(test)]
-mod tests;
 
 pub use store::{Store, StoreOf};

@@ -1,10 +1,10 @@
 //! The store, and what is asked of it alone.
 
-use crate::inner::Core;
 use pst_arena::{Arena, FatNodes};
 use pst_base::{NoMemory, Shape, TypeNo};
 use pst_labels::LabelOrder;
 use pst_order::Order;
+use pst_started::Started;
 use std::alloc::Global;
 use std::marker::Model;
 
@@ -14,7 +14,7 @@ use std::marker::Model;
 /// together add no more nodes than that pays for (`whole`).
 #[derive(Drop)]
 pub struct StoreOf<O: Order + Drop, N: FatNodes = Arena> {
-    pub(crate) core: Option<Core<O, N>>,
+    pub(crate) started: Option<Started<O, N>>,
 }
 
 /// The store over the order list by labels.
@@ -24,13 +24,13 @@ impl<O: Order + Drop, N: FatNodes> Model for StoreOf<O, N> {
     ghost use Rattle.std.specs.Prelude.{Option};
     ghost use Rattle.std.specs.Coded.{coded_option};
     ghost use Rattle.pst_meaning.specs.Store.{Stored};
-    ghost use Rattle.pst_store.specs.Codes.{coded_stored};
+    ghost use Rattle.pst_started.specs.Codes.{coded_stored};
 
     ghost Value = { Option Stored };
 
     ghost coded = { coded_option coded_stored };
 
-    ghost view = { λ s. s.core };
+    ghost view = { λ s. s.started };
 }
 
 impl<O: Order + Drop, N: FatNodes> StoreOf<O, N> {
@@ -39,14 +39,14 @@ impl<O: Order + Drop, N: FatNodes> StoreOf<O, N> {
     ghost use Rattle.pst_mirror.specs.Potential.{capacity};
     ghost use Rattle.pst_places.specs.State.{Unchanged, WritesStay};
     ghost use Rattle.pst_meaning.specs.Store.{IsStore};
-    ghost use Rattle.pst_store.specs.Calls.{IsStarted};
+    ghost use Rattle.pst_started.specs.Calls.{IsStarted};
     ghost use Rattle.pst_store.specs.Whole.{IsBounded, IsSmall, nodes_in, potential_in, queue_in, state_in};
 
     /// A store with no version and no node. It takes no memory.
     pub fn empty() -> Self
         ensures { result ≡ None }
     {
-        StoreOf { core: None }
+        StoreOf { started: None }
     }
 
     /// Starts an empty store: it then has version 0, in which the root record is alone. After `NoMemory` it is still empty.
@@ -56,9 +56,16 @@ impl<O: Order + Drop, N: FatNodes> StoreOf<O, N> {
         ensures ok { OnOk result (IsSomeAnd self.new (IsStarted shape.now)) }
         ensures err { OnErr result (self.new ≡ None) }
     {
-        let core = Core::start(alloc, shape)?;
-        self.core = Some(core);
+        let started = Started::start(alloc, shape)?;
+        self.started = Some(started);
         Ok(())
+    }
+
+    /// The store as it is started, or None exactly where it is still empty.
+    pub fn into_started(self) -> Option<Started<O, N>>
+        ensures { result ≡ self }
+    {
+        self.started
     }
 
     /// What is known of every store, also after want of memory: what a store keeps; that no more nodes and potential are there
@@ -69,8 +76,8 @@ impl<O: Order + Drop, N: FatNodes> StoreOf<O, N> {
         ensures bounded { IsBounded self.now }
         ensures small { queue_in self.now ≡ [] → IsSmall self.now }
     {
-        if let Some(core) = &self.core {
-            core.whole();
+        if let Some(started) = &self.started {
+            started.whole();
         }
     }
 
@@ -78,9 +85,9 @@ impl<O: Order + Drop, N: FatNodes> StoreOf<O, N> {
     pub fn nodes(&self) -> u64
         ensures { result ≡ length (nodes_in self.now) }
     {
-        match &self.core {
+        match &self.started {
             None => 0,
-            Some(core) => core.node_count(),
+            Some(started) => started.node_count(),
         }
     }
 
@@ -88,9 +95,9 @@ impl<O: Order + Drop, N: FatNodes> StoreOf<O, N> {
     pub fn potential(&self) -> u64
         ensures { result ≡ potential_in self.now }
     {
-        match &self.core {
+        match &self.started {
             None => 0,
-            Some(core) => core.potential(),
+            Some(started) => started.potential(),
         }
     }
 
@@ -100,9 +107,9 @@ impl<O: Order + Drop, N: FatNodes> StoreOf<O, N> {
         requires { ty.0 < length (state_in self.now).shape }
         ensures { result ≡ capacity (type_at (state_in self.now).shape ty) }
     {
-        match &self.core {
+        match &self.started {
             None => 0,
-            Some(core) => core.capacity(ty),
+            Some(started) => started.capacity(ty),
         }
     }
 
@@ -110,9 +117,9 @@ impl<O: Order + Drop, N: FatNodes> StoreOf<O, N> {
     pub fn pending(&self) -> bool
         ensures { IsTrue result ↔ ¬ (queue_in self.now ≡ []) }
     {
-        match &self.core {
+        match &self.started {
             None => false,
-            Some(core) => core.pending(),
+            Some(started) => started.pending(),
         }
     }
 }

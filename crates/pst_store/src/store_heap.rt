@@ -17,7 +17,8 @@ impl<O: Order + Drop, N: FatNodes> HeapAt for StoreOf<O, N> {
     ghost use Rattle.pst_base.specs.Heap.{kind_in};
     ghost use Rattle.pst_places.specs.State.{Allocated, HasRoom, IsFresh, IsNewType, Unchanged, ValueStored, WritesStay};
     ghost use Rattle.pst_places.specs.Store.{MayStorePointer, PointerOutcome};
-    ghost use Rattle.pst_store.specs.Whole.{RestsAfter, queue_in, state_in};
+    ghost use Rattle.pst_started.specs.Calls.{RestsAfter};
+    ghost use Rattle.pst_store.specs.Whole.{queue_in, state_in};
 
     ghost state = { state_in };
 
@@ -26,47 +27,47 @@ impl<O: Order + Drop, N: FatNodes> HeapAt for StoreOf<O, N> {
     }
 
     fn root(&self, at: Place) -> NodeId {
-        match &self.core {
+        match &self.started {
             None => NodeId(0),
-            Some(core) => core.root(at),
+            Some(started) => started.root(at),
         }
     }
 
     #[inline(always)]
     fn load_value(&self, at: Place, r: NodeId, field: SlotNo) -> i64 {
-        match &self.core {
+        match &self.started {
             None => 0,
-            Some(core) => core.number(at, r, field),
+            Some(started) => started.number(at, r, field),
         }
     }
 
     #[inline(always)]
     fn load_pointer(&self, at: Place, r: NodeId, field: SlotNo) -> Option<NodeId> {
-        match &self.core {
+        match &self.started {
             None => None,
-            Some(core) => core.pointer(at, r, field),
+            Some(started) => started.pointer(at, r, field),
         }
     }
 
     fn name_of(&self, r: NodeId) -> Name {
-        match &self.core {
+        match &self.started {
             None => ROOT,
-            Some(core) => core.name(r),
+            Some(started) => started.name(r),
         }
     }
 
     fn type_of(&self, r: NodeId) -> TypeNo {
-        match &self.core {
+        match &self.started {
             None => TypeNo(0),
-            Some(core) => core.ty(r),
+            Some(started) => started.ty(r),
         }
     }
 
     #[inline(always)]
     fn same(&self, r: NodeId, q: NodeId) -> bool {
-        match &self.core {
+        match &self.started {
             None => true,
-            Some(core) => r == q || core.name(r) == core.name(q),
+            Some(started) => r == q || started.name(r) == started.name(q),
         }
     }
 
@@ -79,9 +80,9 @@ impl<O: Order + Drop, N: FatNodes> HeapAt for StoreOf<O, N> {
         ensures err { OnErr result (Unchanged (state_in self.old) (state_in self.new)) }
         ensures rested { IfOk result (λ _. queue_in self.new ≡ []) }
     {
-        match &mut self.core {
+        match &mut self.started {
             None => Err(NoMemory),
-            Some(core) => core.make(at, ty, name),
+            Some(started) => started.make(at, ty, name),
         }
     }
 
@@ -94,9 +95,9 @@ impl<O: Order + Drop, N: FatNodes> HeapAt for StoreOf<O, N> {
         ensures err { OnErr result (Unchanged (state_in self.old) (state_in self.new) ⊎ ValueStored (state_in self.old) at ((state_in self.old).name r) field.0 n (state_in self.new)) }
         ensures rested { OnOk result (queue_in self.new ≡ []) }
     {
-        match &mut self.core {
+        match &mut self.started {
             None => Err(NoMemory),
-            Some(core) => core.write_number(at, r, field, n),
+            Some(started) => started.write_number(at, r, field, n),
         }
     }
 
@@ -111,9 +112,9 @@ impl<O: Order + Drop, N: FatNodes> HeapAt for StoreOf<O, N> {
         ensures outcome { PointerOutcome (state_in self.old) at r field.0 target result (state_in self.new) }
         ensures rested { RestsAfter result (queue_in self.new) }
     {
-        match &mut self.core {
+        match &mut self.started {
             None => Err(StoreFault::Memory),
-            Some(core) => core.point(at, r, field, target),
+            Some(started) => started.point(at, r, field, target),
         }
     }
 }
@@ -135,9 +136,9 @@ impl<O: Order + Drop, N: FatNodes> VersionedHeap for StoreOf<O, N> {
         ensures err { OnErr result (ForkRefused (state_in self.old) (state_in self.new)) }
         ensures queue { queue_in self.new ≡ queue_in self.old }
     {
-        match &mut self.core {
+        match &mut self.started {
             None => Err(NoMemory),
-            Some(core) => core.make_fork(from),
+            Some(started) => started.make_fork(from),
         }
     }
 
@@ -148,41 +149,41 @@ impl<O: Order + Drop, N: FatNodes> VersionedHeap for StoreOf<O, N> {
         ensures err { OnErr result (Unchanged (state_in self.old) (state_in self.new) × WritesStay (state_in self.old) (state_in self.new)) }
         ensures queue { queue_in self.new ≡ queue_in self.old }
     {
-        match &mut self.core {
+        match &mut self.started {
             None => Err(NoMemory),
-            Some(core) => core.make_version(parent, run, at),
+            Some(started) => started.make_version(parent, run, at),
         }
     }
 
     fn place_of(&self, version: VersionNo) -> Option<Place> {
-        match &self.core {
+        match &self.started {
             None => None,
-            Some(core) => core.place_of(version),
+            Some(started) => started.place_of(version),
         }
     }
 
     fn parent(&self, version: VersionNo) -> Option<VersionNo> {
-        match &self.core {
+        match &self.started {
             None => None,
-            Some(core) => core.parent(version),
+            Some(started) => started.parent(version),
         }
     }
 
     fn count(&self) -> u32 {
-        match &self.core {
+        match &self.started {
             None => 0,
-            Some(core) => core.count(),
+            Some(started) => started.count(),
         }
     }
 
     fn counts(&self) -> Counts {
-        match &self.core {
+        match &self.started {
             None => Counts {
                 records: 0,
                 pointer_writes: 0,
                 value_writes: 0,
             },
-            Some(core) => core.counts(),
+            Some(started) => started.counts(),
         }
     }
 }

@@ -1,0 +1,4 @@
+pub mod Trying
+pub mod Started
+pub mod Rings
+pub mod Repeats

@@ -1,0 +1,14 @@
+use Rattle.pst_started_cases.proofs.Rings.{one_ring, ring_grows, rings_stamped}
+use Rattle.pst_started_cases.proofs.one_split.stamp_all.Goals as goal
+
+pub loop-n-init : goal.loop-n-init
+loop-n-init g c = record { version = c.requires; places = one_ring _ c.args.first c.args.second c.args.from _ c.in_ok-places.ensures c.requires }
+
+pub returns : goal.returns
+returns g c = c.loop-n.invariant.places
+
+pub loop-n-preserved : goal.loop-n-preserved
+loop-n-preserved g c = record {
+  version = ring_grows _ _ c.args.first c.args.second c.args.from c.in_ok-at.ensures.grows c.loop-n.invariant.version;
+  places = rings_stamped _ _ c.args.first c.args.second c.args.from c.in_ok-at.at _ _ c.in_ok-at.ensures c.loop-n.invariant.version c.in-Ok.ensures.items c.loop-n.invariant.places;
+}

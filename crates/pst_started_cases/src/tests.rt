@@ -1,0 +1,237 @@
+//! What no clause says: that the calls which take memory succeed, and that the clauses mean what is meant.
+
+ghost use Rattle.std.specs.Prelude.{◌≡◌, ◌+◌, ◌<◌, All, IfOk, IfSome, IsTrue, None, Some, length};
+ghost use Rattle.pst_base.specs.declared.names.Kind.TheVariants.{Int, Pointer};
+ghost use Rattle.pst_base.specs.Shape.{field_kind, type_at};
+ghost use Rattle.pst_started_cases.specs.Trials.{HoldsNumber, IsReady};
+ghost use Rattle.pst_store.specs.Whole.{state_in};
+
+use pst_arena::FatNodes;
+use pst_base::{
+    Kind, Name, NoMemory, NodeId, RunNo, Shape, SlotNo, Targets, TypeNo, TypeShape, VersionNo,
+};
+use pst_meaning::place::Place;
+use pst_order::Order;
+use pst_places::{HeapAt, StoreFault, VersionedHeap, fork_and_link};
+use pst_store::{Store, StoreOf};
+use std::alloc::Global;
+
+/// The type of the root record, and that of all others.
+const ROOT: TypeNo = TypeNo(0);
+
+pub(crate) const ITEM: TypeNo = TypeNo(1);
+
+/// The field of the root record that holds a number, and the one of an item that holds an item.
+const NUMBER: SlotNo = SlotNo(0);
+
+const NEXT: SlotNo = SlotNo(0);
+
+/// Two items, made by run 1.
+pub(crate) const FIRST: Name = Name {
+    run: RunNo(1),
+    ordinal: 0,
+};
+
+pub(crate) const SECOND: Name = Name {
+    run: RunNo(1),
+    ordinal: 1,
+};
+
+/// Forks a place so many times, and writes another number into a field of the root record at each fork: 0, 1 and so on.
+fn write_at_forks<H: VersionedHeap>(
+    alloc: Global,
+    heap: &mut H,
+    from: H::Place,
+    field: SlotNo,
+    times: u32,
+) -> Result<Vec<H::Place>, NoMemory>
+    requires { IsReady (H.state heap.old) from field.0 times }
+    ensures written { IfOk result (λ places. All (HoldsNumber (H.state heap.new) field.0) places.items) }
+    ensures stays { IfOk result (λ _. HoldsNumber (H.state heap.new) field.0 from) }
+{
+    let mut places = Vec::new(alloc);
+    for n in 0..times {
+        let at = heap.fork(from)?;
+        let r = heap.root(at);
+        heap.store_value(at, r, field, i64::from(n))?;
+        places.push(at)?;
+    }
+    Ok(places)
+}
+
+/// The number in a field of the root record, at a place.
+fn number<H: HeapAt>(heap: &H, at: H::Place, field: SlotNo) -> i64
+    requires { HoldsNumber (H.state heap.now) field.0 at }
+{
+    let r = heap.root(at);
+    heap.load_value(at, r, field)
+}
+
+/// The number in a field of the root record, at each place.
+fn numbers<H: HeapAt>(
+    alloc: Global,
+    heap: &H,
+    places: &[H::Place],
+    field: SlotNo,
+) -> Result<Vec<i64>, NoMemory>
+    requires { All (HoldsNumber (H.state heap.now) field.0) places.now }
+{
+    let mut numbers = Vec::new(alloc);
+    for at in places {
+        numbers.push(number(heap, *at, field))?;
+    }
+    Ok(numbers)
+}
+
+/// Whether a field of a type has a kind.
+pub(crate) fn has_kind(shape: &Shape, ty: TypeNo, field: SlotNo, kind: Kind) -> bool
+    ensures there { IsTrue result → ty.0 < length shape.now }
+    ensures kind { IsTrue result → field_kind (type_at shape.now ty) field.0 ≡ Some kind }
+{
+    match shape.as_slice().get(usize::from(ty.0)) {
+        None => false,
+        Some(of) => of.kind(field) == Some(kind),
+    }
+}
+
+/// Starts an empty store whose root record has a number, and answers the place of version 0 and the capacity of the root
+/// record's nodes.
+fn start<O: Order + Drop, N: FatNodes>(
+    alloc: Global,
+    store: &mut StoreOf<O, N>,
+    shape: &Shape,
+) -> Result<Option<(Place, u32)>, NoMemory>
+    requires { store.old ≡ None }
+    ensures { IfOk result (λ started. IfSome started (λ pair. IsReady (state_in store.new) pair.0 NUMBER.0 100)) }
+{
+    if !shape.is_valid() || !has_kind(shape, ROOT, NUMBER, Kind::Int) {
+        return Ok(None);
+    }
+    store.start(alloc, shape)?;
+    let capacity = store.capacity(ROOT);
+    match store.place_of(VersionNo(0)) {
+        None => Ok(None),
+        Some(at) => Ok(Some((at, capacity))),
+    }
+}
+
+/// Starts an empty store, forks version 0, links two items there, and answers the fork and what the first one holds.
+fn link<O: Order + Drop, N: FatNodes>(
+    alloc: Global,
+    store: &mut StoreOf<O, N>,
+    shape: &Shape,
+) -> Result<Option<(Place, Option<NodeId>)>, StoreFault>
+    requires { store.old ≡ None }
+{
+    if !shape.is_valid() || !has_kind(shape, ITEM, NEXT, Kind::Pointer(ITEM)) {
+        return Ok(None);
+    }
+    store.start(alloc, shape)?;
+    match store.place_of(VersionNo(0)) {
+        None => Ok(None),
+        Some(from) => Ok(Some(fork_and_link(store, from, ITEM, FIRST, SECOND, NEXT)?)),
+    }
+}
+
+/// Starts an empty store, forks version 0, and publishes the fork by run 7.
+fn publish<O: Order + Drop, N: FatNodes>(
+    alloc: Global,
+    store: &mut StoreOf<O, N>,
+    shape: &Shape,
+) -> Result<Option<(Place, VersionNo)>, NoMemory>
+    requires { store.old ≡ None }
+{
+    if !shape.is_valid() {
+        return Ok(None);
+    }
+    store.start(alloc, shape)?;
+    match store.place_of(VersionNo(0)) {
+        None => Ok(None),
+        Some(from) => {
+            let at = store.fork(from)?;
+            let version = store.publish(VersionNo(0), RunNo(7), at)?;
+            Ok(Some((at, version)))
+        }
+    }
+}
+
+/// A type with so many numbers, one pointer to an item, and this limit.
+pub(crate) fn type_of(alloc: Global, values: u16, limit: u8) -> Result<TypeShape, NoMemory> {
+    Ok(TypeShape {
+        values,
+        targets: Targets::from_vec(vec![in alloc; ITEM]?),
+        limit,
+    })
+}
+
+/// The shape of a root record with a number and a pointer, and of items with a pointer: the capacity of each is 4.
+fn shape(alloc: Global) -> Result<Shape, NoMemory> {
+    let root = type_of(alloc, 1, 1)?;
+    let item = type_of(alloc, 0, 1)?;
+    Ok(Shape::from_vec(vec![in alloc; root, item]?))
+}
+
+#[test]
+fn an_empty_store_has_nothing(rt: HostRuntime) {
+    let store = Store::empty();
+    assert_eq!(rt; store.nodes(), 0);
+    assert_eq!(rt; store.potential(), 0);
+    assert!(rt; !store.pending());
+    assert_eq!(rt; store.count(), 0);
+    assert_eq!(rt; store.counts().records, 0);
+}
+
+#[test]
+fn each_fork_keeps_its_number_through_the_splits(rt: HostRuntime) -> Result<(), NoMemory> {
+    let alloc = rt.alloc();
+    let shape = shape(alloc)?;
+    let mut store = Store::empty();
+    let Some((from, capacity)) = start(alloc, &mut store, &shape)? else {
+        panic!(rt; "the shape is valid");
+    };
+    assert_eq!(rt; capacity, 4);
+    assert_eq!(rt; store.nodes(), 1);
+    let places = write_at_forks(alloc, &mut store, from, NUMBER, 12)?;
+    let wanted: [i64; 12] = [0, 1, 2, 3, 4, 5, 6, 7, 8, 9, 10, 11];
+    assert_eq!(rt;
+        numbers(alloc, &store, &places, NUMBER)?.as_slice(),
+        wanted.as_slice()
+    );
+    assert_eq!(rt; number(&store, from, NUMBER), 0);
+    assert_eq!(rt; store.counts().value_writes, 12);
+    assert!(rt; !store.pending());
+    let nodes = store.nodes();
+    assert!(rt; 5 <= nodes && nodes <= 25);
+    assert!(rt; store.potential() <= 25 - nodes);
+    Ok(())
+}
+
+#[test]
+fn two_records_are_linked_at_a_fork(rt: HostRuntime) -> Result<(), StoreFault> {
+    let alloc = rt.alloc();
+    let shape = shape(alloc)?;
+    let mut store = Store::empty();
+    let Some((_, held)) = link(alloc, &mut store, &shape)? else {
+        panic!(rt; "the shape is valid");
+    };
+    assert_eq!(rt; held, Some(NodeId(2)));
+    assert_eq!(rt; store.nodes(), 3);
+    assert_eq!(rt; store.counts().records, 3);
+    assert_eq!(rt; store.counts().pointer_writes, 2);
+    Ok(())
+}
+
+#[test]
+fn a_fork_is_published(rt: HostRuntime) -> Result<(), NoMemory> {
+    let alloc = rt.alloc();
+    let shape = shape(alloc)?;
+    let mut store = Store::empty();
+    let Some((at, version)) = publish(alloc, &mut store, &shape)? else {
+        panic!(rt; "the shape is valid");
+    };
+    assert_eq!(rt; version, VersionNo(1));
+    assert_eq!(rt; store.count(), 2);
+    assert_eq!(rt; store.parent(VersionNo(1)), Some(VersionNo(0)));
+    assert_eq!(rt; store.place_of(VersionNo(1)), Some(at));
+    Ok(())
+}
