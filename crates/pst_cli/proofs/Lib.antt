@@ -1,11 +1,1 @@
-pub mod Counting
-pub mod Serving
 pub mod Stores
-pub mod RowLemmas
-pub mod Outputs
-pub mod Numerals
-pub mod Summing
-pub mod Benching
-pub mod Carrying
-pub mod AskRows
-pub mod Finding

@@ -5,11 +5,12 @@ use Rattle.pst_places.specs.State.{State}
 use Rattle.pst_meaning.specs.Store.{Stored}
 use Rattle.pst_line.specs.declared.place.LinePlace.{LinePlace}
 use Rattle.pst_line.specs.Store.{Stored as LineStored}
-use Rattle.pst_cli.specs.declared.job.Job.{Job}
-use Rattle.pst_cli.specs.declared.job.Job.TheVariants.{Run, Replay, Line, Check, Code}
+use Rattle.pst_jobs.specs.declared.job.Job.{Job}
+use Rattle.pst_jobs.specs.declared.job.Job.TheVariants.{Run, Replay, Line, Check, Code}
 use Rattle.pst_sessions.specs.Kept.{Kept, still, together}
-use Rattle.pst_cli.specs.Held.{kept_in, lined_in}
-use Rattle.pst_cli.proofs.Serving.{Implies}
+use Rattle.pst_serving.specs.Held.{kept_in}
+use Rattle.pst_cli.specs.Held.{lined_in}
+use Rattle.pst_serving.proofs.Serving.{Implies}
 
 -- nothing was done with either
 pub untouched : {T : Type 0} (state : T → State LinePlace NodeId) (stored : T → LineStored) (store : Option Stored) (line : T) (job : Job)

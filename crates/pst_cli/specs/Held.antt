@@ -5,20 +5,12 @@ use Rattle.pst_places.specs.State.{State}
 use Rattle.pst_meaning.specs.Store.{Stored as FatStored}
 use Rattle.pst_line.specs.declared.place.LinePlace.{LinePlace}
 use Rattle.pst_line.specs.Store.{Stored}
-use Rattle.pst_cli.specs.declared.job.Job.{Job}
-use Rattle.pst_cli.specs.declared.job.Job.TheVariants.{Run, Replay, Line, Check, Code}
+use Rattle.pst_jobs.specs.declared.job.Job.{Job}
+use Rattle.pst_jobs.specs.declared.job.Job.TheVariants.{Run, Replay, Line, Check, Code}
 use Rattle.pst_sessions.specs.Kept.{Kept, kept_by, still, together}
-use Rattle.pst_cli.specs.Output.{rules_of}
-use Rattle.pst_sessions.specs.Storing.{IsLeft, IsBroken}
 use Rattle.pst_sessions.specs.Lining.{IsLineLeft, IsLineBroken}
-
--- `run` leaves the store in a history; every other job leaves it as it was handed in
-abbrev pub kept_in : (old new : Option FatStored) → Job → Kept
-kept_in old new Run = kept_by (rules_of Run) IsLeft IsBroken old new
-kept_in old new Replay = still (new ≡ old)
-kept_in old new Line = still (new ≡ old)
-kept_in old new Check = still (new ≡ old)
-kept_in old new Code = still (new ≡ old)
+use Rattle.pst_serving.specs.Output.{rules_of}
+use Rattle.pst_serving.specs.Held.{kept_in}
 
 -- `line` leaves the line store in a history; every other job leaves it as it was handed in
 abbrev pub lined_in : {T : Type 0} → (state : T → State LinePlace NodeId) → (stored : T → Stored) → (old new : T) → Job → Kept

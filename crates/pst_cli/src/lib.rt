@@ -1,16 +1,21 @@
 //! The top call: everything that the program does, over a source and a sink.
+//!
+//! Model: the bytes that the source tells, the bytes that the sink has taken, and what the two stores hold. The words ask for a
+//! job, the bench or a question, each of which has a table by the status.
+//!
+//! Contract: [`persist`] does what the words ask for. What was read and written and what each store is left in is the row of the
+//! status in the table of the job (`table`), of the bench (`bench`) or of the question (`asked`); nothing but want of memory keeps
+//! it from its whole output where reads and writes do not fail and the input is not too long (`complete`).
+//!
+//!     let mut store: Store = Store::empty();
+//!     let mut line = LineStore::empty();
+//!     let status = persist(alloc, &words, &mut source, &mut sink, &mut store, &mut line);
+//!     ExitCode::from(number(status))
 #![tactic(auto)]
 
-mod ask;
-mod bench;
-mod job;
-mod laws;
-mod serve;
-mod status;
 mod top;
 
-pub use job::{Job, Question, Task};
-pub use laws::input_has_one_output;
+pub use pst_jobs::{Job, Question, Status, Task, number};
 pub use pst_judge::{Fault, FaultKind, text_has_one_verdict};
-pub use status::{Status, number};
+pub use pst_serving::input_has_one_output;
 pub use top::persist;

@@ -3,30 +3,29 @@
 ghost use Rattle.std.specs.Prelude.{◌≡◌, ◌↔◌, ◌≤◌, Some, None, IfSome};
 ghost use Rattle.pst_io.specs.Causes.{Rose};
 ghost use Rattle.pst_io.specs.Lines.{not_begun};
-ghost use Rattle.pst_cli.specs.declared.job.Job.{Job};
-ghost use Rattle.pst_cli.specs.Jobs.{task_in, OnJob, OnBench, OnQuestion};
-ghost use Rattle.pst_cli.specs.Asking.{AskRow};
-ghost use Rattle.pst_cli.specs.Bench.{BenchRow, bench_lines};
+ghost use Rattle.pst_jobs.specs.declared.job.Job.{Job};
+ghost use Rattle.pst_jobs.specs.Jobs.{task_in, OnJob, OnBench, OnQuestion};
+ghost use Rattle.pst_asking.specs.Asking.{AskRow};
+ghost use Rattle.pst_summary.specs.Bench.{BenchRow, bench_lines};
 ghost use Rattle.pst_samples.specs.declared.TheConstants.{RING};
 ghost use Rattle.pst_line.specs.Store.{IsEmpty};
-ghost use Rattle.pst_cli.specs.Rows.{HasRow, Row, NoFault, IsServable, IsComplete};
-ghost use Rattle.pst_cli.specs.Held.{kept_in, both_in};
+ghost use Rattle.pst_serving.specs.Rows.{HasRow, Row, NoFault, IsServable, IsComplete};
+ghost use Rattle.pst_serving.specs.Held.{kept_in};
+ghost use Rattle.pst_cli.specs.Held.{both_in};
 ghost use Rattle.pst_sessions.specs.Sessions.{HasTaken};
 
-use crate::Status;
-use crate::ask::ask;
-use crate::bench::bench;
-use crate::job::{Job, Question, Task, path_in, task_of};
-use crate::serve::{print, serve};
-use crate::status::status_of;
 use pst_arena::FatNodes;
+use pst_asking::ask;
 use pst_io::{Lines, Sink, Source};
+use pst_jobs::{Job, Question, Status, Task, path_in, task_of};
 use pst_judge::Page;
 use pst_line::calls::LineCalls;
 use pst_order::Order;
 use pst_samples::ring;
+use pst_serving::{print, serve, status_of};
 use pst_sessions::{Lining, Replaying, Running, read_text};
 use pst_store::StoreOf;
+use pst_summary::bench;
 use std::alloc::Global;
 
 /// Does everything that the program does.

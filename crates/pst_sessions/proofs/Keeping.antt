@@ -10,7 +10,7 @@ use Rattle.pst_engine.specs.Stands.{IsStartedHeap}
 use Rattle.pst_meaning.specs.declared.place.Place.{Place}
 use Rattle.pst_meaning.specs.declared.place.Fork.{Fork}
 use Rattle.pst_meaning.specs.Store.{Stored, IsForked, IsPlace, as_fork}
-use Rattle.pst_store.specs.Calls.{IsStarted}
+use Rattle.pst_started.specs.Calls.{IsStarted}
 use Rattle.pst_store.specs.Whole.{state_in}
 
 -- no fork is in an empty list

@@ -5,7 +5,7 @@ use Rattle.pst_history.specs.Meaning.{Meaning}
 use Rattle.pst_history.specs.History.{History}
 use Rattle.pst_history.specs.Sound.{IsSoundHistory}
 use Rattle.pst_places.specs.State.{State}
-use Rattle.pst_engine.specs.Stands.{HoldsVersions}
+use Rattle.pst_active.specs.Stands.{HoldsVersions}
 use Rattle.pst_line.specs.declared.place.LinePlace.{LinePlace}
 use Rattle.pst_line.specs.declared.place.Stretch.{Stretch}
 use Rattle.pst_line.specs.Store.{Stored as LineStored, stamp, bound, rows_from, Means, IsStored, IsClosed}

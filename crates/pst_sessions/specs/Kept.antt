@@ -18,10 +18,6 @@ pub record Kept : Type 1 where
 abbrev pub still : Type 0 → Kept
 still P = record { leaves = λ m lines. P; breaks = λ m lines. P; untouched = P }
 
--- nothing is held
-abbrev pub nothing_held : Kept
-nothing_held = still ⊤
-
 -- what two hold, each for itself
 abbrev pub together : Kept → Kept → Kept
 together k n = record {

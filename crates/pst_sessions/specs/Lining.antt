@@ -6,7 +6,7 @@ use Rattle.pst_history.specs.Meaning.{Meaning}
 use Rattle.pst_history.specs.History.{History, counts_of}
 use Rattle.pst_history.specs.Direct.{meaning_of}
 use Rattle.pst_places.specs.State.{State}
-use Rattle.pst_engine.specs.Stands.{HoldsVersions}
+use Rattle.pst_active.specs.Stands.{HoldsVersions}
 use Rattle.pst_line_nodes.specs.Line.{potential}
 use Rattle.pst_line.specs.declared.place.LinePlace.{LinePlace}
 use Rattle.pst_line.specs.Store.{Stored, bound, IsRested}

@@ -8,7 +8,8 @@ use Rattle.pst_history.specs.Meaning.{Meaning}
 use Rattle.pst_history.specs.History.{History, counts_of}
 use Rattle.pst_history.specs.Direct.{meaning_of}
 use Rattle.pst_engine.specs.declared.engine.Engine.{Engine}
-use Rattle.pst_engine.specs.Stands.{EngineStands, HoldsVersions}
+use Rattle.pst_active.specs.Stands.{HoldsVersions}
+use Rattle.pst_engine.specs.Stands.{EngineStands}
 use Rattle.pst_meaning.specs.declared.place.Place.{Place}
 use Rattle.pst_meaning.specs.Store.{Stored}
 use Rattle.pst_store.specs.Whole.{IsBounded, IsSmall, queue_in, state_in}

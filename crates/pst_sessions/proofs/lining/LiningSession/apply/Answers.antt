@@ -1,6 +1,6 @@
 use Rattle.std.proofs.Common.{◌∙◌, ap, inl, sym, subst}
 use Rattle.pst_history.specs.Meaning.{Meaning}
-use Rattle.pst_engine.specs.Stands.{HoldsVersions}
+use Rattle.pst_active.specs.Stands.{HoldsVersions}
 use Rattle.pst_linerun.specs.Linear.{line_reply, line_after}
 use Rattle.pst_linerun.specs.Standing.{SessionStands}
 use Rattle.pst_sessions.proofs.LineStores.{line_broken}

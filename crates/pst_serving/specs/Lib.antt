@@ -1,0 +1,5 @@
+pub mod Output
+pub mod Held
+pub mod Rows
+pub mod Serving
+pub mod Laws
