@@ -31,8 +31,12 @@ fn all_shown(alloc: Global, text: &[u8]) -> Result<String, Fail> {
         return Ok(all);
     }
     let mut lexer = Lexer::new(text);
-    while let Some(token) = lexer.next_token(alloc)? {
-        all.push_str(shown(alloc, &token)?.as_str())?;
+    // A token has a byte at least, so there are fewer than that.
+    for _ in 0..SMALL {
+        match lexer.next_token(alloc)? {
+            None => break,
+            Some(token) => all.push_str(shown(alloc, &token)?.as_str())?,
+        }
     }
     all.push_str(lexer.line().to_string(alloc)?.as_str())?;
     Ok(all)
