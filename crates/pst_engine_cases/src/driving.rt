@@ -5,23 +5,31 @@ ghost use Rattle.pst_engine_cases.specs.Twins.{CanAnswer};
 
 use crate::forms::Forms;
 use crate::lines::next_line;
-use crate::random::Random;
-use crate::trouble::Trouble;
 use crate::twins::Twins;
+use pst_base::NoMemory;
 use pst_places::VersionedHeap;
+use pst_testing::{Random, Trouble};
 use std::alloc::Global;
+
+/// What stands before each line of a reply in a story: a script with the replies to its lines.
+const MARK: &[u8] = b"=> ";
+
+/// The lines of a text, without the byte that ends each.
+fn lines_of(alloc: Global, text: &[u8]) -> Result<Vec<&[u8]>, NoMemory> {
+    text.split(|byte| *byte == b'\n').collect(alloc)
+}
 
 /// Gives both so many lines that are made up on the way, and keeps the forms of the replies. Each line has to be answered
 /// alike.
-pub fn drive<H: VersionedHeap>(
+pub(crate) fn drive<H: VersionedHeap>(
     alloc: Global,
     twins: &mut Twins<H>,
     random: &mut Random,
     forms: &mut Forms,
     lines: u32,
 ) -> Result<(), Trouble>
-    requires { CanAnswer twins.old (H.state twins.old.heap) }
-    ensures { OnOk result (CanAnswer twins.new (H.state twins.new.heap)) }
+    requires { CanAnswer twins.old.code twins.old.engine (H.state twins.old.heap) twins.old.program twins.old.replayer }
+    ensures { OnOk result (CanAnswer twins.new.code twins.new.engine (H.state twins.new.heap) twins.new.program twins.new.replayer) }
 {
     for _ in 0..lines {
         let line = next_line(alloc, random, twins)?;
@@ -32,21 +40,35 @@ pub fn drive<H: VersionedHeap>(
     Ok(())
 }
 
-/// How many lines of a script have the reply that stands beside them.
-pub fn count_answered<H: VersionedHeap>(
-    alloc: Global,
-    twins: &mut Twins<H>,
-    script: &[(&str, &str)],
-) -> Result<usize, Trouble>
-    requires { CanAnswer twins.old (H.state twins.old.heap) }
-    ensures { OnOk result (CanAnswer twins.new (H.state twins.new.heap)) }
-{
-    let mut count: usize = 0;
-    for (line, wanted) in script {
-        match twins.reply(alloc, line.as_bytes())? {
-            Some(text) if text.as_slice() == wanted.as_bytes() => count = count.saturating_add(1),
-            _ => {}
+/// Puts a line, and behind it the lines of the reply to it.
+fn put(line: &[u8], reply: &[u8], told: &mut Vec<u8>) -> Result<(), NoMemory> {
+    told.extend_from_slice(line)?;
+    told.push(b'\n')?;
+    for line in reply.split(|byte| *byte == b'\n') {
+        if !line.is_empty() {
+            told.extend_from_slice(MARK)?;
+            told.extend_from_slice(line)?;
+            told.push(b'\n')?;
         }
     }
-    Ok(count)
+    Ok(())
+}
+
+/// Gives both the lines of a story that are no replies, and tells it anew with the replies that they give.
+pub(crate) fn tell_anew<H: VersionedHeap>(
+    alloc: Global,
+    twins: &mut Twins<H>,
+    story: &str,
+) -> Result<Vec<u8>, Trouble>
+    requires { CanAnswer twins.old.code twins.old.engine (H.state twins.old.heap) twins.old.program twins.old.replayer }
+    ensures { OnOk result (CanAnswer twins.new.code twins.new.engine (H.state twins.new.heap) twins.new.program twins.new.replayer) }
+{
+    let mut told = Vec::new(alloc);
+    let lines: Vec<&[u8]> = lines_of(alloc, story.as_bytes())?;
+    for line in &lines {
+        if let Some(reply) = twins.reply(alloc, line)? {
+            put(line, reply.as_slice(), &mut told)?;
+        }
+    }
+    Ok(told)
 }

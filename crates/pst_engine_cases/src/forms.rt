@@ -42,8 +42,15 @@ impl Forms {
         Ok(())
     }
 
+    /// Whether replies had each of these forms, which stand in lines.
+    pub fn has_all(&self, forms: &[u8]) -> bool {
+        forms
+            .split(|byte| *byte == b'\n')
+            .all(|form| self.has(form))
+    }
+
     /// Whether a reply had this form.
-    pub fn has(&self, form: &[u8]) -> bool {
+    fn has(&self, form: &[u8]) -> bool {
         self.items.iter().any(|item| item.as_slice() == form)
     }
 }

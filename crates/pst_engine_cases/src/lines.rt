@@ -1,10 +1,10 @@
 //! Lines of a script, made up as it runs.
 
-use crate::random::Random;
 use crate::twins::Twins;
 use pst_base::NoMemory;
 use pst_engine::Engine;
 use pst_places::VersionedHeap;
+use pst_testing::Random;
 use std::alloc::Global;
 
 /// The program that the lines are for: a list whose procedures make, move and drop its items, some of which trap, and some of

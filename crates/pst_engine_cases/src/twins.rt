@@ -8,7 +8,6 @@ ghost use Rattle.pst_history.specs.Direct.{meaning_of};
 ghost use Rattle.pst_engine.specs.Stands.{IsStartedHeap};
 ghost use Rattle.pst_engine_cases.specs.Twins.{CanAnswer};
 
-use crate::trouble::Trouble;
 use pst_base::Text;
 use pst_coded::Compiled;
 use pst_engine::{Engine, a_new_engine_stands};
@@ -16,6 +15,7 @@ use pst_places::VersionedHeap;
 use pst_program::Program;
 use pst_replay::Replayer;
 use pst_script::{Command, LineFault, read_line, reply_text};
+use pst_testing::Trouble;
 use std::alloc::Global;
 
 /// An engine with its heap, and a replayer: two that answer the lines of a script.
@@ -35,7 +35,7 @@ impl<H: VersionedHeap> Twins<H> {
     pub fn new(alloc: Global, code: Compiled, program: Program, heap: H) -> Twins<H>
         requires typed { IsTyped (routines_of program) }
         requires heap { IsStartedHeap (meaning_of code) (H.state heap) }
-        ensures { CanAnswer result (H.state result.heap) }
+        ensures { CanAnswer result.code result.engine (H.state result.heap) result.program result.replayer }
     {
         let engine = Engine::new(alloc);
         a_new_engine_stands(&code, &heap, &engine);
@@ -50,8 +50,8 @@ impl<H: VersionedHeap> Twins<H> {
 
     /// The same two, but with an engine made of the four fields of this one.
     pub fn renewed(self) -> Twins<H>
-        requires { CanAnswer self (H.state self.heap) }
-        ensures { CanAnswer result (H.state result.heap) }
+        requires { CanAnswer self.code self.engine (H.state self.heap) self.program self.replayer }
+        ensures { CanAnswer result.code result.engine (H.state result.heap) result.program result.replayer }
     {
         let Twins {
             code,
@@ -77,8 +77,8 @@ impl<H: VersionedHeap> Twins<H> {
 
     /// The text of the reply to a line, or None for a line that is no command.
     pub fn reply(&mut self, alloc: Global, line: &[u8]) -> Result<Option<Text>, Trouble>
-        requires { CanAnswer self.old (H.state self.old.heap) }
-        ensures { OnOk result (CanAnswer self.new (H.state self.new.heap)) }
+        requires { CanAnswer self.old.code self.old.engine (H.state self.old.heap) self.old.program self.old.replayer }
+        ensures { OnOk result (CanAnswer self.new.code self.new.engine (H.state self.new.heap) self.new.program self.new.replayer) }
     {
         match read_line(alloc, line) {
             Ok(Some(command)) => Ok(Some(self.carry_out(alloc, &command)?)),
@@ -90,9 +90,9 @@ impl<H: VersionedHeap> Twins<H> {
 
     /// The text of both replies to a command, which have to be equal.
     fn carry_out(&mut self, alloc: Global, command: &Command) -> Result<Text, Trouble>
-        requires ready { CanAnswer self.old (H.state self.old.heap) }
+        requires ready { CanAnswer self.old.code self.old.engine (H.state self.old.heap) self.old.program self.old.replayer }
         requires range { in_range command.now ≡ true }
-        ensures { OnOk result (CanAnswer self.new (H.state self.new.heap)) }
+        ensures { OnOk result (CanAnswer self.new.code self.new.engine (H.state self.new.heap) self.new.program self.new.replayer) }
     {
         let reply = self
             .engine

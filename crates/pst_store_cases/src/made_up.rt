@@ -5,7 +5,7 @@ ghost use Rattle.pst_store_cases.specs.Going.{IsGoing};
 
 use crate::session::Session;
 use pst_base::NoMemory;
-use pst_engine_cases::Random;
+use pst_testing::Random;
 use pst_places::VersionedHeap;
 use std::alloc::Global;
 

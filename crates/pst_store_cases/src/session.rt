@@ -10,7 +10,7 @@ use pst_base::{NoMemory, Text, VersionNo};
 use pst_coded::Compiled;
 use pst_dump::dump;
 use pst_engine::{Engine, a_new_engine_stands};
-use pst_engine_cases::Trouble;
+use pst_testing::Trouble;
 use pst_places::VersionedHeap;
 use pst_script::{Command, LineFault, read_line, reply_text};
 use std::alloc::Global;

@@ -11,7 +11,7 @@ use crate::session::Session;
 use pst_arena::FatNodes;
 use pst_base::NoMemory;
 use pst_coded::{Compiled, Meant};
-use pst_engine_cases::{Trouble, compiled, forest_for};
+use pst_testing::{Trouble, compiled, forest_for};
 use pst_forest::Forest;
 use pst_order::Order;
 use pst_store::StoreOf;

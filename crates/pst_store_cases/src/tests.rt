@@ -10,7 +10,7 @@ use crate::session::{Session, have_same_dumps};
 use crate::starting::{over_forest, over_store};
 use pst_arena::{Arena, FatNodes};
 use pst_base::{Counts, NoMemory};
-use pst_engine_cases::Trouble;
+use pst_testing::Trouble;
 use pst_forest::Forest;
 use pst_labels::LabelOrder;
 use pst_order::{Order, RowOrder};

@@ -1,4 +1,4 @@
-use Rattle.pst_engine_cases.proofs.programs.program_of.Goals as goal
+use Rattle.pst_testing.proofs.programs.program_of.Goals as goal
 
 pub check-requires : goal.check-requires
 check-requires c =
