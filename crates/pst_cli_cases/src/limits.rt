@@ -1,8 +1,7 @@
 //! Inputs of the greatest size, one byte more, and all run numbers. They stand here and not in a file, since a program is run
 //! as two compilers build it, and one of them makes it too slow for these.
 
-use crate::run::Score;
-use crate::run_file;
+use pst_trials::{Score, run_file};
 use std::test::Fail;
 
 /// Inputs of 67,108,864 bytes, and of one byte more.

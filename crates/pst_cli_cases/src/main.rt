@@ -4,18 +4,12 @@
 //! `data/programs` tells how the files are written.
 #![tactic(auto)]
 
-mod case;
 #[cfg(test)]
 mod limits;
-mod run;
-mod text;
-mod turns;
 
-use case::Case;
-use run::{Score, run_case};
+use pst_trials::{Score, run_file};
 use std::rt::Files;
 use std::{fs, io};
-use text::body_of;
 
 /// The file of the programs that the cases name.
 const PROGRAMS: &str = "programs";
@@ -37,26 +31,6 @@ const CASES: [&str; 14] = [
     "questions",
     "lines",
 ];
-
-/// Runs the cases of a file.
-fn run_file<R: Print + AllocGlobal>(
-    rt: &R,
-    programs: &[u8],
-    cases: &[u8],
-    score: &mut Score,
-) -> io::Result<()> {
-    let mut case = Case::new(rt.alloc());
-    for line in body_of(cases).split(|byte| *byte == b'\n') {
-        if let Some(name) = line.strip_prefix(b"== ") {
-            run_case(rt, &case, score)?;
-            case = Case::new(rt.alloc());
-            case.name.extend_from_slice(name)?;
-        } else {
-            case.take_line(rt.alloc(), programs, line)?;
-        }
-    }
-    run_case(rt, &case, score)
-}
 
 /// Runs the cases of all files.
 fn run_all<R: Files + Print + AllocGlobal>(rt: &R) -> io::Result<Score> {

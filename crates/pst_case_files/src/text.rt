@@ -4,9 +4,9 @@ use std::alloc::{AllocError, Global};
 
 /// A text that is put together, and the place in it up to which the first read gives.
 #[derive(Drop)]
-pub(crate) struct Text {
-    pub(crate) bytes: Vec<u8>,
-    pub(crate) first_read: Option<usize>,
+pub struct Text {
+    pub bytes: Vec<u8>,
+    pub first_read: Option<usize>,
 }
 
 /// What the bytes of a line before this one leave open.
@@ -32,7 +32,7 @@ fn digit(byte: u8) -> u8 {
 }
 
 /// The number that a word writes.
-pub(crate) fn number(word: &[u8]) -> Option<usize> {
+pub fn number(word: &[u8]) -> Option<usize> {
     str::from_utf8(word).ok()?.parse().ok()
 }
 
@@ -74,7 +74,7 @@ fn put_byte(
 }
 
 /// Puts the bytes of a line, where a count stands for itself, and a line feed unless the line ends with a backslash.
-pub(crate) fn put_line(
+pub fn put_line(
     alloc: Global,
     line: &[u8],
     count: usize,
@@ -92,7 +92,7 @@ pub(crate) fn put_line(
 }
 
 /// The word before the first blank, and what stands behind that.
-pub(crate) fn split_word(line: &[u8]) -> (&[u8], &[u8]) {
+pub fn split_word(line: &[u8]) -> (&[u8], &[u8]) {
     match line.iter().position(|byte| *byte == b' ') {
         Some(place) => (&line[..place], &line[place + 1..]),
         None => (line, b""),
@@ -112,7 +112,7 @@ fn put_each(alloc: Global, line: &[u8], out: &mut Vec<u8>) -> Result<(), AllocEr
 }
 
 /// A file without its last line feed.
-pub(crate) fn body_of(file: &[u8]) -> &[u8] {
+pub fn body_of(file: &[u8]) -> &[u8] {
     file.strip_suffix(b"\n").unwrap_or(file)
 }
 
@@ -132,7 +132,7 @@ fn put_program(programs: &[u8], name: &[u8], out: &mut Vec<u8>) -> Result<(), Al
 
 impl Text {
     /// No text.
-    pub(crate) fn new(alloc: Global) -> Text {
+    pub fn new(alloc: Global) -> Text {
         Text {
             bytes: Vec::new(alloc),
             first_read: None,
@@ -140,7 +140,7 @@ impl Text {
     }
 
     /// Puts what a line of a file of cases stands for.
-    pub(crate) fn take_line(
+    pub fn take_line(
         &mut self,
         alloc: Global,
         programs: &[u8],

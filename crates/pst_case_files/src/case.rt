@@ -16,57 +16,57 @@ enum Part {
 /// How many bytes of the input and of the output stand up to the end of a line of the script and of its reply, and what the store
 /// has then. The first step of a script is the one before its first line.
 #[derive(Drop)]
-pub(crate) struct Step {
-    pub(crate) read: usize,
-    pub(crate) written: usize,
-    pub(crate) store: Vec<usize>,
+pub struct Step {
+    pub read: usize,
+    pub written: usize,
+    pub store: Vec<usize>,
 }
 
 /// With which status the program ends, and what it writes, for the first bytes of the input alone, from so many of them on.
 #[derive(Drop)]
-pub(crate) struct Cut {
-    pub(crate) from: usize,
-    pub(crate) status: usize,
-    pub(crate) output: Text,
+pub struct Cut {
+    pub from: usize,
+    pub status: usize,
+    pub output: Text,
 }
 
 /// A case. It stands for a run of the program for each of its lists of words, each size of a read and each of a write.
 #[derive(Drop)]
-pub(crate) struct Case {
-    pub(crate) name: Vec<u8>,
+pub struct Case {
+    pub name: Vec<u8>,
     /// The lists of words.
-    pub(crate) words: Vec<Vec<String>>,
+    pub words: Vec<Vec<String>>,
     /// The status with which the program has to end.
-    pub(crate) status: usize,
+    pub status: usize,
     /// The sizes of a read. None: all at once.
-    pub(crate) reads: Vec<usize>,
+    pub reads: Vec<usize>,
     /// The sizes of a write. None: whole pieces.
-    pub(crate) writes: Vec<usize>,
+    pub writes: Vec<usize>,
     /// The numbers of the reads that fail, from 1.
-    pub(crate) failing_reads: Vec<u64>,
+    pub failing_reads: Vec<u64>,
     /// The numbers of the writes that fail, from 1.
-    pub(crate) failing_writes: Vec<u64>,
+    pub failing_writes: Vec<u64>,
     /// How many bytes may be written. None: more than enough.
-    pub(crate) room: Option<usize>,
+    pub room: Option<usize>,
     /// How many versions, records, pointer writes and value writes the store that the words work over has in the end. Empty: that is
     /// not looked at.
-    pub(crate) store: Vec<usize>,
+    pub store: Vec<usize>,
     /// Whether it is run again with each read and each write failing in turn.
-    pub(crate) each_fails: bool,
-    pub(crate) input: Text,
-    pub(crate) output: Text,
+    pub each_fails: bool,
+    pub input: Text,
+    pub output: Text,
     /// The steps of a script that is told step by step.
-    pub(crate) steps: Vec<Step>,
+    pub steps: Vec<Step>,
     /// What the program does for the first bytes of the input, in the order of how many these are.
-    pub(crate) cuts: Vec<Cut>,
+    pub cuts: Vec<Cut>,
     part: Part,
 }
 
 /// What a store has that is left as it was handed in.
-pub(crate) const UNTOUCHED: [usize; 4] = [0, 0, 0, 0];
+pub const UNTOUCHED: [usize; 4] = [0, 0, 0, 0];
 
 /// What a store has once the program is accepted: version 0, and the root record.
-pub(crate) const STARTED: [usize; 4] = [1, 1, 0, 0];
+pub const STARTED: [usize; 4] = [1, 1, 0, 0];
 
 /// The words of a list.
 fn words_of(alloc: Global, line: &[u8]) -> Result<Vec<String>, AllocError> {
@@ -103,7 +103,7 @@ fn calls_of(alloc: Global, line: &[u8]) -> Result<Vec<u64>, AllocError> {
 
 impl Case {
     /// A case of which no line was read.
-    pub(crate) fn new(alloc: Global) -> Case {
+    pub fn new(alloc: Global) -> Case {
         Case {
             name: Vec::new(alloc),
             words: Vec::new(alloc),
@@ -124,7 +124,7 @@ impl Case {
     }
 
     /// Takes the next line of the file.
-    pub(crate) fn take_line(
+    pub fn take_line(
         &mut self,
         alloc: Global,
         programs: &[u8],

@@ -1,8 +1,8 @@
 //! Running a case over inputs and outputs in memory.
 
-use crate::case::{Case, UNTOUCHED};
 use crate::turns::{fail_each, run_cuts};
 use pst_base::Counts;
+use pst_case_files::{Case, UNTOUCHED};
 use pst_cli::{Status, number, persist};
 use pst_io::{MemSink, MemSource};
 use pst_line::calls::LineCalls;
@@ -17,13 +17,14 @@ const MORE: usize = 1_000;
 
 /// How many runs of the program passed, and how many failed.
 #[derive(Clone, Copy)]
-pub(crate) struct Score {
-    pub(crate) passed: usize,
-    pub(crate) failed: usize,
+pub struct Score {
+    pub passed: usize,
+    pub failed: usize,
 }
 
 impl Score {
-    pub(crate) fn none() -> Score {
+    /// None ran.
+    pub fn none() -> Score {
         Score {
             passed: 0,
             failed: 0,
