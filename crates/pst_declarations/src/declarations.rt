@@ -7,10 +7,11 @@ ghost use Rattle.pst_grammar.specs.Lexemes.{lexemes};
 ghost use Rattle.pst_grammar.specs.Reader.{listed, many};
 ghost use Rattle.pst_grammar.specs.Declarations as read;
 ghost use Rattle.pst_expressions.specs.View.{Gives, GivesRest, itself};
-ghost use Rattle.pst_declarations.specs.View.{BeginsWithWord, BeginsOtherwise, begins, fields_of, locals_of, result_of};
+ghost use Rattle.pst_blocks.specs.View.{begins};
+ghost use Rattle.pst_declarations.specs.View.{BeginsWithWord, BeginsOtherwise, fields_of, locals_of, result_of};
 
-use crate::statements::block;
 use pst_base::Op;
+use pst_blocks::block;
 use pst_expressions::{Lexeme, Stop, after, expect, name, number, peek, type_name};
 use pst_grammar::{Lead, Sign};
 use pst_lex::Token;

@@ -1,4 +1,4 @@
-//! Reading statements and declarations from the front of tokens.
+//! Reading declarations from the front of tokens.
 //!
 //! Model: the reading of `pst_grammar`, over the tokens that a slice holds: what was read, with the tokens behind it, or a fault
 //! with the tokens from its place on.
@@ -13,6 +13,5 @@
 #![tactic(auto)]
 
 mod declarations;
-mod statements;
 
 pub use declarations::{behind_two, behind_word, declaration, is_token};

@@ -13,9 +13,9 @@ use Rattle.pst_grammar.specs.Laws.{IsBehind}
 use Rattle.pst_grammar.proofs.Many.{many-start}
 use Rattle.pst_grammar.proofs.DeclarationLaw.{item_short}
 use Rattle.pst_grammar.proofs.Stays.{read_stays, fault_stays, from_front, end_not_deep}
-use Rattle.pst_declarations.specs.View.{begins}
+use Rattle.pst_blocks.specs.View.{begins}
 use Rattle.pst_parse.specs.Taking.{last, StandsOn, read_with, FaultsAmong}
-use Rattle.pst_declarations.proofs.Loops.{loop_more, no_token}
+use Rattle.pst_blocks.proofs.Loops.{loop_more, no_token}
 use Rattle.pst_parse.proofs.Parsed.{last_same, last_within}
 
 -- what stands before and what is read, as far as the tokens from there on

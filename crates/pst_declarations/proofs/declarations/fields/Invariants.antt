@@ -4,7 +4,7 @@ use Rattle.pst_tree.specs.View.{field_of}
 use Rattle.pst_grammar.specs.Lexemes.{lexemes}
 use Rattle.pst_grammar.specs.Reader.{many}
 use Rattle.pst_grammar.specs.Declarations.{field, starts_field}
-use Rattle.pst_declarations.proofs.Loops.{behind}
+use Rattle.pst_blocks.proofs.Loops.{behind}
 use Rattle.pst_declarations.proofs.declarations.fields.Given as goal
 
 abbrev pub invariant-loop-rest : goal.invariant-loop-rest

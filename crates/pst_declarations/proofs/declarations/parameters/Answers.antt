@@ -2,7 +2,7 @@ use Rattle.std.proofs.Common.{arith}
 use Rattle.std.proofs.lemmas.Result.{err_from_is_err_and}
 use Rattle.pst_tree.specs.View.{local_of}
 use Rattle.pst_grammar.specs.Declarations.{parameter}
-use Rattle.pst_declarations.proofs.Loops.{comma_more, comma_bad, comma_closed, comma_unclosed}
+use Rattle.pst_blocks.proofs.Loops.{comma_more, comma_bad, comma_closed, comma_unclosed}
 use Rattle.pst_grammar.proofs.DeclarationAgain.{parameter_short}
 use Rattle.pst_declarations.proofs.declarations.parameters.Goals as goal
 

@@ -4,7 +4,7 @@ use Rattle.pst_tree.specs.View.{local_of}
 use Rattle.pst_grammar.specs.Lexemes.{lexemes}
 use Rattle.pst_grammar.specs.Reader.{listed}
 use Rattle.pst_grammar.specs.Declarations.{parameter}
-use Rattle.pst_declarations.proofs.Loops.{closing}
+use Rattle.pst_blocks.proofs.Loops.{closing}
 use Rattle.pst_declarations.proofs.declarations.parameters.Given as goal
 
 abbrev pub invariant-loop-next : goal.invariant-loop-next

@@ -2,9 +2,9 @@ use Rattle.std.proofs.Common.{arith}
 use Rattle.std.proofs.lemmas.Result.{err_from_is_err_and}
 use Rattle.pst_tree.specs.View.{expr_of}
 use Rattle.pst_grammar.specs.Reading.{read}
-use Rattle.pst_declarations.proofs.Loops.{comma_more, comma_bad, comma_closed, comma_unclosed}
+use Rattle.pst_blocks.proofs.Loops.{comma_more, comma_bad, comma_closed, comma_unclosed}
 use Rattle.pst_grammar.proofs.StatementAgain.{argument_short}
-use Rattle.pst_declarations.proofs.statements.arguments.Goals as goal
+use Rattle.pst_blocks.proofs.statements.arguments.Goals as goal
 
 pub returns-in_err-argument-clause-given : goal.returns-in_err-argument-clause-given
 returns-in_err-argument-clause-given c =

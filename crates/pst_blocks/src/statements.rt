@@ -7,7 +7,7 @@ ghost use Rattle.pst_grammar.specs.Reader.{within};
 ghost use Rattle.pst_grammar.specs.Reading.{read};
 ghost use Rattle.pst_grammar.specs.Statements.{ended as ending, arguments as listing, call as calling, made as making, set as setting, written as writing, assigned as assigning, returned as returning, braced as bracing, led as leading, inner, reading_statement, reading_block, starts_statement as starting, starts};
 ghost use Rattle.pst_expressions.specs.View.{Gives};
-ghost use Rattle.pst_declarations.specs.View.{exprs_of, stated_of, begins};
+ghost use Rattle.pst_blocks.specs.View.{exprs_of, stated_of, begins};
 
 use pst_base::Text;
 use pst_expressions::{Lexeme, Stop, after, expect, more, name, operand, peek};
@@ -241,6 +241,8 @@ pub fn block<'a>(
         put(&mut items, statement)?;
         rest = behind;
     }
+    // A tree stays until it is typed, and a list that grew may have half of its room empty.
+    items.shrink_to_fit();
     Ok((Block { items }, rest))
 }
 

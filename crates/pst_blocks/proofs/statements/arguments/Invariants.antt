@@ -4,8 +4,8 @@ use Rattle.pst_tree.specs.View.{expr_of}
 use Rattle.pst_grammar.specs.Lexemes.{lexemes}
 use Rattle.pst_grammar.specs.Reading.{read}
 use Rattle.pst_grammar.specs.Statements.{arguments}
-use Rattle.pst_declarations.proofs.Loops.{closing}
-use Rattle.pst_declarations.proofs.statements.arguments.Given as goal
+use Rattle.pst_blocks.proofs.Loops.{closing}
+use Rattle.pst_blocks.proofs.statements.arguments.Given as goal
 
 abbrev pub invariant-loop-next : goal.invariant-loop-next
 invariant-loop-next l =

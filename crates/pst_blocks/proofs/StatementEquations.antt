@@ -19,7 +19,7 @@ use Rattle.pst_grammar.specs.Reader.{Read, Got, Bad, Unexpected, TooDeep, and_th
 use Rattle.pst_grammar.specs.Reading.{read}
 use Rattle.pst_grammar.specs.Statements.{assigned, braced, choice, led, on_line, statement, block_of, reading_statement, reading_block, inner}
 use Rattle.pst_expressions.specs.View.{as_read, Lacks}
-use Rattle.pst_declarations.specs.View.{stated_of}
+use Rattle.pst_blocks.specs.View.{stated_of}
 use Rattle.pst_grammar.proofs.Again.{test_true, test_false}
 
 -- a statement by its first token

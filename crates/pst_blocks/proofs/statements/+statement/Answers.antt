@@ -1,13 +1,14 @@
 use Rattle.std.proofs.Common.{arith, ◌∙◌, ap, sym}
+use Rattle.std.specs.Prelude.{map}
 use Rattle.std.proofs.lemmas.Result.{err_from_is_err_and}
 use Rattle.pst_grammar.specs.Reader.{Got, and_then}
 use Rattle.pst_grammar.specs.Statements.{reading_statement, starts, block_of}
-use Rattle.pst_declarations.specs.View.{stated_of}
+use Rattle.pst_blocks.specs.View.{stated_of}
 use Rattle.pst_grammar.specs.Lexemes.{lexemes}
-use Rattle.pst_declarations.proofs.Loops.{loop_more, loop_done, loop_bad, stops_bind}
+use Rattle.pst_blocks.proofs.Loops.{loop_more, loop_done, loop_bad, stops_bind}
 use Rattle.pst_grammar.proofs.StatementAgain.{statement_short}
-use Rattle.pst_declarations.proofs.StatementEquations.{made_block, statement-other}
-use Rattle.pst_declarations.proofs.statements.+statement.Goals as goal
+use Rattle.pst_blocks.proofs.StatementEquations.{made_block, statement-other}
+use Rattle.pst_blocks.proofs.statements.+statement.Goals as goal
 
 pub block-returns-in_err-statement-clause-given : goal.block-returns-in_err-statement-clause-given
 block-returns-in_err-statement-clause-given t c =
@@ -25,7 +26,8 @@ block-loop-alloc-preserved t c = (
 pub block-returns-clause-given : goal.block-returns-clause-given
 block-returns-clause-given t c =
     ap (λ r. and_then r (λ ss. Got (block_of ss))) (loop_done starts (reading_statement c.args.language c.args.height c.args.nesting) stated_of c.loop-alloc.items.items _ _ c.loop-alloc-test.ensures c.loop-alloc.invariant.1)
-    ∙ ap (λ b. Got b (lexemes c.loop-alloc.rest.now)) (sym (made_block (record { items = c.loop-alloc.items })))
+    ∙ ap (λ ss. Got (block_of (map stated_of ss)) (lexemes c.loop-alloc.rest.now)) (sym c.shrink_to_fit.ensures.items)
+    ∙ ap (λ b. Got b (lexemes c.loop-alloc.rest.now)) (sym (made_block (record { items = c.shrink_to_fit.new.self })))
 
 pub statement-returns-in_default-first : goal.statement-returns-in_default-first
 statement-returns-in_default-first t c =

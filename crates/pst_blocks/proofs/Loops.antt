@@ -8,7 +8,7 @@ use Rattle.pst_grammar.specs.Lexemes.{Lexeme, Plain}
 use Rattle.pst_grammar.specs.Declarations.{any}
 use Rattle.pst_grammar.specs.Reader.{Read, Got, Bad, and_then, is, expect, after, many}
 use Rattle.pst_expressions.specs.View.{Stops, Lacks}
-use Rattle.pst_declarations.specs.View.{begins}
+use Rattle.pst_blocks.specs.View.{begins}
 use Rattle.pst_grammar.proofs.Many.{Shortens, many-start, many-stop, many-end}
 
 pub map-append : {A B : Type 0} (f : A → B) (xs : List A) (a : A) → map f (xs ++ (a ∷ [])) ≡ map f xs ++ (f a ∷ [])

@@ -3,9 +3,9 @@ use Rattle.std.specs.Prelude.{map}
 use Rattle.pst_grammar.specs.Lexemes.{lexemes}
 use Rattle.pst_grammar.specs.Reader.{many}
 use Rattle.pst_grammar.specs.Statements.{reading_statement, starts}
-use Rattle.pst_declarations.specs.View.{stated_of}
-use Rattle.pst_declarations.proofs.Loops.{behind}
-use Rattle.pst_declarations.proofs.statements.+statement.Given as goal
+use Rattle.pst_blocks.specs.View.{stated_of}
+use Rattle.pst_blocks.proofs.Loops.{behind}
+use Rattle.pst_blocks.proofs.statements.+statement.Given as goal
 
 abbrev pub decreases-block : goal.decreases-block
 decreases-block l = 4 * length l.tokens.now + 3
