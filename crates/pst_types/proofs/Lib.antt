@@ -3,3 +3,4 @@ pub mod Parts
 pub mod Few
 pub mod Noted
 pub mod Accepted
+pub mod Bodies

@@ -2,6 +2,7 @@
 
 ghost use Rattle.std.specs.Prelude.{◌≡◌, ◌≤◌, Ok, Bool, OnOk, [], ◌∷◌, ◌++◌, map};
 ghost use Rattle.std.specs.Option.{option_map};
+ghost use Rattle.pst_tree.specs.Syntax.{Phrases};
 ghost use Rattle.pst_tree.specs.View as tree_view;
 ghost use Rattle.pst_program.specs.View as typed_view;
 ghost use Rattle.pst_typing.specs.Answers.{through};
@@ -21,16 +22,15 @@ use pst_tree::{Block, Local, TypeName};
 use pst_typing::TypeFault;
 use std::alloc::{AllocError, Global};
 
-/// A procedure as it was written.
+/// A procedure as it was written, without its body.
 #[derive(Clone, Copy, Debug)]
-pub(crate) struct ProcedureText<'t> {
+pub(crate) struct ProcedureHead<'t> {
     pub(crate) line: u32,
     pub(crate) query: bool,
     pub(crate) name: &'t Text,
     pub(crate) parameters: &'t [Local],
     pub(crate) result: &'t Option<TypeName>,
     pub(crate) locals: &'t [Local],
-    pub(crate) body: &'t Block,
 }
 
 /// Whether neither a parameter or local before nor a root has the name.
@@ -135,21 +135,21 @@ fn is_result_known(scope: &Scope, kind: Option<Word>) -> bool
     }
 }
 
-/// Judges the parameters of a procedure, what it gives, and its locals; gives how many are parameters.
+/// Judges the parameters of a procedure, what it gives, and its locals, whatever its body is; gives how many are parameters.
 fn declare<'t>(
     scope: &Scope<'t>,
     variables: &mut IndexMap<&'t [u8], Variable<'t>>,
-    text: &ProcedureText<'t>,
+    head: &ProcedureHead<'t>,
 ) -> Result<u8, TypeFault>
     requires { variables.old.entries ≡ [] }
-    ensures { Answers (counted (entries_of local_of variables.new.entries)) result (variables_in (scope_of scope.now) (procedure_text_of text.now)) }
+    ensures { (body : Phrases) → Answers (counted (entries_of local_of variables.new.entries)) result (variables_in (scope_of scope.now) (procedure_text_of head.now body)) }
 {
-    add_variables(scope, 8, variables, text.parameters)?;
+    add_variables(scope, 8, variables, head.parameters)?;
     let parameters = variables.len();
-    if !is_result_known(scope, Word::of_result(text.result)) {
-        return Err(TypeFault::Unknown { line: text.line });
+    if !is_result_known(scope, Word::of_result(head.result)) {
+        return Err(TypeFault::Unknown { line: head.line });
     }
-    add_variables(scope, parameters + 64, variables, text.locals)?;
+    add_variables(scope, parameters + 64, variables, head.locals)?;
     Ok(parameters as u8)
 }
 
@@ -158,14 +158,15 @@ fn judge_in(
     alloc: Global,
     setting: &Setting,
     arguments: u8,
-    text: &ProcedureText,
+    head: &ProcedureHead,
+    body: &Block,
 ) -> Result<TypedProc, TypeFault>
-    ensures { Answers typed_view.procedure_of result (procedure_in (setting_of setting.now) arguments (procedure_text_of text.now)) }
+    ensures { Answers typed_view.procedure_of result (procedure_in (setting_of setting.now) arguments (procedure_text_of head.now (tree_view.phrases_of body.now))) }
 {
-    let body = judge_block(alloc, setting, text.body)?;
+    let body = judge_block(alloc, setting, body)?;
     Ok(TypedProc {
-        name: text.name.copy()?,
-        query: text.query,
+        name: head.name.copy()?,
+        query: head.query,
         arguments,
         result: result_kind(setting.scope, setting.result),
         kinds: kinds_of(alloc, setting.scope, &setting.locals)?,
@@ -177,28 +178,30 @@ fn judge_in(
 fn judge_parts<'t>(
     alloc: Global,
     scope: &Scope<'t>,
-    text: &ProcedureText<'t>,
+    head: &ProcedureHead<'t>,
+    body: &Block,
 ) -> Result<TypedProc, TypeFault>
-    ensures { Answers typed_view.procedure_of result (by_parts (scope_of scope.now) (procedure_text_of text.now)) }
+    ensures { Answers typed_view.procedure_of result (by_parts (scope_of scope.now) (procedure_text_of head.now (tree_view.phrases_of body.now))) }
 {
     let mut locals = IndexMap::new(alloc);
-    let arguments = declare(scope, &mut locals, text)?;
+    let arguments = declare(scope, &mut locals, head)?;
     let setting = Setting {
         scope,
-        query: text.query,
-        result: Word::of_result(text.result),
+        query: head.query,
+        result: Word::of_result(head.result),
         locals,
     };
-    judge_in(alloc, &setting, arguments, text)
+    judge_in(alloc, &setting, arguments, head, body)
 }
 
-/// Judges a procedure.
+/// Judges a procedure. Its body is let go, which is nearly all of its text.
 pub(crate) fn judge_procedure<'t>(
     alloc: Global,
     scope: &Scope<'t>,
-    text: &ProcedureText<'t>,
+    head: &ProcedureHead<'t>,
+    body: Block,
 ) -> Result<TypedProc, TypeFault>
-    ensures { Answers typed_view.procedure_of result (procedure (scope_of scope.now) (procedure_text_of text.now)) }
+    ensures { Answers typed_view.procedure_of result (procedure (scope_of scope.now) (procedure_text_of head.now (tree_view.phrases_of body))) }
 {
-    judge_parts(alloc, scope, text)
+    judge_parts(alloc, scope, head, &body)
 }

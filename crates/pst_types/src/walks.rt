@@ -1,6 +1,10 @@
 //! The two walks over the declarations of a program.
+//!
+//! Nearly all of a tree are the bodies of its procedures. The names, fields and parameters of the declarations are looked
+//! at to the end, since the scope refers to them, but a body only once, in the second walk. So the bodies are taken out of
+//! the declarations first, and each is let go as soon as its procedure is typed.
 
-ghost use Rattle.std.specs.Prelude.{◌≡◌, ℤ, Ok, IfOk, map};
+ghost use Rattle.std.specs.Prelude.{◌≡◌, ℤ, Ok, IfOk, length, map};
 ghost use Rattle.pst_tree.specs.Syntax as tree;
 ghost use Rattle.pst_tree.specs.View as tree_view;
 ghost use Rattle.pst_tree.specs.Depth.{IsShallow};
@@ -14,16 +18,18 @@ ghost use Rattle.pst_scope.specs.View.{members_of, scope_of};
 ghost use Rattle.pst_typing.specs.View.{program_of};
 ghost use Rattle.pst_types.specs.View.{procedure_text_of, draft_of};
 ghost use Rattle.pst_types.specs.Parts.{with_type};
+ghost use Rattle.pst_types.specs.Bodies.{with_body, with_bodies};
 
-use crate::procedure::{ProcedureText, judge_procedure};
+use crate::procedure::{ProcedureHead, judge_procedure};
 use pst_base::{MOST_LIMIT, MOST_ROOTS, ProcNo, Shape, Text, TypeNo, TypeShape};
 use pst_program::{Program, TypeEntry, TypeNames, TypedProc, TypedProcs};
 use pst_scope::{
     Members, RecordType, Scope, Signature, Word, judge_fields, lay_out, names_of, shape_of,
 };
-use pst_tree::{Declaration, Fields, Tree, TypeName};
+use pst_tree::{Block, Declaration, Fields, Tree, TypeName};
 use pst_typing::{TypeFault, accepted_programs_are_typed};
-use std::alloc::Global;
+use std::alloc::{AllocError, Global};
+use std::mem;
 
 /// A typed program as far as it is made.
 #[derive(Debug, Drop)]
@@ -77,23 +83,23 @@ fn note_root<'t>(
     Ok(())
 }
 
-/// Notes a procedure.
-fn note_procedure<'t>(scope: &mut Scope<'t>, text: &ProcedureText<'t>) -> Result<(), TypeFault>
-    ensures { Answers (λ _. scope_of scope.new) result (noted (scope_of scope.old) (tree.Procedure (procedure_text_of text.now))) }
+/// Notes a procedure, whatever its body is.
+fn note_procedure<'t>(scope: &mut Scope<'t>, head: &ProcedureHead<'t>) -> Result<(), TypeFault>
+    ensures { (body : tree.Phrases) → Answers (λ _. scope_of scope.new) result (noted (scope_of scope.old) (tree.Procedure (procedure_text_of head.now body))) }
 {
     let count = scope.procedures.len();
     if count >= 256 {
-        return Err(TypeFault::TooMany { line: text.line });
+        return Err(TypeFault::TooMany { line: head.line });
     }
-    let name = text.name.as_slice();
+    let name = head.name.as_slice();
     if !scope.is_free(name) {
-        return Err(TypeFault::Duplicate { line: text.line });
+        return Err(TypeFault::Duplicate { line: head.line });
     }
     let signature = Signature {
         number: ProcNo(count as u16),
-        query: text.query,
-        parameters: text.parameters,
-        result: Word::of_result(text.result),
+        query: head.query,
+        parameters: head.parameters,
+        result: Word::of_result(head.result),
     };
     scope.procedures.insert(name, signature)?;
     Ok(())
@@ -122,18 +128,17 @@ fn note<'t>(
             parameters,
             result,
             locals,
-            body,
+            ..
         } => {
-            let text = ProcedureText {
+            let head = ProcedureHead {
                 line: *line,
                 query: *query,
                 name,
                 parameters: parameters.as_slice(),
                 result,
                 locals: locals.as_slice(),
-                body,
             };
-            note_procedure(scope, &text)
+            note_procedure(scope, &head)
         }
     }
 }
@@ -209,14 +214,15 @@ fn judge_record(
     add_type(alloc, scope, draft, limit, name.as_slice(), &members)
 }
 
-/// Judges a declaration after those before it, and adds what it says.
+/// Judges a declaration with this body after those before it, and adds what it says. The body is let go.
 fn judge_declaration<'t>(
     alloc: Global,
     scope: &Scope<'t>,
     draft: &mut Draft,
     declaration: &'t Declaration,
+    body: Block,
 ) -> Result<(), TypeFault>
-    ensures { Answers (λ _. draft_of draft.new) result (declared (scope_of scope.now) (draft_of draft.old) (tree_view.item_of declaration.now)) }
+    ensures { Answers (λ _. draft_of draft.new) result (declared (scope_of scope.now) (draft_of draft.old) (with_body (tree_view.phrases_of body) (tree_view.item_of declaration.now))) }
 {
     match declaration {
         Declaration::Record {
@@ -238,47 +244,79 @@ fn judge_declaration<'t>(
             parameters,
             result,
             locals,
-            body,
+            ..
         } => {
-            let text = ProcedureText {
+            let head = ProcedureHead {
                 line: *line,
                 query: *query,
                 name,
                 parameters: parameters.as_slice(),
                 result,
                 locals: locals.as_slice(),
-                body,
             };
             draft
                 .procedures
-                .push(judge_procedure(alloc, scope, &text)?)?;
+                .push(judge_procedure(alloc, scope, &head, body)?)?;
             Ok(())
         }
     }
 }
 
-/// The second walk: what the declarations say.
+/// The second walk: what the declarations say, each with its body. Each body is let go before the next is looked at.
 fn judge_all<'t>(
     alloc: Global,
     scope: &Scope<'t>,
     declarations: &'t [Declaration],
+    bodies: Vec<Block>,
 ) -> Result<Draft, TypeFault>
-    ensures { Answers draft_of result (through (declared (scope_of scope.now)) (root_alone (scope_of scope.now)) (map tree_view.item_of declarations.entry.now)) }
+    requires { length bodies.items ≡ length declarations.now }
+    ensures { let text = with_bodies (map tree_view.phrases_of bodies.items) (map tree_view.item_of declarations.entry.now) in Answers draft_of result (through (declared (scope_of scope.now)) (root_alone (scope_of scope.now)) text) }
 {
     let mut draft = root_alone(alloc, scope)?;
-    for declaration in declarations {
-        judge_declaration(alloc, scope, &mut draft, declaration)?;
+    for (declaration, body) in declarations.iter().zip(bodies) {
+        judge_declaration(alloc, scope, &mut draft, declaration, body)?;
     }
     Ok(draft)
 }
 
-/// Both walks over the declarations of a program of this language.
-fn walk(alloc: Global, language: u8, declarations: &[Declaration]) -> Result<Program, TypeFault>
-    ensures answer { Answers program_of result (checked (map tree_view.item_of declarations.now)) }
+/// Takes the body out of a declaration and leaves an empty one. A record type and a root have no body, and give an empty one.
+fn take_body(alloc: Global, declaration: &mut Declaration) -> Block
+    ensures { with_body (tree_view.phrases_of result) (tree_view.item_of declaration.new) ≡ tree_view.item_of declaration.old }
+{
+    let empty = Block {
+        items: Vec::new(alloc),
+    };
+    match declaration {
+        Declaration::Procedure { body, .. } => mem::replace(body, empty),
+        _ => empty,
+    }
+}
+
+/// Takes the bodies out of the declarations, one of each, in order.
+fn take_bodies(alloc: Global, declarations: &mut [Declaration]) -> Result<Vec<Block>, AllocError>
+    ensures each { IfOk result (λ bodies. length bodies.items ≡ length declarations.new) }
+    ensures whole { IfOk result (λ bodies. with_bodies (map tree_view.phrases_of bodies.items) (map tree_view.item_of declarations.new) ≡ map tree_view.item_of declarations.old) }
+{
+    let mut bodies = Vec::new(alloc);
+    for declaration in declarations.iter_mut() {
+        bodies.push(take_body(alloc, declaration))?;
+    }
+    Ok(bodies)
+}
+
+/// Both walks over the declarations of a program of this language, whose bodies were taken out of them.
+fn walk(
+    alloc: Global,
+    language: u8,
+    declarations: &[Declaration],
+    bodies: Vec<Block>,
+) -> Result<Program, TypeFault>
+    requires { length bodies.items ≡ length declarations.now }
+    ensures answer { Answers program_of result (checked (with_bodies (map tree_view.phrases_of bodies.items) (map tree_view.item_of declarations.now))) }
     ensures language { IfOk result (λ p. p.language ≡ language) }
 {
     let scope = gather(alloc, declarations)?;
-    let draft = judge_all(alloc, &scope, declarations)?;
+    let draft = judge_all(alloc, &scope, declarations, bodies)?;
     Ok(Program {
         language,
         shape: Shape::from_vec(draft.shape),
@@ -294,17 +332,22 @@ fn walk(alloc: Global, language: u8, declarations: &[Declaration]) -> Result<Pro
 /// the second judges each declaration with its statements. The first fault is the answer; without one it is the typed
 /// program, of the tree's language. The language changes nothing else: a tree of language 1 has no arrays.
 ///
+/// The tree is let go as it is typed, the body of each procedure before the next one is looked at, so that tree and typed
+/// program never stand side by side as a whole.
+///
 /// Names are found in constant time, so this takes time that is linear in the tree.
 ///
 /// # Errors
 ///
-/// The first fault with its line, or `Memory` where memory runs out before it is found.
-pub fn check(alloc: Global, tree: &Tree) -> Result<Program, TypeFault>
-    requires { IsShallow (tree_view.items_of tree.now) }
-    ensures answer { Answers program_of result (checked (tree_view.items_of tree.now)) }
+/// The first fault with its line, or `Memory` where memory runs out before it is found. The tree is let go then too.
+pub fn check(alloc: Global, tree: Tree) -> Result<Program, TypeFault>
+    requires { IsShallow (tree_view.items_of tree) }
+    ensures answer { Answers program_of result (checked (tree_view.items_of tree)) }
     ensures typed { IfOk result (λ p. IsTyped (routines_of p)) }
-    ensures language { IfOk result (λ p. p.language ≡ tree.now.language) }
+    ensures language { IfOk result (λ p. p.language ≡ tree.language) }
 {
     accepted_programs_are_typed();
-    walk(alloc, tree.language, tree.declarations.items.as_slice())
+    let mut declarations = tree.declarations.items;
+    let bodies = take_bodies(alloc, &mut declarations)?;
+    walk(alloc, tree.language, &declarations, bodies)
 }

@@ -1,12 +1,25 @@
-use Rattle.std.proofs.Common.{map}
-use Rattle.pst_tree.specs.View as tree_view
+use Rattle.std.proofs.Common.{◌≡◌, List, length, map}
+use Rattle.std.specs.Iterator.Adapters.{zip_first, zip_second}
+use Rattle.std.specs.Slice.Iter.{iter_rest}
+use Rattle.std.specs.Vec.Iter.{into_iter_items}
+use Rattle.pst_tree.specs.Syntax.{Item}
+use Rattle.pst_tree.specs.View.{item_of, phrases_of}
+use Rattle.pst_tree.specs.declared.statement.Block.{Block}
+use Rattle.pst_tree.specs.declared.declaration.Declaration.{Declaration}
 use Rattle.pst_typing.specs.Answers.{through}
 use Rattle.pst_typing.specs.Declarations.{declared, root_alone}
 use Rattle.pst_scope.specs.View.{scope_of}
 use Rattle.pst_types.specs.View.{draft_of}
-use Rattle.pst_typing.proofs.Through.{Left}
+use Rattle.pst_types.specs.Bodies.{with_bodies}
 use Rattle.pst_types.proofs.walks.judge_all.Given as goal
 
+abbrev text : List Declaration → List Block → List Item
+text heads bodies = with_bodies (map phrases_of bodies) (map item_of heads)
+
+-- what is left of both lists gives, after the draft, what all of them give
 abbrev pub invariant-loop-declaration : goal.invariant-loop-declaration
 invariant-loop-declaration l =
-    Left (declared (scope_of l.scope)) tree_view.item_of l.declarations (through (declared (scope_of l.scope)) (root_alone (scope_of l.scope)) (map tree_view.item_of l.declarations)) l.declaration-index (draft_of l.draft)
+    let judge = declared (scope_of l.scope) in
+    let heads = iter_rest (zip_first l.declaration-iterator) in
+    let bodies = into_iter_items (zip_second l.declaration-iterator) in
+    (length bodies ≡ length heads) × (through judge (draft_of l.draft) (text heads bodies) ≡ through judge (root_alone (scope_of l.scope)) (text l.declarations l.fn.bodies.items))

@@ -9,12 +9,12 @@ use Rattle.pst_types.proofs.Noted.{noted_procedure}
 use Rattle.pst_types.proofs.walks.note_procedure.Goals as goal
 
 pub returns : goal.returns
-returns c =
+returns c = λ body.
     let old = scope_of c.args.scope.now in
-    let s : Signature = record { number = record { 0 = c.len-count.result }; query = c.args.text.now.query; parameters = c.args.text.now.parameters; result = c.of_result.result } in
+    let s : Signature = record { number = record { 0 = c.len-count.result }; query = c.args.head.now.query; parameters = c.args.head.now.parameters; result = c.of_result.result } in
     let same = c.as_slice-name.ensures in
     let free : is_free old c.as_slice-name.result.now ≡ true = sym c.if-not-is_free.ensures in
     let entries = ap (entries_of signature_of) c.in_ok-insert.ensures.entries ∙ inserted signature_of c.args.scope.now.procedures.entries c.as_slice-name.result s (free_parts old _ free).2
     ∙ ap (λ x. old.procedures ++ (x, signature_of s) ∷ []) same in
-    noted_procedure old (procedure_text_of c.args.text.now) c.len-count.result (signature_of s) _
+    noted_procedure old (procedure_text_of c.args.head.now body) c.len-count.result (signature_of s) _
     (c.len-count.ensures.len ∙ sym (length_entries signature_of c.args.scope.now.procedures.entries)) c.if-count-ge256.false (subst (λ x. is_free old x ≡ true) same free) refl refl refl c.of_result.ensures entries

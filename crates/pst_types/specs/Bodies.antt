@@ -1,0 +1,15 @@
+-- Declarations whose bodies were taken out of them, into a list of their own.
+use Rattle.std.specs.Prelude.{List, [], ◌∷◌}
+use Rattle.pst_tree.specs.Syntax as tree
+
+-- a declaration with this body, if it is a procedure; no other has a body
+abbrev pub with_body : tree.Phrases → tree.Item → tree.Item
+with_body body (tree.Record line x limit fields) = tree.Record line x limit fields
+with_body body (tree.Root line x kind) = tree.Root line x kind
+with_body body (tree.Procedure p) = tree.Procedure (record p { body = body })
+
+-- the declarations with these bodies, from the first on
+abbrev pub with_bodies : List tree.Phrases → List tree.Item → List tree.Item
+with_bodies [] items = items
+with_bodies (body ∷ bodies) [] = []
+with_bodies (body ∷ bodies) (item ∷ items) = with_body body item ∷ with_bodies bodies items
