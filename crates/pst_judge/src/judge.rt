@@ -96,7 +96,10 @@ impl From<NoMemory> for NoProgram {
 
 /// The tree of a text of fewer than 4,294,967,295 bytes. A lexical fault anywhere comes first, so the whole text is looked at
 /// before it is read. It is let go once the tree is there.
-fn read_tree(alloc: Global, text: Vec<u8>) -> Result<Tree, NoProgram>
+///
+/// # Errors
+/// The first fault of lexer or parser, or want of memory.
+pub(crate) fn read_tree(alloc: Global, text: Vec<u8>) -> Result<Tree, NoProgram>
     requires { length text.items + 1 < 2 ^ 32 }
     ensures { MatchResult result (λ tree. HasTree text.items (text_of tree)) (λ why. IsNoProgram text.items why) }
 {
@@ -104,21 +107,8 @@ fn read_tree(alloc: Global, text: Vec<u8>) -> Result<Tree, NoProgram>
     Ok(parse(alloc, &text)?)
 }
 
-/// The tree of a text of fewer than 4,294,967,295 bytes, and its typed program.
-///
-/// # Errors
-/// The first fault of the text, or want of memory.
-pub(crate) fn judge(alloc: Global, text: Vec<u8>) -> Result<(Tree, Program), NoProgram>
-    requires { length text.items + 1 < 2 ^ 32 }
-    ensures verdict { MatchResult result (λ x. Judged text.items (Accepted (text_of x.0) (program_of x.1))) (λ why. IsNoProgram text.items why) }
-    ensures typed { IfOk result (λ x. IsTyped (routines_of x.1)) }
-{
-    let tree = read_tree(alloc, text)?;
-    let program = check(alloc, &tree)?;
-    Ok((tree, program))
-}
-
-/// The typed program of a text of fewer than 4,294,967,295 bytes. Neither the text nor its tree is kept.
+/// The typed program of a text of fewer than 4,294,967,295 bytes. The text is let go once its tree is there, and the tree as it
+/// is typed.
 ///
 /// # Errors
 /// The first fault of the text, or want of memory.
@@ -127,6 +117,6 @@ pub fn program_of(alloc: Global, text: Vec<u8>) -> Result<Program, NoProgram>
     ensures verdict { MatchResult result (λ p. (syntax : ProgramText) × Judged text.items (Accepted syntax (program_of p))) (λ why. IsNoProgram text.items why) }
     ensures typed { IfOk result (λ p. IsTyped (routines_of p)) }
 {
-    let (_tree, program) = judge(alloc, text)?;
-    Ok(program)
+    let tree = read_tree(alloc, text)?;
+    Ok(check(alloc, tree)?)
 }

@@ -5,18 +5,20 @@ ghost use Rattle.pst_tree.specs.Syntax.{ProgramText};
 ghost use Rattle.pst_typing.specs.Declarations.{NamedProgram};
 ghost use Rattle.pst_program.specs.View.{routines_of};
 ghost use Rattle.pst_program.specs.Typed.{IsTyped};
+ghost use Rattle.pst_notation.specs.Canonical.{canonical};
 ghost use Rattle.pst_compiled.specs.Compiled.{code_of};
 ghost use Rattle.pst_listing.specs.Listing.{listed};
 ghost use Rattle.pst_judge.specs.Verdict.{Judged, Accepted};
 ghost use Rattle.pst_judge.specs.Pages.{page_text};
 ghost use Rattle.pst_judge.specs.Verdict.{IsNoProgram};
 
-use crate::judge::{NoProgram, judge};
+use crate::judge::{NoProgram, program_of, read_tree};
 use pst_base::{NoMemory, Text};
 use pst_codegen::compile;
 use pst_listing::listing;
 use pst_notation::print_program;
 use pst_program::Program;
+use pst_types::check;
 use std::alloc::Global;
 
 /// What is printed of a program.
@@ -37,6 +39,18 @@ fn listing_of(alloc: Global, program: &Program) -> Result<Text, NoMemory>
     listing(alloc, &code, program)
 }
 
+/// The canonical text of the program of a text of fewer than 4,294,967,295 bytes. It is printed before the types are checked,
+/// since the check lets the tree go, and is the answer only if they are right.
+fn canonical_of(alloc: Global, text: Vec<u8>) -> Result<Text, NoProgram>
+    requires { length text.items + 1 < 2 ^ 32 }
+    ensures { MatchResult result (λ out. (syntax : ProgramText) × (p : NamedProgram) × Judged text.items (Accepted syntax p) × (out ≡ canonical syntax)) (λ why. IsNoProgram text.items why) }
+{
+    let tree = read_tree(alloc, text)?;
+    let printed = print_program(alloc, &tree)?;
+    check(alloc, tree)?;
+    Ok(printed)
+}
+
 /// A page of the program of a text of fewer than 4,294,967,295 bytes.
 ///
 /// # Errors
@@ -45,14 +59,10 @@ pub fn page_of(alloc: Global, page: Page, text: Vec<u8>) -> Result<Text, NoProgr
     requires { length text.items + 1 < 2 ^ 32 }
     ensures { MatchResult result (λ out. (syntax : ProgramText) × (p : NamedProgram) × Judged text.items (Accepted syntax p) × (out ≡ page_text page syntax p)) (λ why. IsNoProgram text.items why) }
 {
-    let (tree, program) = judge(alloc, text)?;
     match page {
-        Page::Canonical => {
-            drop(program);
-            Ok(print_program(alloc, &tree)?)
-        }
+        Page::Canonical => canonical_of(alloc, text),
         Page::Listing => {
-            drop(tree);
+            let program = program_of(alloc, text)?;
             Ok(listing_of(alloc, &program)?)
         }
     }

@@ -28,7 +28,7 @@ pub fn program_of(alloc: Global, text: &[u8]) -> Result<Program, Trouble>
     }
     find_fault(alloc, text)?;
     let tree = parse(alloc, text)?;
-    Ok(check(alloc, &tree)?)
+    Ok(check(alloc, tree)?)
 }
 
 /// The program of a text of at most 65,536 bytes, with its code.
