@@ -288,7 +288,7 @@ fn take_body(alloc: Global, declaration: &mut Declaration) -> Block
     };
     match declaration {
         Declaration::Procedure { body, .. } => mem::replace(body, empty),
-        _ => empty,
+        Declaration::Record { .. } | Declaration::Root { .. } => empty,
     }
 }
 
