@@ -13,5 +13,5 @@
 mod case;
 mod text;
 
-pub use case::{Case, Cut, Step, STARTED, UNTOUCHED};
+pub use case::{Case, Cut, STARTED, Step, UNTOUCHED};
 pub use text::{Text, body_of};

@@ -10,9 +10,9 @@ use pst_base::{NoMemory, Text, VersionNo};
 use pst_coded::Compiled;
 use pst_dump::dump;
 use pst_engine::{Engine, a_new_engine_stands};
-use pst_testing::Trouble;
 use pst_places::VersionedHeap;
 use pst_script::{Command, LineFault, read_line, reply_text};
+use pst_testing::Trouble;
 use std::alloc::Global;
 
 /// A program's engine with its heap of versions. Both stand for a history.

@@ -11,10 +11,10 @@ use crate::session::Session;
 use pst_arena::FatNodes;
 use pst_base::NoMemory;
 use pst_coded::{Compiled, Meant};
-use pst_testing::{Trouble, compiled, forest_for};
 use pst_forest::Forest;
 use pst_order::Order;
 use pst_store::StoreOf;
+use pst_testing::{Trouble, compiled, forest_for};
 use std::alloc::Global;
 
 /// Starts an empty store for a program.
