@@ -13,6 +13,6 @@ use Rattle.pst_engine.specs.Stands.{MayApply}
 
 -- an engine with its heap, and a replayer: each is ready for a command, unless it has failed
 pub record CanAnswer {H P R : Type 0} (coded : Program) (engine : Engine H R P) (s : State P R) (program : Program) (replayer : Replayer) : Type 0 where
-  pub engine : engine.failed ≡ false → MayApply (meaning_of coded) (code_of (routines_of coded)) engine s
+  pub stands : engine.failed ≡ false → MayApply (meaning_of coded) (code_of (routines_of coded)) engine s
   pub typed : IsTyped (routines_of program)
-  pub replayer : replayer.failed ≡ false → MayReplay program replayer
+  pub keeps : replayer.failed ≡ false → MayReplay program replayer
