@@ -1,4 +1,3 @@
 pub mod Trying
 pub mod Started
-pub mod Rings
-pub mod Repeats
+pub mod Stamps

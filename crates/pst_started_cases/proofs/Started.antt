@@ -1,75 +1,28 @@
--- What is so of a store as started, for the clients of the tests.
-use Rattle.std.proofs.Common.{◌≡◌, ◌≢◌, List, Option, Some, None, sym, ap, ◌∙◌, subst, inl, inr, arith}
-use Rattle.std.specs.Prelude.{IsSomeAnd, slice_get}
-use Rattle.std.specs.FinMap.{empty, get, get-empty}
-use Rattle.std.specs.Option.{option_map}
+-- What a store as started leaves to the client that writes at forks.
+use Rattle.std.proofs.Common.{◌≡◌, List, Option, Some, sym, ap, ◌∙◌, subst, arith}
+use Rattle.std.specs.FinMap.{empty}
 use Rattle.pst_base.specs.declared.names.Counts.{Counts}
-use Rattle.pst_base.specs.declared.names.Name.{Name}
 use Rattle.pst_base.specs.declared.names.Kind.TheVariants.{Int}
 use Rattle.pst_base.specs.declared.shape.TypeShape.{TypeShape}
-use Rattle.pst_base.specs.Name.{name_cmp, root_name}
+use Rattle.pst_base.specs.Name.{root_name}
 use Rattle.pst_base.specs.Shape.{field_kind, root_type, type_at}
-use Rattle.pst_base.specs.Heap.{Heap, initial_heap, kind_from, kind_in, new_record}
-use Rattle.pst_base.proofs.WellFormed.{none-from_type, type-from_none, type_in-with_new, type_in-with_other}
-use Rattle.pst_versions.specs.declared.rows.VersionRow.{VersionRow}
-use Rattle.pst_places.specs.State.{IsFresh, IsPublished}
+use Rattle.pst_base.specs.Heap.{Heap, kind_from, kind_in, new_record}
+use Rattle.pst_base.proofs.WellFormed.{type_in-with_new}
 use Rattle.pst_places.specs.Client.{HasRoomFor}
 use Rattle.pst_meaning.specs.declared.place.Place.{Place}
-use Rattle.pst_meaning.specs.declared.place.Fork.{Fork}
 use Rattle.pst_meaning.specs.Store.{Stored}
-use Rattle.pst_meaning.proofs.Starting.{none_there}
-use Rattle.pst_started.specs.Calls.{IsStarted}
+use Rattle.pst_rings.proofs.Started.{HasOnePlace}
 use Rattle.pst_started_cases.specs.Trials.{IsReady}
 use Rattle.pst_store.specs.Whole.{state_in}
 
--- a store with one place, that of version 0, where the root record is alone
-pub record HasOnePlace (o : Option Stored) (shape : List TypeShape) (p : Place) : Type 0 where
-  pub shape_is : (state_in o).shape ≡ shape
-  pub published : IsPublished (state_in o) p
-  pub alone : (q : Place) → (state_in o).has q → q ≡ p
-  pub heap : (state_in o).heap p ≡ initial_heap shape
-  pub calls : (state_in o).fork_calls ≡ 0
-  pub counts : (state_in o).counts ≡ record { records = 1; pointer_writes = 0; value_writes = 0 }
-
-pub one_place : (o : Option Stored) (shape : List TypeShape) (p : Place) → IsSomeAnd o (IsStarted shape) → Some p ≡ option_map (λ (row : VersionRow Place). row.place) (slice_get (state_in o).versions 0) → HasOnePlace o shape p
-one_place None shape p h e = absurd h
-one_place (Some s) shape p h e =
-    let start : p ≡ s.start = (let first : Some p ≡ Some s.start = e ∙ ap (λ (rows : List (VersionRow Place)). option_map (λ (row : VersionRow Place). row.place) (slice_get rows 0)) h.versions in cc) in
-    record {
-      shape_is = h.shape_is;
-      published = record { has = inl start; closed = λ w. none_there w.forked.index w.forked.fork (ap (λ (forks : List Fork). slice_get forks w.forked.index) (sym h.forks) ∙ w.forked.at) };
-      alone = λ q i. elim i [
-        | inl e ↦ e ∙ sym start
-        | inr f ↦ absurd (none_there f.index f.fork (ap (λ (forks : List Fork). slice_get forks f.index) (sym h.forks) ∙ f.at))
-      ];
-      heap = ap (state_in (Some s)).heap start ∙ h.heap;
-      calls = h.calls;
-      counts = h.counts;
-    }
-
-module _ (o : Option Stored) (shape : List TypeShape) (p : Place) (h : HasOnePlace o shape p) where
-  pub place_published : IsPublished (state_in o) p
-  place_published = h.published
-
-  -- a name that is not the root's
-  pub place_fresh : (n : Name) → n ≢ root_name → IsFresh (state_in o) n
-  place_fresh n ne = record {
-    fresh = λ q i. ap (λ (q : Place). get ((state_in o).heap q) n) (h.alone q i) ∙ ap (λ (heap : Heap). get heap n) h.heap
-        ∙ none-from_type (initial_heap shape) n (type_in-with_other empty root_name (new_record shape root_type) n ne ∙ type-from_none empty n (get-empty name_cmp n));
-  }
-
-  pub place_ready : field_kind (type_at shape root_type) 0 ≡ Some Int → IsReady (state_in o) p 0 100
-  place_ready k = record {
-    published = h.published;
-    number = record {
-      has = h.published.has;
-      field = ap (λ (shape : List TypeShape). kind_in shape ((state_in o).heap p) root_name 0) h.shape_is ∙ ap (λ (heap : Heap). kind_in shape heap root_name 0) h.heap
-          ∙ ap (kind_from shape 0) (type_in-with_new empty root_name (new_record shape root_type)) ∙ k;
-    };
-    calls = omega (arith, h.calls);
-    room = subst (λ (c : Counts). HasRoomFor (record (state_in o) { counts = c }) 100) (sym h.counts) (record { records = omega arith; pointer_writes = omega arith; value_writes = omega arith });
-  }
-
--- a name of run 1
-pub run_1 : (n : Name) → n.run.0 ≡ 1 → n ≢ root_name
-run_1 n one e = let f : n.run.0 ≡ 0 = ap (λ (n : Name). n.run.0) e in absurd (omega arith)
+pub place_ready : (o : Option Stored) (shape : List TypeShape) (p : Place) → HasOnePlace o shape p → field_kind (type_at shape root_type) 0 ≡ Some Int → IsReady (state_in o) p 0 100
+place_ready o shape p h k = record {
+  published = h.published;
+  number = record {
+    has = h.published.has;
+    field = ap (λ (shape : List TypeShape). kind_in shape ((state_in o).heap p) root_name 0) h.shape_is ∙ ap (λ (heap : Heap). kind_in shape heap root_name 0) h.heap
+        ∙ ap (kind_from shape 0) (type_in-with_new empty root_name (new_record shape root_type)) ∙ k;
+  };
+  calls = omega (arith, h.calls);
+  room = subst (λ (c : Counts). HasRoomFor (record (state_in o) { counts = c }) 100) (sym h.counts) (record { records = omega arith; pointer_writes = omega arith; value_writes = omega arith });
+}

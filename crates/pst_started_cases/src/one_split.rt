@@ -1,62 +1,20 @@
 //! One split of a node that is far over its capacity, without any other beside it.
 
-ghost use Rattle.std.specs.Prelude.{◌≡◌, ◌<◌, ◌∷◌, [], All, IfOk, None, Some, slice_get};
-ghost use Rattle.pst_base.specs.declared.names.Kind.TheVariants.{Pointer};
-ghost use Rattle.pst_base.specs.Shape.{field_kind, type_at};
-ghost use Rattle.pst_versions.specs.declared.rows.VersionRow.{VersionRow};
-ghost use Rattle.pst_places.specs.declared.versioned.TheConstants.{MOST_FORKS};
-ghost use Rattle.pst_places.specs.State.{IsPublished, IsNewType, IsFresh};
-ghost use Rattle.pst_places.specs.Client.{HasRoomFor};
+ghost use Rattle.std.specs.Prelude.{◌≡◌, ◌∷◌, [], All, IfOk};
 ghost use Rattle.pst_meaning.specs.Store.{state_of};
-ghost use Rattle.pst_started_cases.specs.Rings.{HasRing, IsStamped};
-ghost use Rattle.pst_store.specs.Whole.{state_in};
+ghost use Rattle.pst_rings.specs.Rings.{HasRing, IsStamped};
 
-use crate::tests::{FIRST, ITEM, SECOND, has_kind, type_of};
 use pst_arena::Arena;
-use pst_base::{Kind, Name, NoMemory, NodeId, RunNo, Shape, SlotNo, VersionNo};
+use pst_base::{Kind, NoMemory, NodeId, Shape, VersionNo};
 use pst_meaning::place::Place;
 use pst_order::Order;
-use pst_places::{StoreFault, VersionedHeap, link_two};
+use pst_rings::{FIRST, Reading, SECOND, Trouble, VALUE, readings, start_ring, type_of};
 use pst_started::Started;
 use pst_store::Store;
 use std::alloc::Global;
 
-/// The fields of an item of the ring.
-pub(crate) const VALUE: SlotNo = SlotNo(0);
-
-pub(crate) const NEXT: SlotNo = SlotNo(1);
-
 /// The number of forks at which the first item's number is written, which stamps two values each time.
 const FORKS: u32 = 12;
-
-/// Why the test comes to no answer.
-#[derive(Clone, Copy, Debug, PartialEq, Eq)]
-pub(crate) enum Trouble {
-    /// What a call needs does not hold.
-    Misfit,
-    /// A record is held too often.
-    InDegree,
-    /// Memory ran out.
-    Memory,
-}
-
-impl From<NoMemory> for Trouble {
-    fn from(_error: NoMemory) -> Trouble {
-        Trouble::Memory
-    }
-}
-
-impl From<StoreFault> for Trouble {
-    fn from(fault: StoreFault) -> Trouble {
-        match fault {
-            StoreFault::InDegree => Trouble::InDegree,
-            StoreFault::Memory => Trouble::Memory,
-        }
-    }
-}
-
-/// What an item of the ring reads at a place: its number, and the name of the item after it.
-pub(crate) type Reading = (i64, Option<Name>);
 
 /// The store before and after the split.
 #[derive(Drop)]
@@ -66,47 +24,6 @@ struct Trial {
     was_split: bool,
     nodes: [u64; 2],
     potential: [u64; 2],
-}
-
-/// Forks a place, lets two new items hold each other there, and publishes the fork. It answers the version, its place and the
-/// two items.
-fn publish_ring<H: VersionedHeap>(
-    heap: &mut H,
-    from: H::Place,
-) -> Result<(VersionNo, H::Place, H::Ref, H::Ref), StoreFault>
-    requires published { IsPublished (H.state heap.old) from }
-    requires calls { (H.state heap.old).fork_calls < MOST_FORKS }
-    requires known_type { IsNewType (H.state heap.old) ITEM }
-    requires first_fresh { IsFresh (H.state heap.old) FIRST }
-    requires second_fresh { IsFresh (H.state heap.old) SECOND }
-    requires field { field_kind (type_at (H.state heap.old).shape ITEM) NEXT.0 ≡ Some (Pointer ITEM) }
-    requires room { HasRoomFor (H.state heap.old) 4 }
-    requires version { (row : VersionRow H.Place) × (slice_get (H.state heap.old).versions 0 ≡ Some row) × (row.place ≡ from) }
-    ensures live { IfOk result (λ made. HasRing (H.state heap.new) made.2 made.3 made.1) }
-{
-    let at = heap.fork(from)?;
-    let (first, second) = link_two(heap, at, ITEM, FIRST, SECOND, NEXT)?;
-    let version = heap.publish(VersionNo(0), RunNo(1), at)?;
-    Ok((version, at, first, second))
-}
-
-/// Starts an empty store, and publishes a version with a ring of two items.
-pub(crate) fn start_ring(
-    alloc: Global,
-    store: &mut Store,
-    shape: &Shape,
-) -> Result<(VersionNo, Place, NodeId, NodeId), Trouble>
-    requires { store.old ≡ None }
-    ensures { IfOk result (λ made. HasRing (state_in store.new) made.2 made.3 made.1) }
-{
-    if !shape.is_valid() || !has_kind(shape, ITEM, NEXT, Kind::Pointer(ITEM)) {
-        return Err(Trouble::Misfit);
-    }
-    store.start(alloc, shape)?;
-    match store.place_of(VersionNo(0)) {
-        None => Err(Trouble::Misfit),
-        Some(from) => Ok(publish_ring(store, from)?),
-    }
 }
 
 /// Forks the place of a version, and writes the number of an item at the fork, without repairs.
@@ -160,58 +77,6 @@ fn stamp_all<O: Order + Drop>(
         }
     }
     Ok(places)
-}
-
-/// What an item reads at a place.
-fn reading<O: Order + Drop>(
-    store: &Started<O, Arena>,
-    at: Place,
-    item: NodeId,
-) -> Result<Reading, Trouble>
-    requires { (state_of store.now).live at item }
-{
-    match (store.kind(at, item, VALUE), store.kind(at, item, NEXT)) {
-        (Some(Kind::Int), Some(Kind::Pointer(_))) => {
-            let next = match store.pointer(at, item, NEXT) {
-                None => None,
-                Some(next) => Some(store.name(next)),
-            };
-            Ok((store.number(at, item, VALUE), next))
-        }
-        _ => Err(Trouble::Misfit),
-    }
-}
-
-/// What the two items read at a place.
-fn ring_reading<O: Order + Drop>(
-    store: &Started<O, Arena>,
-    at: Place,
-    first: NodeId,
-    second: NodeId,
-) -> Result<(Reading, Reading), Trouble>
-    requires { HasRing (state_of store.now) first second at }
-{
-    Ok((reading(store, at, first)?, reading(store, at, second)?))
-}
-
-/// What the two items read at each place.
-pub(crate) fn readings<O: Order + Drop>(
-    alloc: Global,
-    store: &Started<O, Arena>,
-    places: &[Place],
-    first: NodeId,
-    second: NodeId,
-) -> Result<Vec<(Reading, Reading)>, Trouble>
-    requires { All (HasRing (state_of store.now) first second) places.now }
-{
-    let mut readings = Vec::new(alloc);
-    for at in places {
-        match readings.push(ring_reading(store, *at, first, second)?) {
-            Ok(()) => {}
-            Err(_) => return Err(Trouble::Memory),
-        }
-    }
-    Ok(readings)
 }
 
 /// Stamps the first item of a ring at the forks of its version, and then splits once.

@@ -1,41 +1,25 @@
 //! What no clause says: that the calls which take memory succeed, and that the clauses mean what is meant.
 
-ghost use Rattle.std.specs.Prelude.{◌≡◌, ◌+◌, ◌<◌, All, IfOk, IfSome, IsTrue, None, Some, length};
-ghost use Rattle.pst_base.specs.declared.names.Kind.TheVariants.{Int, Pointer};
-ghost use Rattle.pst_base.specs.Shape.{field_kind, type_at};
+ghost use Rattle.std.specs.Prelude.{◌≡◌, All, IfOk, IfSome, None};
 ghost use Rattle.pst_started_cases.specs.Trials.{HoldsNumber, IsReady};
 ghost use Rattle.pst_store.specs.Whole.{state_in};
 
 use pst_arena::FatNodes;
-use pst_base::{
-    Kind, Name, NoMemory, NodeId, RunNo, Shape, SlotNo, Targets, TypeNo, TypeShape, VersionNo,
-};
+use pst_base::{Kind, NoMemory, NodeId, RunNo, Shape, SlotNo, TypeNo, VersionNo};
 use pst_meaning::place::Place;
 use pst_order::Order;
 use pst_places::{HeapAt, StoreFault, VersionedHeap, fork_and_link};
+use pst_rings::{FIRST, ITEM, SECOND, has_kind, type_of};
 use pst_store::{Store, StoreOf};
 use std::alloc::Global;
 
-/// The type of the root record, and that of all others.
+/// The type of the root record.
 const ROOT: TypeNo = TypeNo(0);
-
-pub(crate) const ITEM: TypeNo = TypeNo(1);
 
 /// The field of the root record that holds a number, and the one of an item that holds an item.
 const NUMBER: SlotNo = SlotNo(0);
 
 const NEXT: SlotNo = SlotNo(0);
-
-/// Two items, made by run 1.
-pub(crate) const FIRST: Name = Name {
-    run: RunNo(1),
-    ordinal: 0,
-};
-
-pub(crate) const SECOND: Name = Name {
-    run: RunNo(1),
-    ordinal: 1,
-};
 
 /// Forks a place so many times, and writes another number into a field of the root record at each fork: 0, 1 and so on.
 fn write_at_forks<H: VersionedHeap>(
@@ -81,17 +65,6 @@ fn numbers<H: HeapAt>(
         numbers.push(number(heap, *at, field))?;
     }
     Ok(numbers)
-}
-
-/// Whether a field of a type has a kind.
-pub(crate) fn has_kind(shape: &Shape, ty: TypeNo, field: SlotNo, kind: Kind) -> bool
-    ensures there { IsTrue result → ty.0 < length shape.now }
-    ensures kind { IsTrue result → field_kind (type_at shape.now ty) field.0 ≡ Some kind }
-{
-    match shape.as_slice().get(usize::from(ty.0)) {
-        None => false,
-        Some(of) => of.kind(field) == Some(kind),
-    }
 }
 
 /// Starts an empty store whose root record has a number, and answers the place of version 0 and the capacity of the root
@@ -153,15 +126,6 @@ fn publish<O: Order + Drop, N: FatNodes>(
             Ok(Some((at, version)))
         }
     }
-}
-
-/// A type with so many numbers, one pointer to an item, and this limit.
-pub(crate) fn type_of(alloc: Global, values: u16, limit: u8) -> Result<TypeShape, NoMemory> {
-    Ok(TypeShape {
-        values,
-        targets: Targets::from_vec(vec![in alloc; ITEM]?),
-        limit,
-    })
 }
 
 /// The shape of a root record with a number and a pointer, and of items with a pointer: the capacity of each is 4.

@@ -1,7 +1,7 @@
 use Rattle.std.proofs.Common.{All, sym, subst}
 use Rattle.pst_meaning.specs.Store.{state_of}
-use Rattle.pst_started_cases.specs.Rings.{HasRing}
-use Rattle.pst_started_cases.proofs.Rings.{rings_grow}
+use Rattle.pst_rings.specs.Rings.{HasRing}
+use Rattle.pst_rings.proofs.Rings.{rings_grow}
 use Rattle.pst_started_cases.proofs.one_split.split.Goals as goal
 
 pub readings-requires-2 : goal.readings-requires-2

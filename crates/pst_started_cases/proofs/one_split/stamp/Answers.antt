@@ -1,5 +1,6 @@
 use Rattle.std.proofs.Common.{rules}
-use Rattle.pst_started_cases.proofs.Rings.{stamped, version_published}
+use Rattle.pst_rings.proofs.Rings.{version_published}
+use Rattle.pst_started_cases.proofs.Stamps.{stamped}
 use Rattle.pst_started_cases.proofs.one_split.stamp.Goals as goal
 
 pub make_fork-requires-clause-published : goal.make_fork-requires-clause-published

@@ -1,4 +1,5 @@
-use Rattle.pst_started_cases.proofs.Rings.{one_ring, ring_grows, rings_stamped}
+use Rattle.pst_rings.proofs.Rings.{ring_grows}
+use Rattle.pst_started_cases.proofs.Stamps.{one_ring, rings_stamped}
 use Rattle.pst_started_cases.proofs.one_split.stamp_all.Goals as goal
 
 pub loop-n-init : goal.loop-n-init

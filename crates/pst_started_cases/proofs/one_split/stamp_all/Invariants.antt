@@ -1,6 +1,6 @@
 use Rattle.std.proofs.Common.{All}
 use Rattle.pst_meaning.specs.Store.{state_of}
-use Rattle.pst_started_cases.specs.Rings.{HasRing}
+use Rattle.pst_rings.specs.Rings.{HasRing}
 use Rattle.pst_started_cases.proofs.one_split.stamp_all.Given as goal
 
 -- the ring stands at the version and at the forks so far

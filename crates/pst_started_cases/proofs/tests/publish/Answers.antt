@@ -1,4 +1,4 @@
-use Rattle.pst_started_cases.proofs.Started.{one_place, place_published}
+use Rattle.pst_rings.proofs.Started.{one_place, place_published}
 use Rattle.pst_started_cases.proofs.tests.publish.Goals as goal
 
 pub fork-requires-clause-published : goal.fork-requires-clause-published

@@ -1,7 +1,8 @@
 use Rattle.std.proofs.Common.{rules, ◌≡◌, Some}
 use Rattle.pst_base.specs.declared.names.Kind.TheVariants.{Int}
 use Rattle.pst_base.specs.Shape.{field_kind, root_type, type_at}
-use Rattle.pst_started_cases.proofs.Started.{one_place, place_ready}
+use Rattle.pst_rings.proofs.Started.{one_place}
+use Rattle.pst_started_cases.proofs.Started.{place_ready}
 use Rattle.pst_started_cases.proofs.tests.start.Goals as goal
 
 pub returns-in-Some : goal.returns-in-Some
