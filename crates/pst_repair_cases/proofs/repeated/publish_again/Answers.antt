@@ -1,4 +1,3 @@
-use Rattle.std.proofs.Common.{rules}
 use Rattle.pst_places.proofs.StateLemmas.{Grows_trans, Keeps_trans}
 use Rattle.pst_repair_cases.proofs.repeated.publish_again.Goals as goal
 
