@@ -3,7 +3,7 @@
 use pst_base::{Items, Kind, SlotNo};
 
 /// A field of a path: its slot, and what it holds.
-#[derive(Clone, Copy, Debug, PartialEq, Eq)]
+#[derive(Clone, Copy, PartialEq, Eq)]
 pub struct PathStep {
     pub slot: SlotNo,
     pub kind: Kind,

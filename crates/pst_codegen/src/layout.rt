@@ -8,7 +8,7 @@ use pst_code::Reg;
 use pst_registers::Table;
 
 /// The record types, and the registers of a procedure: the parameters and locals first, then the temporary ones.
-#[derive(Debug, Drop)]
+#[derive(Drop)]
 pub struct Layout<'a> {
     pub shape: &'a [TypeShape],
     pub locals: u16,

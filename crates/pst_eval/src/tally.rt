@@ -41,7 +41,7 @@ impl Tally {
 }
 
 /// How statements end.
-#[derive(Clone, Copy, Debug, PartialEq, Eq)]
+#[derive(Clone, Copy, PartialEq, Eq)]
 pub enum End {
     Normal,
     Return(Option<Value>),

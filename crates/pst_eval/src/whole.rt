@@ -16,7 +16,7 @@ use pst_program::{Ended, ProcCall, Program};
 use std::alloc::Global;
 
 /// What is run: a run's number, its calls in order, the budget in charges that they share, and how many of these are granted.
-#[derive(Clone, Copy, Debug)]
+#[derive(Clone, Copy)]
 pub struct RunSpec<'a> {
     pub run: RunNo,
     pub calls: &'a [ProcCall],
@@ -26,7 +26,7 @@ pub struct RunSpec<'a> {
 }
 
 /// What a run came to: how far, what it printed, and what it alone counted.
-#[derive(Debug, Drop)]
+#[derive(Drop)]
 pub struct Outcome {
     pub ended: Ended,
     pub printed: Numbers,

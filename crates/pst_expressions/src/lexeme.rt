@@ -9,7 +9,7 @@ use pst_grammar::{Lead, Sign};
 use pst_lex::{Mark, Token, TokenKind, mark_at};
 
 /// A token as the parser sees it: with its line where it may begin something whose line a tree keeps.
-#[derive(Debug, Drop)]
+#[derive(Drop)]
 pub enum Lexeme<'a> {
     Name(u32, &'a Text),
     Number(i64),

@@ -4,7 +4,7 @@ use pst_lex::Token;
 use std::alloc::{AllocError, AllocFailed};
 
 /// Why reading stopped, and the tokens from that place on.
-#[derive(Debug, Drop)]
+#[derive(Drop)]
 pub enum Stop<'a> {
     Unexpected(&'a [Token]),
     TooDeep(&'a [Token]),

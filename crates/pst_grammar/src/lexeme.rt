@@ -3,14 +3,14 @@
 use pst_base::Text;
 
 /// A name as it stands in the text, with its line.
-#[derive(Debug, Drop)]
+#[derive(Drop)]
 pub struct Label {
     pub line: u32,
     pub name: Text,
 }
 
 /// A keyword or symbol that begins nothing whose line a tree keeps, and is no operator.
-#[derive(Clone, Copy, Debug, PartialEq, Eq)]
+#[derive(Clone, Copy, PartialEq, Eq)]
 pub enum Sign {
     Null,
     Not,
@@ -29,7 +29,7 @@ pub enum Sign {
 }
 
 /// A keyword that begins a declaration, a field, a local or a statement.
-#[derive(Clone, Copy, Debug, PartialEq, Eq)]
+#[derive(Clone, Copy, PartialEq, Eq)]
 pub enum Lead {
     Record,
     Val,

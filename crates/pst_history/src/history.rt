@@ -18,7 +18,7 @@ pub const OPEN_RUNS: usize = 64;
 pub const CALLS: usize = 1_024;
 
 /// Whether a run goes on.
-#[derive(Clone, Copy, Debug, PartialEq, Eq)]
+#[derive(Clone, Copy, PartialEq, Eq)]
 pub enum RunState {
     /// It was granted some charges, and may be granted more.
     Open,
@@ -29,7 +29,7 @@ pub enum RunState {
 }
 
 /// A call of a run: a procedure by its name, with its arguments.
-#[derive(Debug, Drop)]
+#[derive(Drop)]
 pub struct NamedCall {
     pub procedure: Text,
     pub arguments: Numbers,
@@ -40,7 +40,7 @@ pub type NamedCalls = Items<NamedCall>;
 
 /// A run: the version on whose heap it works, its calls, the budget that stood when it was opened, and the charges granted
 /// so far, at most the budget.
-#[derive(Debug, Drop)]
+#[derive(Drop)]
 pub struct Run {
     pub parent: VersionNo,
     pub calls: NamedCalls,
@@ -50,7 +50,7 @@ pub struct Run {
 }
 
 /// A version after 0: the run that made it, and the version on whose heap that run worked.
-#[derive(Clone, Copy, Debug, PartialEq, Eq)]
+#[derive(Clone, Copy, PartialEq, Eq)]
 pub struct Descent {
     pub run: RunNo,
     pub parent: VersionNo,
@@ -63,7 +63,7 @@ pub type Runs = Items<Run>;
 pub type Descents = Items<Descent>;
 
 /// What a script has made of an opening: the budget that stands, and the runs and versions since.
-#[derive(Debug, Drop)]
+#[derive(Drop)]
 pub struct Since {
     pub budget: u32,
     pub runs: Runs,

@@ -10,7 +10,7 @@ use pst_base::VersionNo;
 use pst_changed::path_form;
 
 /// What the program can do.
-#[derive(Clone, Copy, Debug, PartialEq, Eq)]
+#[derive(Clone, Copy, PartialEq, Eq)]
 pub enum Job {
     /// To answer the script.
     Run,
@@ -25,7 +25,7 @@ pub enum Job {
 }
 
 /// A question about the versions that a script makes.
-#[derive(Clone, Copy, Debug, PartialEq, Eq)]
+#[derive(Clone, Copy, PartialEq, Eq)]
 pub enum Question {
     /// What a version holds.
     Dump(VersionNo),
@@ -34,7 +34,7 @@ pub enum Question {
 }
 
 /// What the words ask for.
-#[derive(Clone, Copy, Debug, PartialEq, Eq)]
+#[derive(Clone, Copy, PartialEq, Eq)]
 pub enum Task {
     /// To do a job with the input.
     Input(Job),

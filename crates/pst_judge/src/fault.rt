@@ -7,7 +7,7 @@ use pst_base::NoMemory;
 use std::alloc::Global;
 
 /// What is wrong with a program.
-#[derive(Clone, Copy, Debug, PartialEq, Eq)]
+#[derive(Clone, Copy, PartialEq, Eq)]
 pub enum FaultKind {
     /// A byte that may not stand there.
     Byte,
@@ -34,7 +34,7 @@ pub enum FaultKind {
 }
 
 /// The first fault of a program, with its line, from 1.
-#[derive(Clone, Copy, Debug, PartialEq, Eq)]
+#[derive(Clone, Copy, PartialEq, Eq)]
 pub struct Fault {
     pub kind: FaultKind,
     pub line: u32,

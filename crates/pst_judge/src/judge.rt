@@ -21,7 +21,7 @@ use pst_typing::TypeFault;
 use std::alloc::Global;
 
 /// Why a text gives no program.
-#[derive(Clone, Copy, Debug, PartialEq, Eq)]
+#[derive(Clone, Copy, PartialEq, Eq)]
 pub enum NoProgram {
     /// It has this fault.
     Fault(Fault),

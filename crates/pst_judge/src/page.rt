@@ -22,7 +22,7 @@ use pst_types::check;
 use std::alloc::Global;
 
 /// What is printed of a program.
-#[derive(Clone, Copy, Debug, PartialEq, Eq)]
+#[derive(Clone, Copy, PartialEq, Eq)]
 pub enum Page {
     /// Its canonical text.
     Canonical,

@@ -10,7 +10,7 @@ use crate::types::{Span, Token, TokenKind};
 use std::alloc::Global;
 
 /// A text whose first tokens were taken: the bytes behind them, and their place and line. It keeps no token.
-#[derive(Debug, Drop)]
+#[derive(Drop)]
 pub struct Lexer<'a> {
     rest: &'a [u8],
     at: usize,

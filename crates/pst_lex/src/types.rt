@@ -3,14 +3,14 @@
 use pst_base::{Items, Text};
 
 /// The bytes from `from` up to the one before `to`, counted from 0 at the front of the text.
-#[derive(Clone, Copy, Debug, PartialEq, Eq)]
+#[derive(Clone, Copy, PartialEq, Eq)]
 pub struct Span {
     pub from: u32,
     pub to: u32,
 }
 
 /// What a token is.
-#[derive(Debug, Drop)]
+#[derive(Drop)]
 pub enum TokenKind {
     /// A name: its 1 to 32 bytes.
     Name(Text),
@@ -23,7 +23,7 @@ pub enum TokenKind {
 }
 
 /// A token: what it is, its bytes, and its line, from 1.
-#[derive(Debug, Drop)]
+#[derive(Drop)]
 pub struct Token {
     pub kind: TokenKind,
     pub span: Span,
@@ -34,7 +34,7 @@ pub struct Token {
 pub type TokenList = Items<Token>;
 
 /// The tokens of a text in order, and the line of its end, from 1.
-#[derive(Debug, Drop)]
+#[derive(Drop)]
 pub struct Tokens {
     pub list: TokenList,
     pub end: u32,

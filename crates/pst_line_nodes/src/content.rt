@@ -1,7 +1,7 @@
 //! What slots hold.
 
 /// What a field holds.
-#[derive(Clone, Copy, Debug, PartialEq, Eq)]
+#[derive(Clone, Copy, PartialEq, Eq)]
 pub enum Content {
     /// A value field's number.
     Number(i64),
@@ -12,7 +12,7 @@ pub enum Content {
 }
 
 /// A content that a slot holds from a stamp on: up to the slot's next one, or for good.
-#[derive(Clone, Copy, Debug, PartialEq, Eq)]
+#[derive(Clone, Copy, PartialEq, Eq)]
 pub struct Stamp {
     pub slot: u16,
     pub from: u32,
@@ -20,7 +20,7 @@ pub struct Stamp {
 }
 
 /// The entry of a pointer field: the node that has it, and its slot there.
-#[derive(Clone, Copy, Debug, PartialEq, Eq)]
+#[derive(Clone, Copy, PartialEq, Eq)]
 pub struct Entry {
     pub node: u64,
     pub slot: u16,

@@ -16,7 +16,7 @@ use pst_script::{Command, Reply};
 use std::alloc::Global;
 
 /// A session over a store of a linear history: it keeps no history and no heap. Two sessions with equal fields answer alike.
-#[derive(Debug, Drop)]
+#[derive(Drop)]
 pub struct LineSession {
     /// Memory was wanting: no more is answered.
     pub failed: bool,

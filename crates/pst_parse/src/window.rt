@@ -18,7 +18,7 @@ fn no_memory(fault: LexFault) -> NoMemory
 }
 
 /// The next tokens of a text that has tokens up to its end, and the text behind them.
-#[derive(Debug, Drop)]
+#[derive(Drop)]
 pub struct Window<'a> {
     tokens: Vec<Token>,
     lexer: Lexer<'a>,

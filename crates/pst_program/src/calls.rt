@@ -3,7 +3,7 @@
 use pst_base::{Items, NoMemory, Numbers, ProcNo};
 
 /// A call of a run: a procedure by its number, with its arguments.
-#[derive(Debug, Drop)]
+#[derive(Drop)]
 pub struct ProcCall {
     pub procedure: ProcNo,
     pub arguments: Numbers,

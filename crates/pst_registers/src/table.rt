@@ -9,14 +9,14 @@ use std::alloc::Global;
 use std::marker::Model;
 
 /// What a temporary register holds, and its index in the table.
-#[derive(Clone, Copy, Debug)]
+#[derive(Clone, Copy)]
 struct Temporary {
     kind: Kind,
     index: usize,
 }
 
 /// The temporary registers of a level.
-#[derive(Debug, Drop)]
+#[derive(Drop)]
 struct Row {
     temporaries: Vec<Temporary>,
 }
@@ -66,7 +66,7 @@ impl Row {
 
 /// The temporary registers of a procedure, in the order in which its code first needs them. The rows make the walk of a
 /// search short: at most one register for each kind.
-#[derive(Debug, Drop)]
+#[derive(Drop)]
 pub struct Table {
     needs: Vec<Need>,
     rows: Vec<Row>,

@@ -13,7 +13,7 @@ use pst_tree::{Field, Local, TypeName};
 use std::alloc::{AllocError, Global};
 
 /// A type as it was written: `int`, or the name of a record type.
-#[derive(Clone, Copy, Debug)]
+#[derive(Clone, Copy)]
 pub enum Word<'t> {
     Int,
     Named(&'t [u8]),
@@ -121,7 +121,7 @@ pub(crate) fn elements_of(elements: Option<u8>) -> u8
 }
 
 /// A field: its type, how many elements it has where it is an array, and how many elements of its sort stand before it.
-#[derive(Clone, Copy, Debug)]
+#[derive(Clone, Copy)]
 pub struct Member<'t> {
     pub rank: u16,
     pub kind: Word<'t>,
@@ -130,7 +130,7 @@ pub struct Member<'t> {
 
 /// A field as a program reads and writes it: the slot of its first element, its type, and how many elements it has where
 /// it is an array.
-#[derive(Clone, Copy, Debug)]
+#[derive(Clone, Copy)]
 pub struct Slot<'t> {
     pub slot: SlotNo,
     pub kind: Word<'t>,
@@ -139,7 +139,7 @@ pub struct Slot<'t> {
 
 /// The fields of a record type by name in the order of declaration, and how many elements hold a number and how many a
 /// pointer.
-#[derive(Debug, Drop)]
+#[derive(Drop)]
 pub struct Members<'t> {
     pub values: u16,
     pub pointers: u16,
@@ -258,14 +258,14 @@ impl<'t> Members<'t> {
 }
 
 /// A record type: its number and its fields.
-#[derive(Debug, Drop)]
+#[derive(Drop)]
 pub struct RecordType<'t> {
     pub number: TypeNo,
     pub members: Members<'t>,
 }
 
 /// A procedure as it is called.
-#[derive(Clone, Copy, Debug)]
+#[derive(Clone, Copy)]
 pub struct Signature<'t> {
     pub number: ProcNo,
     pub query: bool,
@@ -274,7 +274,7 @@ pub struct Signature<'t> {
 }
 
 /// The declared names. The roots are the fields of the root record.
-#[derive(Debug, Drop)]
+#[derive(Drop)]
 pub struct Scope<'t> {
     pub types: IndexMap<&'t [u8], RecordType<'t>>,
     pub roots: Members<'t>,
@@ -365,7 +365,7 @@ impl<'t> Scope<'t> {
 }
 
 /// A parameter or a local: its number in its procedure, and its type.
-#[derive(Clone, Copy, Debug)]
+#[derive(Clone, Copy)]
 pub struct Variable<'t> {
     pub number: u16,
     pub kind: Word<'t>,
@@ -373,7 +373,7 @@ pub struct Variable<'t> {
 
 /// Where a statement stands: the declared names, whether it is in a query, what the procedure gives, and its parameters
 /// and locals.
-#[derive(Debug, Drop)]
+#[derive(Drop)]
 pub struct Setting<'a, 't> {
     pub scope: &'a Scope<'t>,
     pub query: bool,
@@ -382,7 +382,7 @@ pub struct Setting<'a, 't> {
 }
 
 /// What can be assigned by its name.
-#[derive(Clone, Copy, Debug)]
+#[derive(Clone, Copy)]
 pub enum Target<'t> {
     Local(Variable<'t>),
     Root(Slot<'t>),

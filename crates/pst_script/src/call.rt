@@ -18,7 +18,7 @@ struct CallWords<'a> {
 }
 
 /// What the words of a call write: the number of a version or of a run, a procedure by its name, and arguments.
-#[derive(Debug, Drop)]
+#[derive(Drop)]
 pub struct Called {
     pub number: u32,
     pub procedure: Text,

@@ -7,7 +7,7 @@ use pst_base::{Numbers, RunNo, Text, VersionNo};
 use std::alloc::AllocError;
 
 /// What a run or a query is to execute: a procedure by its name, on the heap of a version, with these arguments.
-#[derive(Debug, Drop)]
+#[derive(Drop)]
 pub struct Call {
     pub version: VersionNo,
     pub procedure: Text,
@@ -15,7 +15,7 @@ pub struct Call {
 }
 
 /// What a script line asks for.
-#[derive(Debug, Drop)]
+#[derive(Drop)]
 pub enum Command {
     /// To carry out a run and to publish its version.
     Run(Call),
@@ -57,7 +57,7 @@ pub enum Command {
 }
 
 /// Why a script line is no command.
-#[derive(Clone, Copy, Debug, PartialEq, Eq)]
+#[derive(Clone, Copy, PartialEq, Eq)]
 pub enum LineFault {
     /// The words have none of the forms of a command.
     Line,

@@ -5,7 +5,7 @@ use pst_io::{Failed, LinesFault};
 use std::alloc::AllocFailed;
 
 /// Why reading the input or writing the output stopped.
-#[derive(Clone, Copy, Debug, PartialEq, Eq)]
+#[derive(Clone, Copy, PartialEq, Eq)]
 pub enum Stop {
     /// A read failed.
     Read,

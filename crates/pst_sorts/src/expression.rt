@@ -22,7 +22,7 @@ use pst_typing::TypeFault;
 use std::alloc::Global;
 
 /// What an expression gives: a number, a truth, or a pointer to records of the type with a name.
-#[derive(Clone, Copy, Debug)]
+#[derive(Clone, Copy)]
 pub enum Sort<'t> {
     Int,
     Truth,
@@ -53,14 +53,14 @@ impl<'t> Sort<'t> {
 }
 
 /// An expression judged: a null that waits for its type, or a typed expression with its sort.
-#[derive(Debug, Drop)]
+#[derive(Drop)]
 pub enum Judged<'t> {
     Bare,
     Known(Typed, Sort<'t>),
 }
 
 /// A pointer, and the name of the type of its records.
-#[derive(Debug, Drop)]
+#[derive(Drop)]
 pub struct Object<'t> {
     pub pointer: Typed,
     pub ty: &'t [u8],
@@ -158,7 +158,7 @@ pub fn plain_field<'t>(
 }
 
 /// An array: the slot of its first element, how many elements it has, and their type.
-#[derive(Clone, Copy, Debug)]
+#[derive(Clone, Copy)]
 pub struct Array<'t> {
     pub slot: SlotNo,
     pub elements: u8,
@@ -292,7 +292,7 @@ fn null_beside<'t>(
 }
 
 /// An operator with two operands, as it stands in the text.
-#[derive(Clone, Copy, Debug)]
+#[derive(Clone, Copy)]
 struct Written<'e> {
     op: Op,
     left: &'e Expression,

@@ -4,7 +4,7 @@ ghost use Rattle.std.specs.Prelude.{◌<◌};
 
 /// A row of numbers that look random (a linear congruential generator with Knuth's multiplier, of which the upper bits are
 /// taken).
-#[derive(Clone, Copy, Debug, PartialEq, Eq)]
+#[derive(Clone, Copy, PartialEq, Eq)]
 pub struct Random {
     state: u64,
 }

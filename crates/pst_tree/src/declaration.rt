@@ -4,14 +4,14 @@ use crate::statement::Block;
 use pst_base::{Items, Text};
 
 /// A type as it was written: `int`, or the name of a record type.
-#[derive(Debug, Drop)]
+#[derive(Drop)]
 pub enum TypeName {
     Int,
     Named(Text),
 }
 
 /// A field of a record type, with the line of its first token, and the number of its elements where one is written.
-#[derive(Debug, Drop)]
+#[derive(Drop)]
 pub enum Field {
     Val {
         line: u32,
@@ -27,7 +27,7 @@ pub enum Field {
 }
 
 /// A parameter or a local, with the line of its first token.
-#[derive(Debug, Drop)]
+#[derive(Drop)]
 pub struct Local {
     pub line: u32,
     pub name: Text,
@@ -35,7 +35,7 @@ pub struct Local {
 }
 
 /// A declaration, with the line of its first token.
-#[derive(Debug, Drop)]
+#[derive(Drop)]
 pub enum Declaration {
     Record {
         line: u32,
@@ -66,14 +66,14 @@ pub type Fields = Items<Field>;
 pub type Locals = Items<Local>;
 
 /// The declarations of a program, in order.
-#[derive(Debug, Drop)]
+#[derive(Drop)]
 pub struct Declarations {
     pub items: Vec<Declaration>,
 }
 
 /// A program's text, read: its language, 1 or 2, and what it declares. In language 1 no field has a number of elements,
 /// and no expression is indexed.
-#[derive(Debug, Drop)]
+#[derive(Drop)]
 pub struct Tree {
     pub language: u8,
     pub declarations: Declarations,

@@ -3,7 +3,7 @@
 use pst_base::{Items, Op, Text};
 
 /// An expression as it was written. Parentheses are a form of their own.
-#[derive(Debug, Drop)]
+#[derive(Drop)]
 pub enum Expression {
     Number(i64),
     Null,

@@ -5,7 +5,7 @@ use pst_base::Text;
 
 /// A statement, with the line of its first token, from 1.
 #[cycle(tree)]
-#[derive(Debug, Drop)]
+#[derive(Drop)]
 pub struct Statement {
     pub line: u32,
     pub form: Form,
@@ -13,7 +13,7 @@ pub struct Statement {
 
 /// What a statement says.
 #[cycle(tree)]
-#[derive(Debug, Drop)]
+#[derive(Drop)]
 pub enum Form {
     New {
         name: Text,
@@ -43,7 +43,7 @@ pub enum Form {
 
 /// Statements one after another.
 #[cycle(tree)]
-#[derive(Debug, Drop)]
+#[derive(Drop)]
 pub struct Block {
     pub items: Vec<Statement>,
 }

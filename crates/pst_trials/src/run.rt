@@ -34,7 +34,7 @@ impl Score {
 
 /// How source and sink behave in a run: how many bytes a read gives and a write takes at most, the numbers of the reads and writes
 /// that fail, and how many bytes can be written in all.
-#[derive(Drop, Debug)]
+#[derive(Debug, Drop)]
 pub(crate) struct Devices {
     pub(crate) read: usize,
     pub(crate) write: usize,

@@ -23,7 +23,7 @@ use pst_typing::TypeFault;
 use std::alloc::{AllocError, Global};
 
 /// A procedure as it was written, without its body.
-#[derive(Clone, Copy, Debug)]
+#[derive(Clone, Copy)]
 pub(crate) struct ProcedureHead<'t> {
     pub(crate) line: u32,
     pub(crate) query: bool,

@@ -32,7 +32,7 @@ use std::alloc::{AllocError, Global};
 use std::mem;
 
 /// A typed program as far as it is made.
-#[derive(Debug, Drop)]
+#[derive(Drop)]
 pub(crate) struct Draft {
     pub(crate) shape: Vec<TypeShape>,
     pub(crate) names: Vec<TypeEntry>,
