@@ -4,7 +4,7 @@ use Rattle.pst_program.specs.Syntax.{Action}
 use Rattle.pst_code.specs.declared.instr.Instr.{Instr}
 use Rattle.pst_compiled.specs.Code.{Temp, action_code}
 use Rattle.pst_compiled.specs.Needs.{temp_of}
-use Rattle.pst_codegen.specs.declared.layout.Layout.{Layout}
+use Rattle.pst_conditions.specs.declared.layout.Layout.{Layout}
 
 -- the temporary registers of a procedure
 abbrev pub temps_of : Layout → Temp

@@ -9,14 +9,12 @@ ghost use Rattle.pst_compiled.specs.Needs.{temp_of};
 ghost use Rattle.pst_registers.specs.Ready.{HasNoted, IsTest, IsReady, AreReady};
 ghost use Rattle.pst_codegen.specs.Made.{code_by};
 
-use crate::conditions::{after, emit_test, test_len};
-use crate::expressions::put;
-use crate::layout::Layout;
 use crate::statements::{
     emit_call, emit_print, emit_return, emit_set, emit_set_root, emit_store, emit_store_element,
 };
 use pst_base::NoMemory;
 use pst_code::{Instr, Reg};
+use pst_conditions::{Layout, after, emit_test, put, test_len};
 use pst_program::{Typed, TypedBlock, TypedForm, TypedStatement};
 use std::alloc::Global;
 

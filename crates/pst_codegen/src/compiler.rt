@@ -9,11 +9,10 @@ ghost use Rattle.pst_compiled.specs.Compiled.{procedure_code, code_of};
 ghost use Rattle.pst_registers.specs.Ready.{HasNoted, HasEnd, IsReadyProcedure};
 
 use crate::blocks::emit_block;
-use crate::expressions::put;
-use crate::layout::Layout;
 use pst_base::{Kind, Kinds, NoMemory, TypeShape};
 use pst_code::{Code, Instr, Instrs, Parts, Procedure, ProcedureList};
 use pst_compiled::Need;
+use pst_conditions::{Layout, put};
 use pst_program::{Program, TypedProc};
 use pst_registers::table_of;
 use std::alloc::Global;

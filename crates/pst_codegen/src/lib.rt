@@ -6,7 +6,7 @@
 //!
 //! Each procedure takes two passes: the first notes which temporary registers its code needs, one for each level and kind, and
 //! the second adds the instructions. Jumps are known before they are added, since the length of a condition does not depend on
-//! where it stands, and a nested block is made as a list of its own.
+//! where it stands (`pst_conditions`), and a nested block is made as a list of its own.
 //!
 //! For example `while x < 5` with a body of three instructions in line 1 is `charge 1`, `const r1 5`, `jumpge r0 r1 7`, the body,
 //! `jump 0`.
@@ -14,9 +14,6 @@
 
 mod blocks;
 mod compiler;
-mod conditions;
-mod expressions;
-mod layout;
 mod statements;
 
 pub use compiler::compile;

@@ -1,4 +1,4 @@
-//! The code of statements and blocks.
+//! The code of statements that hold no others.
 
 ghost use Rattle.std.specs.Prelude.{◌≡◌, ◌++◌, map, IfOk, OnOk};
 ghost use Rattle.std.specs.Option.{option_map};
@@ -7,10 +7,9 @@ ghost use Rattle.pst_compiled.specs.Code.{arguments_code, registers, set_code, s
 ghost use Rattle.pst_codegen.specs.Made.{temps_of};
 ghost use Rattle.pst_registers.specs.Ready.{HasNoted, IsOperand, AreArguments, IsResult};
 
-use crate::expressions::{emit_expr, put};
-use crate::layout::Layout;
 use pst_base::{NoMemory, ProcNo, SlotNo};
 use pst_code::{Instr, Reg, Regs};
+use pst_conditions::{Layout, emit_expr, put};
 use pst_program::{Typed, TypedList};
 use std::alloc::Global;
 

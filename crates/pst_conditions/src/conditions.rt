@@ -5,7 +5,7 @@ ghost use Rattle.pst_program.specs.View.{expr_of};
 ghost use Rattle.pst_compiled.specs.Code.{reg, arithmetic, opposite, jump_of, compare_code, test_size, test_code};
 ghost use Rattle.pst_compiled.specs.Needs.{temp_of};
 ghost use Rattle.pst_registers.specs.Ready.{HasNoted, IsOperand, IsTest};
-ghost use Rattle.pst_codegen.specs.Sizes.{expr_size, comparison_code};
+ghost use Rattle.pst_conditions.specs.Sizes.{expr_size, comparison_code};
 
 use crate::expressions::{emit_expr, put};
 use crate::layout::Layout;

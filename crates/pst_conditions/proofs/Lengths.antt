@@ -9,7 +9,7 @@ use Rattle.pst_code.specs.declared.instr.Reg.{Reg}
 use Rattle.pst_code.specs.declared.instr.Instr.{Instr}
 use Rattle.pst_code.specs.declared.instr.Instr.TheVariants as code
 use Rattle.pst_compiled.specs.Code.{Temp, reg, slot_no, register, arithmetic, expr_code}
-use Rattle.pst_codegen.specs.Sizes.{expr_size}
+use Rattle.pst_conditions.specs.Sizes.{expr_size}
 
 arithmetic_length : (operator : Op) (d a b : Reg) → length (arithmetic operator d a b) ≡ length (arithmetic operator (reg 0) (reg 0) (reg 0))
 arithmetic_length Add d a b = refl
