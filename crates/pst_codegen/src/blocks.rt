@@ -7,14 +7,15 @@ ghost use Rattle.pst_program.specs.View.{expr_of, action_of, actions_of};
 ghost use Rattle.pst_compiled.specs.Code.{block_code};
 ghost use Rattle.pst_compiled.specs.Needs.{temp_of};
 ghost use Rattle.pst_registers.specs.Ready.{HasNoted, IsTest, IsReady, AreReady};
-ghost use Rattle.pst_codegen.specs.Made.{code_by};
+ghost use Rattle.pst_actions.specs.Made.{code_by};
 
-use crate::statements::{
-    emit_call, emit_print, emit_return, emit_set, emit_set_root, emit_store, emit_store_element,
+use pst_actions::{
+    emit_call, emit_choice, emit_guarded, emit_print, emit_return, emit_set, emit_set_root,
+    emit_store, emit_store_element,
 };
 use pst_base::NoMemory;
 use pst_code::{Instr, Reg};
-use pst_conditions::{Layout, after, emit_test, put, test_len};
+use pst_conditions::{Layout, after, put, test_len};
 use pst_program::{Typed, TypedBlock, TypedForm, TypedStatement};
 use std::alloc::Global;
 
@@ -113,11 +114,9 @@ fn emit_if(
 {
     let test = after(at, 1)?;
     let start = after(test, test_len(layout, condition)?)?;
-    let mut first = emit_block(alloc, layout, yes, start)?;
+    let first = emit_block(alloc, layout, yes, start)?;
     let end = behind(start, &first)?;
-    put(code, Instr::Charge(line))?;
-    emit_test(code, layout, condition, false, end, test)?;
-    code.append(&mut first)
+    emit_guarded(code, layout, condition, first, line, test, end)
 }
 
 /// Adds the code of a choice with two sides.
@@ -139,15 +138,13 @@ fn emit_either(
 {
     let test = after(at, 1)?;
     let start = after(test, test_len(layout, condition)?)?;
-    let mut first = emit_block(alloc, layout, yes, start)?;
+    let first = emit_block(alloc, layout, yes, start)?;
     let middle = after(behind(start, &first)?, 1)?;
-    let mut other = emit_block(alloc, layout, no, middle)?;
+    let other = emit_block(alloc, layout, no, middle)?;
     let end = behind(middle, &other)?;
-    put(code, Instr::Charge(line))?;
-    emit_test(code, layout, condition, false, middle, test)?;
-    code.append(&mut first)?;
-    put(code, Instr::Jump(end))?;
-    code.append(&mut other)
+    emit_choice(
+        code, layout, condition, first, other, line, test, middle, end,
+    )
 }
 
 /// Adds the code of a loop, which goes back to its charge.
@@ -167,10 +164,8 @@ fn emit_while(
 {
     let test = after(at, 1)?;
     let start = after(test, test_len(layout, condition)?)?;
-    let mut turn = emit_block(alloc, layout, body, start)?;
+    let turn = emit_block(alloc, layout, body, start)?;
     let end = after(behind(start, &turn)?, 1)?;
-    put(code, Instr::Charge(line))?;
-    emit_test(code, layout, condition, false, end, test)?;
-    code.append(&mut turn)?;
+    emit_guarded(code, layout, condition, turn, line, test, end)?;
     put(code, Instr::Jump(at))
 }

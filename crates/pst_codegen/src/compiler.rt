@@ -1,18 +1,17 @@
 //! The compiler.
 
-ghost use Rattle.std.specs.Prelude.{◌≡◌, ◌++◌, map, length, IfOk, OnOk};
+ghost use Rattle.std.specs.Prelude.{◌≡◌, ◌++◌, map, IfOk};
 ghost use Rattle.pst_program.specs.Typed.{IsTyped};
 ghost use Rattle.pst_program.specs.View.{routines_of, procedure_of};
-ghost use Rattle.pst_compiled.specs.Code.{end_code};
-ghost use Rattle.pst_compiled.specs.Needs.{table_of, temp_of};
 ghost use Rattle.pst_compiled.specs.Compiled.{procedure_code, code_of};
-ghost use Rattle.pst_registers.specs.Ready.{HasNoted, HasEnd, IsReadyProcedure};
+ghost use Rattle.pst_registers.specs.Ready.{IsReadyProcedure};
 
 use crate::blocks::emit_block;
-use pst_base::{Kind, Kinds, NoMemory, TypeShape};
-use pst_code::{Code, Instr, Instrs, Parts, Procedure, ProcedureList};
+use pst_actions::emit_end;
+use pst_base::{Kinds, NoMemory, TypeShape};
+use pst_code::{Code, Instrs, Parts, Procedure, ProcedureList};
 use pst_compiled::Need;
-use pst_conditions::{Layout, put};
+use pst_conditions::Layout;
 use pst_program::{Program, TypedProc};
 use pst_registers::table_of;
 use std::alloc::Global;
@@ -26,24 +25,6 @@ fn register_kinds(locals: &Kinds, table: &[Need]) -> Result<Kinds, NoMemory>
         kinds.push(need.kind)?;
     }
     Ok(Kinds::from_vec(kinds))
-}
-
-/// Adds the code that ends a procedure without `return`.
-fn emit_end(code: &mut Vec<Instr>, layout: &Layout<'_>, kind: Option<Kind>) -> Result<(), NoMemory>
-    requires { HasEnd (HasNoted layout.now.table) kind }
-    ensures { OnOk result (code.new.items ≡ code.old.items ++ end_code (temp_of layout.now.locals layout.now.table) kind) }
-{
-    match kind {
-        None => put(code, Instr::Return(None)),
-        Some(kind) => {
-            let d = layout.temporary(0, kind);
-            match kind {
-                Kind::Int => put(code, Instr::Const(d, 0))?,
-                Kind::Pointer(_) => put(code, Instr::Null(d))?,
-            }
-            put(code, Instr::Return(Some(d)))
-        }
-    }
 }
 
 /// The code of a procedure.

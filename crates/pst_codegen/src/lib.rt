@@ -14,6 +14,5 @@
 
 mod blocks;
 mod compiler;
-mod statements;
 
 pub use compiler::compile;

@@ -3,7 +3,7 @@ use Rattle.pst_program.specs.View.{expr_of}
 use Rattle.pst_compiled.specs.Code.{arguments_code, registers}
 use Rattle.pst_compiled.specs.Needs.{temp_of}
 use Rattle.pst_registers.specs.Ready.{HasNoted, AreArguments}
-use Rattle.pst_codegen.proofs.statements.emit_arguments.Given as goal
+use Rattle.pst_actions.proofs.statements.emit_arguments.Given as goal
 
 abbrev pub invariant-loop-e : goal.invariant-loop-e
 invariant-loop-e l = record {

@@ -4,7 +4,7 @@ ghost use Rattle.std.specs.Prelude.{◌≡◌, ◌++◌, map, IfOk, OnOk};
 ghost use Rattle.std.specs.Option.{option_map};
 ghost use Rattle.pst_program.specs.View.{expr_of};
 ghost use Rattle.pst_compiled.specs.Code.{arguments_code, registers, set_code, set_root_code, store_code, store_element_code, call_code, print_code, return_code};
-ghost use Rattle.pst_codegen.specs.Made.{temps_of};
+ghost use Rattle.pst_actions.specs.Made.{temps_of};
 ghost use Rattle.pst_registers.specs.Ready.{HasNoted, IsOperand, AreArguments, IsResult};
 
 use pst_base::{NoMemory, ProcNo, SlotNo};
