@@ -17,7 +17,7 @@ use Rattle.pst_program.specs.declared.meaning.Value.{Value}
 use Rattle.pst_program.specs.declared.meaning.Value.TheVariants.{Number as ANumber}
 use Rattle.pst_program.specs.Syntax as syntax
 use Rattle.pst_program.specs.Syntax.{Expr, Action}
-use Rattle.pst_program.specs.Value.{Env, Answer, Gives, Traps, value}
+use Rattle.pst_program.specs.Value.{Env, Answer, Gives, Traps, number_of, index_of, value}
 use Rattle.pst_program.specs.Sound.{NamesAreFree}
 use Rattle.pst_program.specs.Meaning.{World, Ending, Normal, Returned, Trapped, Spent, Answers, Gives_all, Traps_at, Calls, call, call_with, exec, exec_action, turns, run_body, if_else, with_index, with_answer, write, store_element}
 use Rattle.pst_program.specs.View.{expr_of, action_of, actions_of, routines_of}
@@ -43,6 +43,11 @@ ending_of EndNormal env w = Normal env w
 ending_of (Return v) env w = Returned v w
 ending_of (Trap t line) env w = Trapped t line w
 ending_of (EndSpent line) env w = Spent line w
+
+-- the end of all, or what goes on where there is none
+abbrev pub last_or : Option End → (World → Ending) → World → Ending
+last_or None go w = go w
+last_or (Some end) go w = ending_of end [] w
 
 -- no body of a procedure is deeper
 abbrev pub deepest : List TypedProc → ℕ
@@ -86,6 +91,11 @@ IsSimple (syntax.While e body) = ⊥
 abbrev pub element_written : List TypeShape → Name → (slot : ℕ) → (index : Option ℕ) → Expr → (line : ℕ) → Env → World → Ending
 element_written shape n slot index e line env w =
     with_index index line w (λ k. with_answer (value shape e env w.heap) line w (λ v. write shape n (slot + k) v line env w))
+
+-- the same, where the index is evaluated first
+abbrev pub indexed_written : List TypeShape → Name → (slot elements : ℕ) → (index e : Expr) → (line : ℕ) → Env → World → Ending
+indexed_written shape n slot elements index e line env w =
+    with_answer (value shape index env w.heap) line w (λ i. element_written shape n slot (index_of elements (number_of i)) e line env w)
 
 -- the counts have room for so many charges more
 pub record HasRoom (charges : ℕ) (t : Tally) : Type 0 where

@@ -1,9 +1,10 @@
 //! The calls of a run, one after another.
 
 ghost use Rattle.std.specs.Prelude.{◌≡◌, [], map, IfOk, OnOk};
-ghost use Rattle.pst_program.specs.Outcome.{calls_of, in_order, one_call, task_call};
+ghost use Rattle.pst_program.specs.Meaning.{World, Ending};
+ghost use Rattle.pst_program.specs.Outcome.{calls_of, in_order, next_call, one_call, task_call};
 ghost use Rattle.pst_program.specs.View.{routines_of};
-ghost use Rattle.pst_eval.specs.Ends.{ending_of, world_of, IsAtWork};
+ghost use Rattle.pst_eval.specs.Ends.{ending_of, last_or, world_of, IsAtWork};
 
 use crate::run::run_body;
 use crate::tally::{End, Tally};
@@ -11,9 +12,6 @@ use pst_base::NoMemory;
 use pst_heap::PlainHeap;
 use pst_program::{ProcCall, Program, Value};
 use std::alloc::Global;
-
-/// How many more calls may become active beside the first.
-const DEEP: u32 = 255;
 
 /// Carries out calls in order, each with what the one before left, until one traps or a charge is due that is not there.
 pub fn run_calls(
@@ -28,14 +26,24 @@ pub fn run_calls(
     ensures at_work { OnOk result (IsAtWork program.now.shape heap.new tally.new) }
 {
     for call in calls {
-        match run_one(alloc, program, call, heap, tally)? {
-            End::Normal => {}
-            End::Return(_) => {}
-            End::Trap(kind, line) => return Ok(End::Trap(kind, line)),
-            End::Spent(line) => return Ok(End::Spent(line)),
+        match last(run_one(alloc, program, call, heap, tally)?) {
+            None => {}
+            Some(end) => return Ok(end),
         }
     }
     Ok(End::Return(None))
+}
+
+/// The end of all, where the end of a call is that: a trap, or a charge that is not there.
+fn last(end: End) -> Option<End>
+    ensures { (w : World) (go : World → Ending) → next_call (ending_of end [] w) go ≡ last_or result go w }
+{
+    match end {
+        End::Normal => None,
+        End::Return(_) => None,
+        End::Trap(kind, line) => Some(End::Trap(kind, line)),
+        End::Spent(line) => Some(End::Spent(line)),
+    }
 }
 
 /// Carries out one call, whose procedure is the first of 256 calls that may be active.
@@ -51,7 +59,22 @@ fn run_one(
     ensures at_work { OnOk result (IsAtWork program.now.shape heap.new tally.new) }
 {
     let values = numbers(alloc, call.arguments.as_slice())?;
-    run_body(alloc, program, DEEP, call.procedure.0, values, heap, tally)
+    run_body(
+        alloc,
+        program,
+        more_calls(),
+        call.procedure.0,
+        values,
+        heap,
+        tally,
+    )
+}
+
+/// How many more calls may become active beside the first: 256 in all.
+fn more_calls() -> u32
+    ensures { result ≡ 255 }
+{
+    255
 }
 
 /// The arguments as values.

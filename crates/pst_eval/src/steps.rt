@@ -5,7 +5,7 @@ ghost use Rattle.std.specs.Option.{option_map};
 ghost use Rattle.pst_program.specs.declared.meaning.Value.{Value};
 ghost use Rattle.pst_program.specs.Meaning.{World, Ending, Calls, set_local, set_root, store_field, make, print_value, return_value, is_target};
 ghost use Rattle.pst_program.specs.View.{expr_of, action_of};
-ghost use Rattle.pst_eval.specs.Ends.{Chooses, ending_of, world_of, step_end, element_store_end, element_written, IsSimple, IsAtWork, IsCharged};
+ghost use Rattle.pst_eval.specs.Ends.{Chooses, ending_of, world_of, step_end, element_store_end, element_written, indexed_written, IsSimple, IsAtWork, IsCharged};
 
 use crate::tally::{End, Tally};
 use crate::value::{element_slot, index_of, number, value};
@@ -161,14 +161,36 @@ fn store_element(
     }
     match value(object, env, heap) {
         Err(trap) => End::Trap(trap, line),
-        Ok(Value::Record(name)) => match value(index, env, heap) {
-            Err(trap) => End::Trap(trap, line),
-            Ok(index) => {
-                let index = index_of(elements, number(index));
-                write_element(name, slot, index, e, line, env, heap, tally)
-            }
-        },
+        Ok(Value::Record(name)) => {
+            write_indexed(name, slot, elements, index, e, line, env, heap, tally)
+        }
         _ => End::Trap(TrapKind::Null, line),
+    }
+}
+
+/// Evaluates the index of an element of a record, whose charge was taken, and writes the element.
+fn write_indexed(
+    name: Name,
+    slot: SlotNo,
+    elements: u8,
+    index: &Typed,
+    e: &Typed,
+    line: u32,
+    env: &[Value],
+    heap: &mut PlainHeap,
+    tally: &mut Tally,
+) -> End
+    requires ready { IsCharged heap.old.shape heap.old tally.old }
+    ensures meaning { ending_of result env.now (world_of heap.new tally.new) ≡ indexed_written heap.old.shape name slot.0 elements (expr_of index.now) (expr_of e.now) line env.now (world_of heap.old tally.old) }
+    ensures ready { IsAtWork heap.old.shape heap.new tally.new }
+    ensures same_charges { tally.new.charges ≡ tally.old.charges }
+{
+    match value(index, env, heap) {
+        Err(trap) => End::Trap(trap, line),
+        Ok(index) => {
+            let index = index_of(elements, number(index));
+            write_element(name, slot, index, e, line, env, heap, tally)
+        }
     }
 }
 
