@@ -1,12 +1,12 @@
 //! The text of expressions.
 
-ghost use Rattle.std.specs.Prelude.{◌≡◌, ◌++◌, OnOk};
+ghost use Rattle.std.specs.Prelude.{◌≡◌, ◌++◌, OnOk, codes};
 ghost use Rattle.std.specs.Fmt.{signed_decimal};
 ghost use Rattle.pst_tree.specs.View.{expr_of};
 ghost use Rattle.pst_notation.specs.Canonical.{op_text, expr_text};
 
 use itoa::Buffer;
-use pst_base::{NoMemory, Op};
+use pst_base::{NoMemory, Op, Text};
 use pst_tree::Expression;
 
 /// Puts a number.
@@ -38,6 +38,23 @@ fn op_text(op: Op) -> &'static [u8]
     }
 }
 
+/// Puts an operator between blanks.
+fn put_op(out: &mut Vec<u8>, op: Op) -> Result<(), NoMemory>
+    ensures { OnOk result (out.new.items ≡ out.old.items ++ codes " " ++ op_text op ++ codes " ") }
+{
+    out.extend_from_slice(b" ")?;
+    out.extend_from_slice(op_text(op))?;
+    out.extend_from_slice(b" ")
+}
+
+/// Puts a dot and the name of a field.
+fn put_field_name(out: &mut Vec<u8>, name: &Text) -> Result<(), NoMemory>
+    ensures { OnOk result (out.new.items ≡ out.old.items ++ codes "." ++ name.now) }
+{
+    out.extend_from_slice(b".")?;
+    out.extend_from_slice(name.as_slice())
+}
+
 /// Puts an expression.
 pub fn put_expression(out: &mut Vec<u8>, e: &Expression) -> Result<(), NoMemory>
     ensures { OnOk result (out.new.items ≡ out.old.items ++ expr_text (expr_of e.now)) }
@@ -53,8 +70,7 @@ pub fn put_expression(out: &mut Vec<u8>, e: &Expression) -> Result<(), NoMemory>
         }
         Expression::Field { object, name } => {
             put_expression(out, object)?;
-            out.extend_from_slice(b".")?;
-            out.extend_from_slice(name.as_slice())?;
+            put_field_name(out, name)?;
         }
         Expression::Indexed {
             object,
@@ -62,8 +78,7 @@ pub fn put_expression(out: &mut Vec<u8>, e: &Expression) -> Result<(), NoMemory>
             index,
         } => {
             put_expression(out, object)?;
-            out.extend_from_slice(b".")?;
-            out.extend_from_slice(name.as_slice())?;
+            put_field_name(out, name)?;
             out.extend_from_slice(b"(")?;
             put_expression(out, index)?;
             out.extend_from_slice(b")")?;
@@ -78,9 +93,7 @@ pub fn put_expression(out: &mut Vec<u8>, e: &Expression) -> Result<(), NoMemory>
         }
         Expression::Binary { op, left, right } => {
             put_expression(out, left)?;
-            out.extend_from_slice(b" ")?;
-            out.extend_from_slice(op_text(*op))?;
-            out.extend_from_slice(b" ")?;
+            put_op(out, *op)?;
             put_expression(out, right)?;
         }
     }
