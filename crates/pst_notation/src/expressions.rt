@@ -60,17 +60,17 @@ pub fn put_expression(out: &mut Vec<u8>, e: &Expression) -> Result<(), NoMemory>
     ensures { OnOk result (out.new.items ≡ out.old.items ++ expr_text (expr_of e.now)) }
 {
     match e {
-        Expression::Number(n) => put_number(out, *n)?,
-        Expression::Null => out.extend_from_slice(b"null")?,
-        Expression::Name(x) => out.extend_from_slice(x.as_slice())?,
+        Expression::Number(n) => put_number(out, *n),
+        Expression::Null => out.extend_from_slice(b"null"),
+        Expression::Name(x) => out.extend_from_slice(x.as_slice()),
         Expression::Parens(inner) => {
             out.extend_from_slice(b"(")?;
             put_expression(out, inner)?;
-            out.extend_from_slice(b")")?;
+            out.extend_from_slice(b")")
         }
         Expression::Field { object, name } => {
             put_expression(out, object)?;
-            put_field_name(out, name)?;
+            put_field_name(out, name)
         }
         Expression::Indexed {
             object,
@@ -81,21 +81,20 @@ pub fn put_expression(out: &mut Vec<u8>, e: &Expression) -> Result<(), NoMemory>
             put_field_name(out, name)?;
             out.extend_from_slice(b"(")?;
             put_expression(out, index)?;
-            out.extend_from_slice(b")")?;
+            out.extend_from_slice(b")")
         }
         Expression::Negate(operand) => {
             out.extend_from_slice(b"-")?;
-            put_expression(out, operand)?;
+            put_expression(out, operand)
         }
         Expression::Not(operand) => {
             out.extend_from_slice(b"not ")?;
-            put_expression(out, operand)?;
+            put_expression(out, operand)
         }
         Expression::Binary { op, left, right } => {
             put_expression(out, left)?;
             put_op(out, *op)?;
-            put_expression(out, right)?;
+            put_expression(out, right)
         }
     }
-    Ok(())
 }
