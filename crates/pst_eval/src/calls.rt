@@ -13,6 +13,9 @@ use pst_heap::PlainHeap;
 use pst_program::{ProcCall, Program, Value};
 use std::alloc::Global;
 
+/// How many more calls may become active beside the first.
+const DEEP: u32 = 255;
+
 /// Carries out calls in order, each with what the one before left, until one traps or a charge is due that is not there.
 pub fn run_calls(
     alloc: Global,
@@ -26,9 +29,8 @@ pub fn run_calls(
     ensures at_work { OnOk result (IsAtWork program.now.shape heap.new tally.new) }
 {
     for call in calls {
-        match last(run_one(alloc, program, call, heap, tally)?) {
-            None => {}
-            Some(end) => return Ok(end),
+        if let Some(end) = last(run_one(alloc, program, call, heap, tally)?) {
+            return Ok(end);
         }
     }
     Ok(End::Return(None))
@@ -59,22 +61,7 @@ fn run_one(
     ensures at_work { OnOk result (IsAtWork program.now.shape heap.new tally.new) }
 {
     let values = numbers(alloc, call.arguments.as_slice())?;
-    run_body(
-        alloc,
-        program,
-        more_calls(),
-        call.procedure.0,
-        values,
-        heap,
-        tally,
-    )
-}
-
-/// How many more calls may become active beside the first: 256 in all.
-fn more_calls() -> u32
-    ensures { result ≡ 255 }
-{
-    255
+    run_body(alloc, program, DEEP, call.procedure.0, values, heap, tally)
 }
 
 /// The arguments as values.
