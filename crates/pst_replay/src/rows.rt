@@ -1,6 +1,6 @@
 //! Look-ups in a history, and its changes.
 
-ghost use Rattle.std.specs.Prelude.{◌≡◌, ◌<◌, ◌≤◌, ◌-◌, ◌+◌, ◌∷◌, ◌++◌, [], length, map, IsSome, IfOk, OnOk, slice_get};
+ghost use Rattle.std.specs.Prelude.{◌≡◌, ◌<◌, ◌≤◌, ◌-◌, ◌+◌, ◌∷◌, ◌++◌, [], length, map, min, IsSome, IfOk, OnOk, slice_get};
 ghost use Rattle.pst_history.specs.History.{numbered, called_more, granted_more, closed_run, dropped_run, call_of};
 ghost use Rattle.pst_replay.specs.Replay.{Opens, Changes};
 
@@ -109,7 +109,14 @@ pub(crate) fn grant(history: &mut Since, number: RunNo, charges: u32)
 {
     let index = index_of(history, number);
     let run = &mut history.runs.items[index];
-    run.granted = run.granted.saturating_add(charges).min(run.budget);
+    run.granted = raised(run.granted, charges, run.budget);
+}
+
+/// So many charges more than were granted, up to the budget.
+fn raised(granted: u32, charges: u32, budget: u32) -> u32
+    ensures { result ≡ min (granted + charges) budget }
+{
+    granted.saturating_add(charges).min(budget)
 }
 
 /// Grants a run its budget, and closes it.
