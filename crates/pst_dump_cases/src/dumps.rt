@@ -1,6 +1,7 @@
 //! Dumps as texts.
 
 use super::built::{Built, FIRST, KEY, LEFT, RIGHT, ROOT, SECOND, SIZE, Trouble, item};
+use pst_base::SlotNo;
 
 #[test]
 fn the_root_record_alone(rt: HostRuntime) -> Result<(), Trouble> {
@@ -28,24 +29,55 @@ fn a_list_whose_first_item_came_last(rt: HostRuntime) -> Result<(), Trouble> {
     Ok(())
 }
 
-#[test]
-fn a_shared_item_a_ring_and_one_that_nothing_reaches(rt: HostRuntime) -> Result<(), Trouble> {
-    let mut heap = Built::new(rt.alloc())?;
+/// Numbers of items: the ordinal of the item, the field and the number.
+const NUMBERS: [(u32, SlotNo, i64); 4] = [
+    (0, SIZE, -9_223_372_036_854_775_808),
+    (1, KEY, 9_223_372_036_854_775_807),
+    (2, KEY, -1),
+    (2, SIZE, 10),
+];
+
+/// Pointers between items: the ordinal of the item, the field and the ordinal of the target.
+const POINTERS: [(u32, SlotNo, u32); 6] = [
+    (3, RIGHT, 2),
+    (2, LEFT, 3),
+    (2, RIGHT, 0),
+    (1, LEFT, 0),
+    (1, RIGHT, 1),
+    (4, LEFT, 0),
+];
+
+/// Makes five items with these numbers, points the roots to two of them, and then sets the pointers between them.
+fn five_items(heap: &mut Built) -> Result<(), Trouble> {
     for ordinal in 0..5 {
         heap.make(item(ordinal))?;
     }
-    heap.set(item(0), SIZE, -9_223_372_036_854_775_808)?;
-    heap.set(item(1), KEY, 9_223_372_036_854_775_807)?;
-    heap.set(item(2), KEY, -1)?;
-    heap.set(item(2), SIZE, 10)?;
+    set_numbers(heap)?;
     heap.point(ROOT, FIRST, Some(item(3)))?;
     heap.point(ROOT, SECOND, Some(item(1)))?;
-    heap.point(item(3), RIGHT, Some(item(2)))?;
-    heap.point(item(2), LEFT, Some(item(3)))?;
-    heap.point(item(2), RIGHT, Some(item(0)))?;
-    heap.point(item(1), LEFT, Some(item(0)))?;
-    heap.point(item(1), RIGHT, Some(item(1)))?;
-    heap.point(item(4), LEFT, Some(item(0)))?;
+    set_pointers(heap)
+}
+
+/// Sets the numbers.
+fn set_numbers(heap: &mut Built) -> Result<(), Trouble> {
+    for (ordinal, field, n) in NUMBERS {
+        heap.set(item(ordinal), field, n)?;
+    }
+    Ok(())
+}
+
+/// Sets the pointers between items.
+fn set_pointers(heap: &mut Built) -> Result<(), Trouble> {
+    for (ordinal, field, target) in POINTERS {
+        heap.point(item(ordinal), field, Some(item(target)))?;
+    }
+    Ok(())
+}
+
+#[test]
+fn a_shared_item_a_ring_and_one_that_nothing_reaches(rt: HostRuntime) -> Result<(), Trouble> {
+    let mut heap = Built::new(rt.alloc())?;
+    five_items(&mut heap)?;
     let wanted: &[u8] = b"0 root: @1 @2
 1 N: 0 0 null @3
 2 N: 9223372036854775807 0 @4 @2
