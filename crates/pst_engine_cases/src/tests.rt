@@ -121,14 +121,20 @@ versions
 => 2 from 1
 ";
 
+/// Tells a story anew, and a second one after the engine is made anew.
+fn tell_twice(alloc: Global, before: &str, after: &str) -> Result<(Vec<u8>, Vec<u8>), Trouble> {
+    let mut twins = begin(alloc, LIST)?;
+    let first = tell_anew(alloc, &mut twins, before)?;
+    let mut twins = twins.renewed();
+    let second = tell_anew(alloc, &mut twins, after)?;
+    Ok((first, second))
+}
+
 #[test]
 fn an_engine_of_the_same_four_fields_goes_on(rt: HostRuntime) -> Result<(), Trouble> {
-    let mut twins = begin(rt.alloc(), LIST)?;
-    let told = tell_anew(rt.alloc(), &mut twins, BEFORE)?;
-    assert!(rt; told.as_slice() == BEFORE.as_bytes());
-    let mut twins = twins.renewed();
-    let told = tell_anew(rt.alloc(), &mut twins, AFTER)?;
-    assert!(rt; told.as_slice() == AFTER.as_bytes());
+    let (before, after) = tell_twice(rt.alloc(), BEFORE, AFTER)?;
+    assert!(rt; before.as_slice() == BEFORE.as_bytes());
+    assert!(rt; after.as_slice() == AFTER.as_bytes());
     Ok(())
 }
 

@@ -88,6 +88,62 @@ fn start<O: Order + Drop, N: FatNodes>(
     }
 }
 
+/// The number of forks of version 0 at which a number is written.
+const FORKS: u32 = 12;
+
+/// What a store has after numbers were written at forks of version 0.
+#[derive(Drop)]
+struct Written {
+    /// The most stamped values that a node of the root record keeps, and how many nodes there were before the writes.
+    capacity: u32,
+    nodes_before: u64,
+    /// The number at version 0, and at each fork.
+    first: i64,
+    numbers: Vec<i64>,
+    value_writes: u64,
+    pending: bool,
+    nodes: u64,
+    potential: u64,
+}
+
+/// Writes at the forks of a place, and answers the number there and those at the forks.
+fn write_and_read<H: VersionedHeap>(
+    alloc: Global,
+    heap: &mut H,
+    from: H::Place,
+) -> Result<(i64, Vec<i64>), NoMemory>
+    requires { IsReady (H.state heap.old) from NUMBER.0 100 }
+{
+    let places = write_at_forks(alloc, heap, from, NUMBER, FORKS)?;
+    let first = number(heap, from, NUMBER);
+    Ok((first, numbers(alloc, heap, &places, NUMBER)?))
+}
+
+/// The same in an empty store.
+fn write_in_new<O: Order + Drop, N: FatNodes>(
+    alloc: Global,
+    store: &mut StoreOf<O, N>,
+    shape: &Shape,
+) -> Result<Option<Written>, NoMemory>
+    requires { store.old ≡ None }
+{
+    let Some((from, capacity)) = start(alloc, store, shape)? else {
+        return Ok(None);
+    };
+    let nodes_before = store.nodes();
+    let (first, numbers) = write_and_read(alloc, store, from)?;
+    Ok(Some(Written {
+        capacity,
+        nodes_before,
+        first,
+        numbers,
+        value_writes: store.counts().value_writes,
+        pending: store.pending(),
+        nodes: store.nodes(),
+        potential: store.potential(),
+    }))
+}
+
 /// Starts an empty store, forks version 0, links two items there, and answers the fork and what the first one holds.
 fn link<O: Order + Drop, N: FatNodes>(
     alloc: Global,
@@ -150,23 +206,16 @@ fn each_fork_keeps_its_number_through_the_splits(rt: HostRuntime) -> Result<(), 
     let alloc = rt.alloc();
     let shape = shape(alloc)?;
     let mut store = Store::empty();
-    let Some((from, capacity)) = start(alloc, &mut store, &shape)? else {
+    let Some(written) = write_in_new(alloc, &mut store, &shape)? else {
         panic!(rt; "the shape is valid");
     };
-    assert_eq!(rt; capacity, 4);
-    assert_eq!(rt; store.nodes(), 1);
-    let places = write_at_forks(alloc, &mut store, from, NUMBER, 12)?;
+    assert_eq!(rt; (written.capacity, written.nodes_before), (4, 1));
     let wanted: [i64; 12] = [0, 1, 2, 3, 4, 5, 6, 7, 8, 9, 10, 11];
-    assert_eq!(rt;
-        numbers(alloc, &store, &places, NUMBER)?.as_slice(),
-        wanted.as_slice()
-    );
-    assert_eq!(rt; number(&store, from, NUMBER), 0);
-    assert_eq!(rt; store.counts().value_writes, 12);
-    assert!(rt; !store.pending());
-    let nodes = store.nodes();
-    assert!(rt; 5 <= nodes && nodes <= 25);
-    assert!(rt; store.potential() <= 25 - nodes);
+    assert_eq!(rt; written.numbers.as_slice(), wanted.as_slice());
+    assert_eq!(rt; written.first, 0);
+    assert_eq!(rt; (written.value_writes, written.pending), (12, false));
+    assert!(rt; 5 <= written.nodes && written.nodes <= 25);
+    assert!(rt; written.potential <= 25 - written.nodes);
     Ok(())
 }
 
