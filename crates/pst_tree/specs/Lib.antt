@@ -1,3 +1,4 @@
 pub mod Syntax
 pub mod View
 pub mod Depth
+pub mod Worked
