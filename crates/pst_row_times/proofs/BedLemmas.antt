@@ -7,8 +7,8 @@ use Rattle.pst_order.specs.declared.order.Pos.{Pos}
 use Rattle.pst_order.specs.Places.{rank, IsIn, IsInsertedAfter, AreRanked}
 use Rattle.pst_order.proofs.RankLemmas.{ranks_law, ranks_rise_law}
 use Rattle.pst_row_times.specs.declared.bed.Written.{Written}
-use Rattle.pst_rows.specs.Rows.{IsRowIn, IsInLife}
-use Rattle.pst_rows.specs.Changes.{slot_count, IsNewRow, IsSameRow, IsRowSet}
+use Rattle.pst_rows.specs.Rows.{IsInLife}
+use Rattle.pst_rows.specs.Changes.{slot_count, IsNewRow}
 use Rattle.pst_rows.proofs.RowLemmas.{insertions_keep_rows}
 use Rattle.pst_row_times.specs.declared.bed.Bed.{Bed}
 use Rattle.pst_row_times.specs.Beds.{IsReady}

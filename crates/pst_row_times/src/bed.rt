@@ -29,6 +29,15 @@ pub struct Bed {
     pub stamps: Vec<Written>,
 }
 
+/// What the slots hold at first.
+const BASE: [Content; 5] = [
+    Content::Number(0),
+    Content::Null,
+    Content::Null,
+    Content::Free,
+    Content::Free,
+];
+
 impl Bed {
     /// A new row, over an order of one place.
     pub fn new<O: Order>(alloc: Global, order: &mut O) -> Result<Bed, NoMemory>
@@ -39,14 +48,8 @@ impl Bed {
         let lo = order.first();
         let hi = order.insert_after(lo)?;
         let row = Row::new(alloc, &shape(alloc)?, lo, hi)?;
-        let mut places = Vec::new(alloc);
-        places.push(lo)?;
-        let mut base = Vec::new(alloc);
-        base.push(Content::Number(0))?;
-        base.push(Content::Null)?;
-        base.push(Content::Null)?;
-        base.push(Content::Free)?;
-        base.push(Content::Free)?;
+        let places = Vec::from_slice(alloc, &[lo])?;
+        let base = Vec::from_slice(alloc, &BASE)?;
         Ok(Bed {
             row,
             places,

@@ -3,6 +3,7 @@
 #![tactic(auto)]
 
 ghost use Rattle.std.specs.Prelude.{◌≤◌};
+ghost use Rattle.pst_row_times.specs.Beds.{IsReady};
 
 mod bed;
 mod checks;
@@ -111,6 +112,28 @@ fn time_last(rt: &HostRuntime, alloc: Global, scale: Scale) -> io::Result<()>
     print_time(rt, scale.timed, "insertions", insertions)
 }
 
+/// Reads a row so many times, and by going over its stamped values as well: whether both read the same, and how long each took.
+fn read_by_both(
+    rt: &HostRuntime,
+    bed: &Bed,
+    order: &LabelOrder,
+    slots: u16,
+    reads: u32,
+) -> io::Result<(bool, Duration, Duration)>
+    requires ready { IsReady order.now.places bed.now }
+    requires some { 1 ≤ slots }
+    requires few { slots ≤ 5 }
+{
+    let stride = 61 % bed.places.len();
+    let start = Instant::now(rt)?;
+    let sum = read_rows(bed, order, slots, stride, reads);
+    let rows = start.elapsed(rt)?;
+    let start = Instant::now(rt)?;
+    let scanned = scan_rows(bed, order, slots, stride, reads);
+    let scans = start.elapsed(rt)?;
+    Ok((sum == scanned, rows, scans))
+}
+
 /// Reads a row with so many stamped values in its first slots, and goes over them all as well.
 fn time_reads(
     rt: &HostRuntime,
@@ -126,18 +149,11 @@ fn time_reads(
     let mut order = LabelOrder::new(alloc)?;
     let mut bed = Bed::new(alloc, &mut order)?;
     fill(&mut bed, &mut order, count, slots)?;
-    let stride = 61 % bed.places.len();
-    let start = Instant::now(rt)?;
-    let sum = read_rows(&bed, &order, slots, stride, scale.reads);
-    let rows = start.elapsed(rt)?;
-    let start = Instant::now(rt)?;
-    let scanned = scan_rows(&bed, &order, slots, stride, scale.reads);
-    let scans = start.elapsed(rt)?;
+    let (is_same, rows, scans) = read_by_both(rt, &bed, &order, slots, scale.reads)?;
     println!(rt;
-        "{} reads of {} stamped values over {slots} slots, as by scans: {}",
+        "{} reads of {} stamped values over {slots} slots, as by scans: {is_same}",
         scale.reads,
-        bed.row.stamped(),
-        sum == scanned
+        bed.row.stamped()
     )?;
     print_time(rt, scale.timed, "reads", rows)?;
     print_time(rt, scale.timed, "scans", scans)

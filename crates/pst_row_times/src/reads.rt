@@ -35,12 +35,10 @@ pub fn read_rows(bed: &Bed, order: &LabelOrder, slots: u16, stride: usize, count
     requires stride { stride ≤ length bed.now.places.items }
 {
     let mut sum: u64 = 0;
-    let mut index = 0;
-    let mut slot: u16 = 0;
+    let mut walk = Walk { slot: 0, index: 0 };
     for _ in 0..count {
-        sum = sum.wrapping_add(number(bed.read(order, SlotNo(slot), index)));
-        index = next_index(index, stride, bed.places.len());
-        slot = if slot + 1 < slots { slot + 1 } else { 0 };
+        sum = sum.wrapping_add(number(bed.read(order, SlotNo(walk.slot), walk.index)));
+        walk = walk.next(slots, stride, bed.places.len());
     }
     sum
 }
@@ -53,12 +51,10 @@ pub fn scan_rows(bed: &Bed, order: &LabelOrder, slots: u16, stride: usize, count
     requires stride { stride ≤ length bed.now.places.items }
 {
     let mut sum: u64 = 0;
-    let mut index = 0;
-    let mut slot: u16 = 0;
+    let mut walk = Walk { slot: 0, index: 0 };
     for _ in 0..count {
-        sum = sum.wrapping_add(number(bed.scan(order, SlotNo(slot), index)));
-        index = next_index(index, stride, bed.places.len());
-        slot = if slot + 1 < slots { slot + 1 } else { 0 };
+        sum = sum.wrapping_add(number(bed.scan(order, SlotNo(walk.slot), walk.index)));
+        walk = walk.next(slots, stride, bed.places.len());
     }
     sum
 }
@@ -83,6 +79,31 @@ fn number(content: Content) -> u64 {
         Content::Null => 2,
         Content::Target(id) | Content::From(id, _) => id.0,
         Content::Free => 3,
+    }
+}
+
+/// Where a walk through the slots and the places of a row stands.
+#[derive(Clone, Copy)]
+struct Walk {
+    slot: u16,
+    index: usize,
+}
+
+impl Walk {
+    /// The next slot, and the place some way on; behind the last one each begins again.
+    #[inline]
+    fn next(self, slots: u16, stride: usize, len: usize) -> Walk
+        requires slot { self.slot < slots }
+        requires index { self.index < len }
+        requires stride { stride ≤ len }
+        ensures slot { result.slot < slots }
+        ensures index { result.index < len }
+    {
+        let slot = self.slot + 1;
+        Walk {
+            slot: if slot < slots { slot } else { 0 },
+            index: next_index(self.index, stride, len),
+        }
     }
 }
 

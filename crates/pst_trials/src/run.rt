@@ -95,18 +95,18 @@ pub(crate) struct Trial<'a> {
 struct Ended {
     status: Status,
     written: Vec<u8>,
-    store: Vec<usize>,
-    other: Vec<usize>,
+    store: [usize; 4],
+    other: [usize; 4],
 }
 
 /// How many versions, records, pointer writes and value writes a store has.
-fn numbers_of(alloc: Global, versions: u32, counts: Counts) -> Result<Vec<usize>, AllocError> {
-    let mut numbers = Vec::new(alloc);
-    numbers.push(versions as usize)?;
-    for count in [counts.records, counts.pointer_writes, counts.value_writes] {
-        numbers.push(count as usize)?;
-    }
-    Ok(numbers)
+fn numbers_of(versions: u32, counts: Counts) -> [usize; 4] {
+    [
+        versions as usize,
+        counts.records as usize,
+        counts.pointer_writes as usize,
+        counts.value_writes as usize,
+    ]
 }
 
 /// Whether the words work over the store of a linear history.
@@ -141,8 +141,8 @@ fn run(alloc: Global, trial: Trial<'_>) -> Result<Ended, AllocError> {
         &mut store,
         &mut line,
     );
-    let tree = numbers_of(alloc, store.count(), store.counts())?;
-    let line = numbers_of(alloc, line.count(), line.counts())?;
+    let tree = numbers_of(store.count(), store.counts());
+    let line = numbers_of(line.count(), line.counts());
     let (store, other) = if is_line(trial.words) {
         (line, tree)
     } else {

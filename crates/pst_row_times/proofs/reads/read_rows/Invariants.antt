@@ -2,4 +2,4 @@ use Rattle.std.proofs.Common.{◌<◌, length}
 use Rattle.pst_row_times.proofs.reads.read_rows.Given as goal
 
 abbrev pub invariant-loop : goal.invariant-loop
-invariant-loop l = record { slot : l.slot < l.slots; index : l.index < length l.bed.places.items }
+invariant-loop l = record { slot : l.walk.slot < l.slots; index : l.walk.index < length l.bed.places.items }
