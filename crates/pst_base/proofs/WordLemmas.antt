@@ -1,4 +1,4 @@
--- A word is a keyword exactly where it has a number.
+-- A word is a keyword exactly where it has a number, and the search of a word among the keywords finds its number.
 use Rattle.std.proofs.Common.{◌≡◌, ◌<◌, ℕ, zero, suc, Bool, true, false, List, [], ◌∷◌, length, map, get_or, position, Option, Some, None, IsSomeAnd, slice_get, Bor, refl, sym, subst, arith, All, ◌∙◌}
 use Rattle.std.proofs.lemmas.List.Quantifiers.{position-Some}
 use Rattle.std.proofs.lemmas.Grind.{common_steps}

@@ -35,6 +35,7 @@ pub fn keyword_number(word: &[u8]) -> Option<u8>
     ensures { IsKeywordNumber result word.now }
 {
     let place = place_among(keywords(), word)?;
+    // (19 words, so the place is at most 18)
     Some(place as u8)
 }
 

@@ -6,7 +6,7 @@ use crate::traits::Failed;
 use std::alloc::AllocError;
 
 /// Why a reader of lines stops.
-#[derive(Clone, Copy, Debug, PartialEq, Eq)]
+#[derive(Clone, Copy, PartialEq, Eq)]
 pub enum LinesFault {
     /// The source failed.
     Failed,

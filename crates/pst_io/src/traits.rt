@@ -7,7 +7,7 @@ ghost use Rattle.pst_io.specs.Causes.{HasCause};
 ghost use Rattle.pst_io.specs.Taken.{AppendsProperPart};
 
 /// A read or a write failed. It says no more: the count of faults of the source or sink has risen.
-#[derive(Clone, Copy, Debug, PartialEq, Eq)]
+#[derive(Clone, Copy, PartialEq, Eq)]
 pub struct Failed;
 
 /// What gives bytes, a piece at a time, until its end.

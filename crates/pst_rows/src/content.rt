@@ -7,7 +7,7 @@ use pst_order::Pos;
 use std::marker::Model;
 
 /// What a slot holds at a place.
-#[derive(Clone, Copy, Debug, PartialEq, Eq)]
+#[derive(Clone, Copy, PartialEq, Eq)]
 pub enum Content {
     /// A value slot's number.
     Number(i64),
