@@ -13,20 +13,20 @@ use Rattle.pst_io.proofs.Handing.{gives_then}
 use Rattle.pst_judge.specs.declared.fault.Fault.{Fault}
 use Rattle.pst_jobs.specs.declared.job.Job.TheVariants.{Run}
 use Rattle.pst_jobs.specs.declared.job.Question.{Question}
-use Rattle.pst_sessions.specs.declared.stop.Stop.{Stop}
-use Rattle.pst_sessions.specs.declared.stop.Stop.TheVariants as stop
+use Rattle.pst_answers.specs.declared.stop.Stop.{Stop}
+use Rattle.pst_answers.specs.declared.stop.Stop.TheVariants as stop
 use Rattle.pst_jobs.specs.declared.status.Status.{Status}
 use Rattle.pst_jobs.specs.declared.status.Status.TheVariants.{Done, ReadFault, WriteFault, Usage, Refused, TooLong, Memory}
-use Rattle.pst_sessions.specs.Input.{CutInput, cut, cut_of}
-use Rattle.pst_sessions.specs.Pieces.{IsPartOf}
+use Rattle.pst_answers.specs.Input.{CutInput, cut, cut_of}
+use Rattle.pst_answers.specs.Pieces.{IsPartOf}
 use Rattle.pst_judge.specs.Verdict.{Verdict, Accepted, Refused as IsRefusedBy, Judged, HasFault}
-use Rattle.pst_sessions.specs.Script.{by_tree}
-use Rattle.pst_sessions.specs.Kept.{Kept, history_after}
+use Rattle.pst_answers.specs.Script.{by_tree}
+use Rattle.pst_answers.specs.Kept.{Kept, history_after}
 use Rattle.pst_serving.specs.Output.{OfVerdict, Accepting}
-use Rattle.pst_sessions.specs.Reading.{GivesPast, GivesUntil, ReadsText}
+use Rattle.pst_answers.specs.Reading.{GivesPast, GivesUntil, ReadsText}
 use Rattle.pst_serving.specs.Rows.{IsWithin, ReadsAll}
 use Rattle.pst_serving.specs.Serving.{Refuses, status_of}
-use Rattle.pst_sessions.specs.Sessions.{StopsAtReply}
+use Rattle.pst_answers.specs.Sessions.{StopsAtReply}
 use Rattle.pst_telling.specs.Telling.{Tells}
 use Rattle.pst_asking.specs.Asking.{Answered, IsAnswer, IsPartOfAnswer, StopsInFault, BreaksAt, CarriedTo, StopsInScript, LacksAnswer, AskRow, GivesAll, StopsAsking, StopsText, Asks}
 use Rattle.pst_serving.proofs.RowLemmas.{fresh, stops_front, LongFront, long_by, long_row, lacks_text, lacks_program, cuts, readable, reads_up_to, told_text, refused_alike, of_text, whole_input, was_going, after_program}

@@ -5,16 +5,16 @@ use Rattle.pst_program.specs.declared.program.Program.{Program}
 use Rattle.pst_history.specs.Meaning.{Meaning}
 use Rattle.pst_history.specs.History.{History}
 use Rattle.pst_jobs.specs.declared.job.Question.{Question}
-use Rattle.pst_sessions.specs.declared.stop.Stop.{Stop}
-use Rattle.pst_sessions.specs.declared.stop.Stop.TheVariants as stop
-use Rattle.pst_sessions.specs.Script.{Rules, by_tree, script_of}
-use Rattle.pst_sessions.specs.Kept.{Kept, kept_by, first_history, history_after}
+use Rattle.pst_answers.specs.declared.stop.Stop.{Stop}
+use Rattle.pst_answers.specs.declared.stop.Stop.TheVariants as stop
+use Rattle.pst_answers.specs.Script.{Rules, by_tree, script_of}
+use Rattle.pst_answers.specs.Kept.{Kept, kept_by, first_history, history_after}
 use Rattle.pst_telling.specs.Telling.{Tells}
 use Rattle.pst_asking.specs.Asking.{GivesAll, StopsCarrying, StopsAsking, Finds}
 use Rattle.pst_io.specs.declared.fault.LinesFault.{LinesFault}
 use Rattle.pst_io.specs.declared.fault.LinesFault.TheVariants as lines
-use Rattle.pst_sessions.specs.Pieces.{Answering, state_after}
-use Rattle.pst_sessions.specs.Reading.{GivesUntil, stop_of}
+use Rattle.pst_answers.specs.Pieces.{Answering, state_after}
+use Rattle.pst_answers.specs.Reading.{GivesUntil, stop_of}
 
 -- ---- the lines
 

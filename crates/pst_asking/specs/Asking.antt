@@ -16,19 +16,19 @@ use Rattle.pst_jobs.specs.declared.job.Job.TheVariants.{Run}
 use Rattle.pst_jobs.specs.declared.job.Question.{Question}
 use Rattle.pst_jobs.specs.declared.status.Status.{Status}
 use Rattle.pst_jobs.specs.declared.status.Status.TheVariants.{Done, ReadFault, WriteFault, Usage, Refused, TooLong, Memory}
-use Rattle.pst_sessions.specs.declared.stop.Stop.{Stop}
-use Rattle.pst_sessions.specs.declared.stop.Stop.TheVariants as stop
+use Rattle.pst_answers.specs.declared.stop.Stop.{Stop}
+use Rattle.pst_answers.specs.declared.stop.Stop.TheVariants as stop
 use Rattle.pst_judge.specs.Verdict.{Accepted, Refused as IsRefusedBy}
 use Rattle.pst_serving.specs.Output.{replied, Outputs, OfVerdict, Accepting, Refusing}
 use Rattle.pst_serving.specs.Rows.{IsReadable, IsWithin, HasRead, ReadsUpTo, ReadsAll, Writes, LacksProgram}
 use Rattle.pst_serving.specs.Serving.{ReadsNothing}
-use Rattle.pst_sessions.specs.Input.{CutInput, cut, cut_of}
-use Rattle.pst_sessions.specs.Pieces.{Answering, state_after, BreaksIn, IsAll, IsPartOf}
+use Rattle.pst_answers.specs.Input.{CutInput, cut, cut_of}
+use Rattle.pst_answers.specs.Pieces.{Answering, state_after, BreaksIn, IsAll, IsPartOf}
 use Rattle.pst_judge.specs.Verdict.{Verdict, fault_text}
-use Rattle.pst_sessions.specs.Script.{Rules, by_tree, script_of}
-use Rattle.pst_sessions.specs.Kept.{Kept, history_after}
+use Rattle.pst_answers.specs.Script.{Rules, by_tree, script_of}
+use Rattle.pst_answers.specs.Kept.{Kept, history_after}
 use Rattle.pst_judge.specs.Pages.{routines_in}
-use Rattle.pst_sessions.specs.Reading.{GivesPast, IsNear}
+use Rattle.pst_answers.specs.Reading.{GivesPast, IsNear}
 use Rattle.pst_serving.specs.Held.{kept_in}
 use Rattle.pst_telling.specs.Telling.{Tells}
 

@@ -7,7 +7,7 @@ use Rattle.pst_line.specs.declared.place.LinePlace.{LinePlace}
 use Rattle.pst_line.specs.Store.{Stored as LineStored}
 use Rattle.pst_jobs.specs.declared.job.Job.{Job}
 use Rattle.pst_jobs.specs.declared.job.Job.TheVariants.{Run, Replay, Line, Check, Code}
-use Rattle.pst_sessions.specs.Kept.{Kept, still, together}
+use Rattle.pst_answers.specs.Kept.{Kept, still, together}
 use Rattle.pst_serving.specs.Held.{kept_in}
 use Rattle.pst_cli.specs.Held.{lined_in}
 use Rattle.pst_serving.proofs.Serving.{Implies}

@@ -7,7 +7,7 @@ use Rattle.pst_line.specs.declared.place.LinePlace.{LinePlace}
 use Rattle.pst_line.specs.Store.{Stored}
 use Rattle.pst_jobs.specs.declared.job.Job.{Job}
 use Rattle.pst_jobs.specs.declared.job.Job.TheVariants.{Run, Replay, Line, Check, Code}
-use Rattle.pst_sessions.specs.Kept.{Kept, kept_by, still, together}
+use Rattle.pst_answers.specs.Kept.{Kept, kept_by, still, together}
 use Rattle.pst_sessions.specs.Lining.{IsLineLeft, IsLineBroken}
 use Rattle.pst_serving.specs.Output.{rules_of}
 use Rattle.pst_serving.specs.Held.{kept_in}

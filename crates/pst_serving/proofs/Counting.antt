@@ -4,7 +4,7 @@ use Rattle.std.specs.Prelude.{◌==◌}
 use Rattle.std.specs.Option.{option_map}
 use Rattle.pst_io.specs.Text.{lines_of, onto_first}
 use Rattle.pst_script.specs.Words.{is_separator}
-use Rattle.pst_sessions.specs.Input.{CutInput, behind_line, cut, or_all, cut_of, bytes_of, up_to}
+use Rattle.pst_answers.specs.Input.{CutInput, behind_line, cut, or_all, cut_of, bytes_of, up_to}
 
 -- ---- lines
 

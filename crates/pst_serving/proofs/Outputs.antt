@@ -2,8 +2,8 @@
 use Rattle.std.proofs.Common.{◌≡◌, ℕ, List, sym, ap, ◌∙◌}
 use Rattle.std.specs.List.{concat}
 use Rattle.pst_jobs.specs.declared.job.Job.{Job}
-use Rattle.pst_sessions.specs.Input.{cut_of}
-use Rattle.pst_sessions.specs.Pieces.{IsAll}
+use Rattle.pst_answers.specs.Input.{cut_of}
+use Rattle.pst_answers.specs.Pieces.{IsAll}
 use Rattle.pst_serving.specs.Output.{pieces}
 use Rattle.pst_serving.specs.Rows.{Writes}
 use Rattle.pst_judge.specs.Verdict.{IsEither}

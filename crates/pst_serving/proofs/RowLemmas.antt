@@ -15,16 +15,16 @@ use Rattle.pst_jobs.specs.declared.job.Task.{Task}
 use Rattle.pst_jobs.specs.declared.job.Task.TheVariants.{Input}
 use Rattle.pst_judge.specs.declared.page.Page.{Page}
 use Rattle.pst_judge.specs.declared.page.Page.TheVariants.{Canonical, Listing}
-use Rattle.pst_sessions.specs.declared.stop.Stop.{Stop}
-use Rattle.pst_sessions.specs.declared.stop.Stop.TheVariants as stop
+use Rattle.pst_answers.specs.declared.stop.Stop.{Stop}
+use Rattle.pst_answers.specs.declared.stop.Stop.TheVariants as stop
 use Rattle.pst_jobs.specs.declared.status.Status.{Status}
 use Rattle.pst_jobs.specs.declared.status.Status.TheVariants.{Done, ReadFault, WriteFault, Usage, Refused, TooLong, Memory}
-use Rattle.pst_sessions.specs.Input.{CutInput, cut, cut_of, bytes_of, up_to}
-use Rattle.pst_sessions.specs.Pieces.{IsAll}
+use Rattle.pst_answers.specs.Input.{CutInput, cut, cut_of, bytes_of, up_to}
+use Rattle.pst_answers.specs.Pieces.{IsAll}
 use Rattle.pst_judge.specs.Verdict.{Verdict, Accepted, Refused as IsRefusedBy, Judged, IsAccepted, IsRefused}
-use Rattle.pst_sessions.specs.Kept.{Kept, still}
+use Rattle.pst_answers.specs.Kept.{Kept, still}
 use Rattle.pst_serving.specs.Output.{rules_of, replied, printed, Outputs, OfVerdict, Accepting, Refusing, StopsInPiece, StopsBeforePiece, StopsInPage}
-use Rattle.pst_sessions.specs.Reading.{GivesPast, GivesUntil, IsTextOf, IsNear, ReadsText}
+use Rattle.pst_answers.specs.Reading.{GivesPast, GivesUntil, IsTextOf, IsNear, ReadsText}
 use Rattle.pst_serving.specs.Rows.{IsReadable, IsWithin, HasRead, ReadsUpTo, ReadsAll, Writes, CutOff, StopsReading, StopsScript, StopsWriting, LacksProgram, LacksReply, LacksRoom, Row, IsComplete, IsServable}
 use Rattle.pst_serving.specs.Serving.{ReadsNothing, ServesInPart, Serves, Prints, status_of}
 use Rattle.pst_serving.proofs.Counting.{bytes_of-append, lines_least, lines_front, cut_bytes, whole_bytes, near_program}

@@ -15,19 +15,19 @@ use Rattle.pst_jobs.specs.declared.job.Job.{Job}
 use Rattle.pst_jobs.specs.declared.job.Job.TheVariants.{Check, Code}
 use Rattle.pst_judge.specs.declared.page.Page.{Page}
 use Rattle.pst_judge.specs.declared.page.Page.TheVariants.{Canonical, Listing}
-use Rattle.pst_sessions.specs.declared.stop.Stop.{Stop}
-use Rattle.pst_sessions.specs.declared.stop.Stop.TheVariants as stop
+use Rattle.pst_answers.specs.declared.stop.Stop.{Stop}
+use Rattle.pst_answers.specs.declared.stop.Stop.TheVariants as stop
 use Rattle.pst_jobs.specs.declared.status.Status.{Status}
 use Rattle.pst_jobs.specs.declared.status.Status.TheVariants.{Done, ReadFault, WriteFault, Usage, Refused, TooLong, Memory}
-use Rattle.pst_sessions.specs.Pieces.{pieces_from, state_after, IsAll, IsPartOf}
-use Rattle.pst_sessions.specs.Script.{Rules, script_of}
-use Rattle.pst_sessions.specs.Kept.{Kept, first_history, kept_by, still}
+use Rattle.pst_answers.specs.Pieces.{pieces_from, state_after, IsAll, IsPartOf}
+use Rattle.pst_answers.specs.Script.{Rules, script_of}
+use Rattle.pst_answers.specs.Kept.{Kept, first_history, kept_by, still}
 use Rattle.pst_judge.specs.Verdict.{Accepted, Refused as IsRefusedBy, Judged, HasFault}
 use Rattle.pst_judge.specs.Pages.{page_text}
 use Rattle.pst_serving.specs.Output.{replied, Outputs, OfVerdict, Accepting, Refusing, StopsInPiece, StopsBeforePiece}
-use Rattle.pst_sessions.specs.Reading.{IsNear}
+use Rattle.pst_answers.specs.Reading.{IsNear}
 use Rattle.pst_serving.specs.Serving.{Refuses, Serves, Prints, status_of}
-use Rattle.pst_sessions.specs.Sessions.{StopsAtReply, StopsAnswering}
+use Rattle.pst_answers.specs.Sessions.{StopsAtReply, StopsAnswering}
 
 pub one_whole : (piece out : List ℕ) → out ≡ piece → IsAll (piece ∷ []) out
 one_whole piece out is = is ∙ sym (append-nil piece)

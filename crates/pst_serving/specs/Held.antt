@@ -3,7 +3,7 @@ use Rattle.std.specs.Prelude.{◌≡◌, Option}
 use Rattle.pst_meaning.specs.Store.{Stored}
 use Rattle.pst_jobs.specs.declared.job.Job.{Job}
 use Rattle.pst_jobs.specs.declared.job.Job.TheVariants.{Run, Replay, Line, Check, Code}
-use Rattle.pst_sessions.specs.Kept.{Kept, kept_by, still}
+use Rattle.pst_answers.specs.Kept.{Kept, kept_by, still}
 use Rattle.pst_sessions.specs.Storing.{IsLeft, IsBroken}
 use Rattle.pst_serving.specs.Output.{rules_of}
 

@@ -1,8 +1,8 @@
 -- The law of outputs.
 use Rattle.std.specs.Prelude.{◌≡◌, ℕ, List}
 use Rattle.pst_jobs.specs.declared.job.Job.{Job}
-use Rattle.pst_sessions.specs.Input.{cut_of}
-use Rattle.pst_sessions.specs.Pieces.{IsAll}
+use Rattle.pst_answers.specs.Input.{cut_of}
+use Rattle.pst_answers.specs.Pieces.{IsAll}
 use Rattle.pst_judge.specs.Verdict.{IsEither}
 use Rattle.pst_serving.specs.Rows.{Writes}
 

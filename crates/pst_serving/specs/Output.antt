@@ -6,9 +6,10 @@ use Rattle.pst_jobs.specs.declared.job.Job.{Job}
 use Rattle.pst_jobs.specs.declared.job.Job.TheVariants.{Run, Replay, Line, Check, Code}
 use Rattle.pst_judge.specs.declared.page.Page.{Page}
 use Rattle.pst_judge.specs.declared.page.Page.TheVariants.{Canonical, Listing}
-use Rattle.pst_sessions.specs.Pieces.{pieces_from, IsPartOf, StopsInReply, StopsBeforeReply}
-use Rattle.pst_sessions.specs.Script.{Rules, by_tree, by_line, script_of}
-use Rattle.pst_sessions.specs.Kept.{Kept, first_history}
+use Rattle.pst_answers.specs.Pieces.{pieces_from, IsPartOf, StopsInReply, StopsBeforeReply}
+use Rattle.pst_answers.specs.Script.{Rules, by_tree, script_of}
+use Rattle.pst_sessions.specs.Lining.{by_line}
+use Rattle.pst_answers.specs.Kept.{Kept, first_history}
 use Rattle.pst_judge.specs.Pages.{routines_in, page_text}
 use Rattle.pst_judge.specs.Verdict.{Verdict, Accepted, Refused, Judged, fault_text}
 

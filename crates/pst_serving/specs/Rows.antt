@@ -12,12 +12,12 @@ use Rattle.pst_judge.specs.declared.page.Page.TheVariants.{Canonical, Listing}
 use Rattle.pst_jobs.specs.declared.status.Status.{Status}
 use Rattle.pst_jobs.specs.declared.status.Status.TheVariants.{Done, ReadFault, WriteFault, Usage, Refused, TooLong, Memory}
 use Rattle.pst_serving.specs.Output.{rules_of, pieces, Outputs, OfVerdict, Accepting, Refusing, StopsInPiece, StopsBeforePiece, StopsInPage}
-use Rattle.pst_sessions.specs.Input.{CutInput, cut, cut_of, up_to}
-use Rattle.pst_sessions.specs.Pieces.{IsAll}
+use Rattle.pst_answers.specs.Input.{CutInput, cut, cut_of, up_to}
+use Rattle.pst_answers.specs.Pieces.{IsAll}
 use Rattle.pst_judge.specs.Verdict.{Verdict}
-use Rattle.pst_sessions.specs.Script.{Rules}
-use Rattle.pst_sessions.specs.Kept.{Kept}
-use Rattle.pst_sessions.specs.Sessions.{HasTaken}
+use Rattle.pst_answers.specs.Script.{Rules}
+use Rattle.pst_answers.specs.Kept.{Kept}
+use Rattle.pst_answers.specs.Sessions.{HasTaken}
 
 -- ---- what was read
 

@@ -6,18 +6,18 @@ use Rattle.pst_io.specs.Lines.{LinesState}
 use Rattle.pst_history.specs.Meaning.{Meaning}
 use Rattle.pst_history.specs.History.{History}
 use Rattle.pst_judge.specs.declared.fault.Fault.{Fault}
-use Rattle.pst_sessions.specs.declared.stop.Stop.{Stop}
-use Rattle.pst_sessions.specs.declared.stop.Stop.TheVariants as stop
+use Rattle.pst_answers.specs.declared.stop.Stop.{Stop}
+use Rattle.pst_answers.specs.declared.stop.Stop.TheVariants as stop
 use Rattle.pst_judge.specs.declared.judge.NoProgram.TheVariants as no
 use Rattle.pst_judge.specs.declared.page.Page.{Page}
 use Rattle.pst_jobs.specs.declared.status.Status.{Status}
 use Rattle.pst_jobs.specs.declared.status.Status.TheVariants.{Done, ReadFault, WriteFault, Usage, Refused, TooLong, Memory}
 use Rattle.pst_serving.specs.Output.{replied, printed, Outputs, OfVerdict, Accepting, Refusing, StopsInPiece, StopsBeforePiece, StopsInPage}
-use Rattle.pst_sessions.specs.Pieces.{IsAll, IsPartOf}
+use Rattle.pst_answers.specs.Pieces.{IsAll, IsPartOf}
 use Rattle.pst_judge.specs.Verdict.{IsAccepted, IsRefused, fault_text}
-use Rattle.pst_sessions.specs.Script.{Rules}
-use Rattle.pst_sessions.specs.Kept.{Kept, kept_by}
-use Rattle.pst_sessions.specs.Reading.{GivesPast, IsNear}
+use Rattle.pst_answers.specs.Script.{Rules}
+use Rattle.pst_answers.specs.Kept.{Kept, kept_by}
+use Rattle.pst_answers.specs.Reading.{GivesPast, IsNear}
 
 -- how a call ends that stopped
 abbrev pub status_of : Stop → Status

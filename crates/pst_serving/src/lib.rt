@@ -5,7 +5,7 @@
 //! of the program's fault alone. The table (`Row`) says by the status how far the input was read, which of the pieces are
 //! written, and what is held then.
 //!
-//! Contract: [`serve`] answers the script behind a program by a [`Session`](pst_sessions::Session) that is begun for it,
+//! Contract: [`serve`] answers the script behind a program by a [`Session`](pst_answers::Session) that is begun for it,
 //! [`print`] writes a page, and both write the line of the fault of a text that is no program's, as [`refuse`] does. What they
 //! come to is a row of the table, by the lemmas of this crate. By law an input has at most one output for a job.
 //!

@@ -3,8 +3,8 @@
 ghost use Rattle.std.specs.Prelude.{◌≡◌};
 ghost use Rattle.pst_serving.specs.Serving.{status_of};
 
+use pst_answers::Stop;
 use pst_jobs::Status;
-use pst_sessions::Stop;
 
 /// How a call ends that stopped: each cause has a status of its own.
 pub fn status_of(stop: Stop) -> Status

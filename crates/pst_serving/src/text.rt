@@ -5,14 +5,14 @@ ghost use Rattle.pst_io.specs.Causes.{Rose};
 ghost use Rattle.pst_io.specs.Input.{bytes_read};
 ghost use Rattle.pst_io.specs.Lines.{IsOpen};
 ghost use Rattle.pst_serving.specs.Serving.{Refuses, ServesScript, Prints};
-ghost use Rattle.pst_sessions.specs.Sessions.{HasTaken};
-ghost use Rattle.pst_sessions.specs.Reading.{IsNear};
+ghost use Rattle.pst_answers.specs.Sessions.{HasTaken};
+ghost use Rattle.pst_answers.specs.Reading.{IsNear};
 
 use crate::stopped::status_of;
+use pst_answers::{Session, answer_script, say};
 use pst_io::{Lines, MOST_INPUT, Sink, Source};
 use pst_jobs::Status;
 use pst_judge::{Fault, NoProgram, Page, fault_text, page_of, program_of};
-use pst_sessions::{Session, answer_script, say};
 use std::alloc::Global;
 
 /// Writes the line of a fault as one piece. `Refused` where it was written whole; `WriteFault` where a write failed, after a

@@ -1,8 +1,3 @@
-pub mod Input
-pub mod Pieces
-pub mod Script
-pub mod Kept
-pub mod Reading
-pub mod Sessions
+pub mod Replaying
 pub mod Storing
 pub mod Lining

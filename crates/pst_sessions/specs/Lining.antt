@@ -1,4 +1,4 @@
--- What the line store is left in.
+-- How a linear history is answered, and what its line store is left in.
 use Rattle.std.specs.Prelude.{◌≡◌, ◌+◌, ◌≤◌, None}
 use Rattle.pst_base.specs.declared.names.NodeId.{NodeId}
 use Rattle.pst_program.specs.declared.program.Program.{Program}
@@ -12,7 +12,12 @@ use Rattle.pst_line.specs.declared.place.LinePlace.{LinePlace}
 use Rattle.pst_line.specs.Store.{Stored, bound, IsRested}
 use Rattle.pst_linerun.specs.declared.session.LineSession.{LineSession}
 use Rattle.pst_linerun.specs.Standing.{SessionStands}
-use Rattle.pst_sessions.specs.Kept.{still}
+use Rattle.pst_linerun.specs.Linear.{line_reply, line_after}
+use Rattle.pst_answers.specs.Script.{Rules}
+
+-- only the newest version may be written: the versions form a line
+abbrev pub by_line : Rules
+by_line = record { reply = line_reply; after = line_after }
 
 -- The nodes, and the stamped values of newest nodes, which pay for copies to come, are at most one for each record that was made
 -- and one for each field that was written.

@@ -1,34 +1,19 @@
-//! Sessions: what answers the commands of a script, and how a script is read and answered by it, a line at a time.
+//! The three sessions: what answers the commands of a script, by a store, by replaying, or by the store of a linear history.
 //!
-//! Model: an input is a program's text, a separator line and the lines of a script (`cut_of`). A session, with what is held
-//! beside it, stands for histories of its program; each line of the script has a reply or none on a history, and makes the
-//! history after it (`script_of`).
+//! Model: a session, with what is held beside it, stands for histories of its program (the trait [`Session`](pst_answers::Session)).
 //!
-//! Contract: [`read_text`] reads the program's text and no line behind the separator. [`answer_script`] answers the lines that
-//! are left by any [`Session`]: for every history that it stands for, what is written are the replies in order, each line is
-//! read when the one before it is answered, and where it stops, what is held is what is left in the history after the lines so
-//! far. [`Running`] answers by the engine over a store, [`Replaying`] by executing each version's runs again, and [`Lining`] by
-//! the store of a linear history.
+//! Contract: [`Running`] answers by the engine over a store of fat nodes, [`Replaying`] by executing each version's runs again,
+//! and both give the replies of a tree of versions; [`Lining`] answers by the store of a linear history, where only the newest
+//! version may be written. What is held is left with every version of the history, within the bound of its store.
 //!
-//!     let text = read_text(alloc, &mut lines, source)?;
 //!     let mut session = Running::begin(alloc, program, store)?;
-//!     answer_script(alloc, &mut session, store, &mut lines, source, sink)?;
+//!     let reply = session.apply(alloc, store, &command)?;
 #![tactic(auto)]
 
-mod answer;
 mod lining;
-mod program;
 mod replaying;
 mod running;
-mod script;
-mod session;
-mod stop;
 
-pub use answer::{reply_to, say};
 pub use lining::Lining;
-pub use program::read_text;
 pub use replaying::Replaying;
 pub use running::Running;
-pub use script::answer_script;
-pub use session::Session;
-pub use stop::Stop;

@@ -1,6 +1,6 @@
 //! Answering by the store of a linear history.
 
-use crate::session::Session;
+use pst_answers::Session;
 use pst_base::NoMemory;
 use pst_coded::Compiled;
 use pst_codegen::compile;
@@ -21,8 +21,7 @@ pub struct Lining<L: LineCalls> {
 
 impl<L: LineCalls> Session for Lining<L> {
     ghost use Rattle.pst_line.specs.Store.{IsEmpty};
-    ghost use Rattle.pst_sessions.specs.Script.{by_line};
-    ghost use Rattle.pst_sessions.specs.Lining.{IsLineLeft, IsLineBroken, IsLining};
+    ghost use Rattle.pst_sessions.specs.Lining.{by_line, IsLineLeft, IsLineBroken, IsLining};
 
     type Held = L;
 

@@ -1,6 +1,6 @@
 //! Answering by the replayer.
 
-use crate::session::Session;
+use pst_answers::Session;
 use pst_base::NoMemory;
 use pst_program::Program;
 use pst_replay::Replayer;
@@ -16,8 +16,8 @@ pub struct Replaying {
 
 impl Session for Replaying {
     ghost use Rattle.std.specs.Prelude.{⊤};
-    ghost use Rattle.pst_sessions.specs.Script.{by_tree};
-    ghost use Rattle.pst_sessions.specs.Sessions.{IsReplaying};
+    ghost use Rattle.pst_answers.specs.Script.{by_tree};
+    ghost use Rattle.pst_sessions.specs.Replaying.{IsReplaying};
 
     type Held = ();
 

@@ -1,6 +1,6 @@
 //! Answering by the engine over a store.
 
-use crate::session::Session;
+use pst_answers::Session;
 use pst_arena::FatNodes;
 use pst_base::NoMemory;
 use pst_coded::Compiled;
@@ -21,7 +21,7 @@ pub struct Running<O: Order + Drop, N: FatNodes> {
 
 impl<O: Order + Drop, N: FatNodes> Session for Running<O, N> {
     ghost use Rattle.std.specs.Prelude.{◌≡◌, None};
-    ghost use Rattle.pst_sessions.specs.Script.{by_tree};
+    ghost use Rattle.pst_answers.specs.Script.{by_tree};
     ghost use Rattle.pst_sessions.specs.Storing.{IsLeft, IsBroken, IsRunning};
 
     type Held = StoreOf<O, N>;

@@ -12,16 +12,16 @@ use Rattle.pst_history.specs.Direct.{meaning_of}
 use Rattle.pst_meaning.specs.Store.{Stored}
 use Rattle.pst_store.specs.Whole.{nodes_in, state_in}
 use Rattle.pst_judge.specs.declared.fault.Fault.{Fault}
-use Rattle.pst_sessions.specs.declared.stop.Stop.{Stop}
-use Rattle.pst_sessions.specs.declared.stop.Stop.TheVariants as stop
+use Rattle.pst_answers.specs.declared.stop.Stop.{Stop}
+use Rattle.pst_answers.specs.declared.stop.Stop.TheVariants as stop
 use Rattle.pst_jobs.specs.declared.status.Status.{Status}
 use Rattle.pst_jobs.specs.declared.status.Status.TheVariants.{Done, ReadFault, WriteFault, Usage, Refused, TooLong, Memory}
-use Rattle.pst_sessions.specs.Pieces.{AfterSome, IsPartOf}
-use Rattle.pst_sessions.specs.Script.{by_tree, script_of}
-use Rattle.pst_sessions.specs.Kept.{first_history, history_after}
+use Rattle.pst_answers.specs.Pieces.{AfterSome, IsPartOf}
+use Rattle.pst_answers.specs.Script.{by_tree, script_of}
+use Rattle.pst_answers.specs.Kept.{first_history, history_after}
 use Rattle.pst_judge.specs.Verdict.{Accepted, Refused as IsRefusedBy, Judged, HasFault}
 use Rattle.pst_serving.specs.Serving.{Refuses, status_of}
-use Rattle.pst_sessions.specs.Sessions.{StopsAtReply}
+use Rattle.pst_answers.specs.Sessions.{StopsAtReply}
 use Rattle.pst_sessions.specs.Storing.{IsLeft, IsBroken}
 use Rattle.pst_summary.specs.Bench.{printed_from, summary, summary_of, BenchRow}
 use Rattle.pst_summary.proofs.Summing.{after_all}

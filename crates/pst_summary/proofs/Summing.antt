@@ -4,10 +4,10 @@ use Rattle.std.proofs.lemmas.List.Sums.{fold-append}
 use Rattle.pst_script.specs.Commands.{reading}
 use Rattle.pst_history.specs.Meaning.{Meaning}
 use Rattle.pst_history.specs.History.{History}
-use Rattle.pst_sessions.specs.Pieces.{Answering, state_after, AfterSome}
-use Rattle.pst_sessions.specs.Script.{Rules, answer_of, next_of, script_of}
+use Rattle.pst_answers.specs.Pieces.{Answering, state_after, AfterSome}
+use Rattle.pst_answers.specs.Script.{Rules, answer_of, next_of, script_of}
 use Rattle.pst_summary.specs.Bench.{printed_by, printed_from}
-use Rattle.pst_sessions.proofs.Writing.{state_more}
+use Rattle.pst_answers.proofs.Writing.{state_more}
 
 printed_from-push : (rules : Rules) (m : Meaning) (h : History) (given : List (List ℕ)) (line : List ℕ)
     → printed_from rules m h (given ++ line ∷ []) ≡ printed_from rules m h given ++ printed_by (answer_of rules m (state_after (script_of rules m) h given) (reading line))

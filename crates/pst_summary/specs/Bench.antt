@@ -16,9 +16,9 @@ use Rattle.pst_meaning.specs.Store.{Stored}
 use Rattle.pst_store.specs.Whole.{nodes_in}
 use Rattle.pst_jobs.specs.declared.status.Status.{Status}
 use Rattle.pst_jobs.specs.declared.status.Status.TheVariants.{Done, ReadFault, WriteFault, Usage, Refused, TooLong, Memory}
-use Rattle.pst_sessions.specs.Pieces.{AfterSome, IsPartOf}
-use Rattle.pst_sessions.specs.Script.{Rules, by_tree, answer_of, next_of, script_of}
-use Rattle.pst_sessions.specs.Kept.{first_history, history_after}
+use Rattle.pst_answers.specs.Pieces.{AfterSome, IsPartOf}
+use Rattle.pst_answers.specs.Script.{Rules, by_tree, answer_of, next_of, script_of}
+use Rattle.pst_answers.specs.Kept.{first_history, history_after}
 use Rattle.pst_judge.specs.Verdict.{Verdict, Accepted, Refused as IsRefusedBy, fault_text}
 use Rattle.pst_judge.specs.Pages.{routines_in}
 use Rattle.pst_serving.specs.Output.{OfVerdict}

@@ -11,13 +11,14 @@ ghost use Rattle.pst_script.specs.declared.reply.Reply.TheVariants as answer;
 ghost use Rattle.pst_history.specs.Direct.{meaning_of};
 ghost use Rattle.pst_store.specs.Whole.{nodes_in, state_in};
 ghost use Rattle.pst_summary.specs.Bench.{printed_in, printed_by, printed_from, summary, bench_lines, summary_of, IsBrokenAfterSome, BenchRow};
-ghost use Rattle.pst_sessions.specs.Kept.{history_after};
+ghost use Rattle.pst_answers.specs.Kept.{history_after};
 ghost use Rattle.pst_sessions.specs.Storing.{IsLeft};
-ghost use Rattle.pst_sessions.specs.Pieces.{state_after, AfterSome};
-ghost use Rattle.pst_sessions.specs.Script.{by_tree, answer_of, next_of, script_of};
-ghost use Rattle.pst_sessions.specs.Sessions.{HasTaken, StandForSome, OnEachHistory};
+ghost use Rattle.pst_answers.specs.Pieces.{state_after, AfterSome};
+ghost use Rattle.pst_answers.specs.Script.{by_tree, answer_of, next_of, script_of};
+ghost use Rattle.pst_answers.specs.Sessions.{HasTaken, StandForSome, OnEachHistory};
 
 use memchr::memchr;
+use pst_answers::{Session, reply_to, say};
 use pst_arena::FatNodes;
 use pst_base::{NoMemory, Text};
 use pst_bench::bench_script;
@@ -29,7 +30,7 @@ use pst_places::VersionedHeap;
 use pst_program::Program;
 use pst_script::{Reply, reply_text};
 use pst_serving::{refuse, status_of};
-use pst_sessions::{Running, Session, reply_to, say};
+use pst_sessions::Running;
 use pst_store::StoreOf;
 use std::alloc::Global;
 

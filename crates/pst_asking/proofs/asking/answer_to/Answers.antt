@@ -3,8 +3,8 @@ use Rattle.std.proofs.lemmas.Result.{err_from_is_err_and}
 use Rattle.pst_program.specs.View.{routines_of}
 use Rattle.pst_program.specs.declared.program.Program.{Program}
 use Rattle.pst_history.specs.Direct.{meaning_of}
-use Rattle.pst_sessions.specs.Script.{by_tree}
-use Rattle.pst_sessions.specs.Kept.{kept_by, first_history, history_after}
+use Rattle.pst_answers.specs.Script.{by_tree}
+use Rattle.pst_answers.specs.Kept.{kept_by, first_history, history_after}
 use Rattle.pst_sessions.specs.Storing.{IsLeft, IsBroken}
 use Rattle.pst_sessions.proofs.Keeping.{meaning_shape}
 use Rattle.pst_asking.proofs.Finding.{carrying_stopped, found_stopped, answer_found, answer_lacks}

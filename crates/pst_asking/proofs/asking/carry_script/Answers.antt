@@ -1,9 +1,9 @@
 use Rattle.std.proofs.Common.{ap, refl, ◌∙◌, arith, inr, Ok, Err, [], ◌∷◌, ◌++◌}
 use Rattle.pst_io.proofs.Handing.{gives_none, gives_then}
-use Rattle.pst_sessions.specs.Pieces.{state_after}
-use Rattle.pst_sessions.specs.Script.{script_of}
-use Rattle.pst_sessions.proofs.Reading.{until_fault, then_reads, still_near}
-use Rattle.pst_sessions.proofs.Writing.{state_more, breaks_in}
+use Rattle.pst_answers.specs.Pieces.{state_after}
+use Rattle.pst_answers.specs.Script.{script_of}
+use Rattle.pst_answers.proofs.Reading.{until_fault, then_reads, still_near}
+use Rattle.pst_answers.proofs.Writing.{state_more, breaks_in}
 use Rattle.pst_asking.proofs.Finding.{until_carried}
 use Rattle.pst_asking.proofs.asking.carry_script.Goals as goal
 

@@ -4,9 +4,9 @@ use Rattle.pst_io.specs.Input.{Gives}
 use Rattle.pst_io.specs.Lines.{IsOpen}
 use Rattle.pst_history.specs.Meaning.{Meaning}
 use Rattle.pst_history.specs.History.{History}
-use Rattle.pst_sessions.specs.Pieces.{state_after}
-use Rattle.pst_sessions.specs.Script.{script_of}
-use Rattle.pst_sessions.specs.Reading.{IsNear}
+use Rattle.pst_answers.specs.Pieces.{state_after}
+use Rattle.pst_answers.specs.Script.{script_of}
+use Rattle.pst_answers.specs.Reading.{IsNear}
 use Rattle.pst_asking.proofs.asking.carry_script.Given as goal
 
 -- on each history that they stood for, these lines were handed out, and they stand for the one after the lines

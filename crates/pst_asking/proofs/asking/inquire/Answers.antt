@@ -1,8 +1,8 @@
 use Rattle.std.proofs.Common.{[], inl, refl, sym, subst}
 use Rattle.std.proofs.KnownBytes.{Appends-nil}
 use Rattle.pst_history.specs.Direct.{meaning_of}
-use Rattle.pst_sessions.specs.Script.{by_tree}
-use Rattle.pst_sessions.specs.Kept.{kept_by, history_after}
+use Rattle.pst_answers.specs.Script.{by_tree}
+use Rattle.pst_answers.specs.Kept.{kept_by, history_after}
 use Rattle.pst_sessions.specs.Storing.{IsLeft, IsBroken}
 use Rattle.pst_telling.specs.Telling.{Tells}
 use Rattle.pst_asking.proofs.AskRows.{fault_asked, answer_asked, answer_stopped, script_asked}

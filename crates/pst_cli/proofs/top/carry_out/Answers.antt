@@ -1,7 +1,7 @@
 use Rattle.std.proofs.Common.{◌≡◌, ap, Err, refl}
 use Rattle.pst_jobs.specs.declared.job.Job.TheVariants.{Run, Replay, Line}
 use Rattle.pst_judge.specs.declared.page.Page.TheVariants.{Canonical, Listing}
-use Rattle.pst_sessions.specs.Kept.{still, together}
+use Rattle.pst_answers.specs.Kept.{still, together}
 use Rattle.pst_serving.specs.Held.{kept_in}
 use Rattle.pst_cli.specs.Held.{lined_in}
 use Rattle.pst_cli.proofs.Stores.{untouched, then_still, still_then}

@@ -1,6 +1,6 @@
 use Rattle.std.proofs.Common.{refl}
 use Rattle.pst_history.specs.Direct.{meaning_of}
-use Rattle.pst_sessions.specs.Kept.{first_history}
+use Rattle.pst_answers.specs.Kept.{first_history}
 use Rattle.pst_serving.proofs.Serving.{fault_served, script_answered, script_stopped}
 use Rattle.pst_serving.proofs.text.serve.Goals as goal
 

@@ -1,10 +1,10 @@
 use Rattle.std.proofs.Common.{[], ◌∷◌, ◌++◌, ◌∙◌, rules, w64, FitsSigned}
 use Rattle.std.proofs.lemmas.Int.{to_z-of_z}
 use Rattle.pst_io.specs.Text.{lines_of}
-use Rattle.pst_sessions.specs.Pieces.{state_after}
-use Rattle.pst_sessions.specs.Script.{script_of}
+use Rattle.pst_answers.specs.Pieces.{state_after}
+use Rattle.pst_answers.specs.Script.{script_of}
 use Rattle.pst_summary.proofs.Summing.{broken_at, line_more, of_error, sum_more}
-use Rattle.pst_sessions.proofs.Writing.{state_more}
+use Rattle.pst_answers.proofs.Writing.{state_more}
 use Rattle.pst_summary.proofs.summary.sum_lines.Goals as goal
 
 pub sum_line-requires : goal.sum_line-requires

@@ -2,8 +2,8 @@ use Rattle.std.proofs.Common.{◌≡◌, List, ℕ, ◌++◌, ◌+ℤ◌, pos, f
 use Rattle.pst_io.specs.Text.{lines_of}
 use Rattle.pst_history.specs.Meaning.{Meaning}
 use Rattle.pst_history.specs.History.{History}
-use Rattle.pst_sessions.specs.Pieces.{state_after}
-use Rattle.pst_sessions.specs.Script.{script_of}
+use Rattle.pst_answers.specs.Pieces.{state_after}
+use Rattle.pst_answers.specs.Script.{script_of}
 use Rattle.pst_summary.specs.Bench.{printed_from}
 use Rattle.pst_summary.proofs.summary.sum_lines.Given as goal
 

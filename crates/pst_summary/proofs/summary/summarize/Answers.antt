@@ -3,9 +3,9 @@ use Rattle.std.proofs.lemmas.Int.{to_z-of_z}
 use Rattle.std.proofs.lemmas.Result.{IfOk-weaker}
 use Rattle.pst_io.specs.Text.{lines_of}
 use Rattle.pst_history.specs.Direct.{meaning_of}
-use Rattle.pst_sessions.specs.Pieces.{AfterSome}
-use Rattle.pst_sessions.specs.Script.{by_tree, script_of}
-use Rattle.pst_sessions.specs.Kept.{first_history}
+use Rattle.pst_answers.specs.Pieces.{AfterSome}
+use Rattle.pst_answers.specs.Script.{by_tree, script_of}
+use Rattle.pst_answers.specs.Kept.{first_history}
 use Rattle.pst_sessions.specs.Storing.{IsBroken}
 use Rattle.pst_summary.specs.Bench.{bench_lines, summary_of}
 use Rattle.pst_summary.proofs.Benching.{broken_behind, summary_is}

@@ -1,23 +1,17 @@
 -- What a session stands for, and what comes of answering lines by it.
-use Rattle.std.specs.Prelude.{◌≡◌, ℕ, false, ◌⊎◌, List, [], Option, Some, Result, Ok, Err, MatchResult}
+use Rattle.std.specs.Prelude.{◌≡◌, ℕ, ◌⊎◌, List, [], Option, Some, Result, Ok, Err, MatchResult}
 use Rattle.std.specs.List.{concat}
 use Rattle.std.specs.Option.{option_to_list}
 use Rattle.std.specs.Io.KnownBytes.{Appends, IsAtEnd}
 use Rattle.pst_io.specs.Input.{InputState, Gives, IsOver, IsCutOff}
 use Rattle.pst_io.specs.Lines.{LinesState}
-use Rattle.pst_program.specs.declared.program.Program.{Program}
-use Rattle.pst_program.specs.View.{routines_of}
-use Rattle.pst_program.specs.Typed.{IsTyped}
 use Rattle.pst_history.specs.Meaning.{Meaning}
 use Rattle.pst_history.specs.History.{History}
-use Rattle.pst_history.specs.Direct.{meaning_of}
-use Rattle.pst_replay.specs.Replay.{MayApply, kept_for}
-use Rattle.pst_replay.specs.declared.replayer.Replayer.{Replayer}
-use Rattle.pst_sessions.specs.declared.stop.Stop.{Stop}
-use Rattle.pst_sessions.specs.declared.stop.Stop.TheVariants as stop
-use Rattle.pst_sessions.specs.Pieces.{Answering, pieces_from, state_after, IsAll, IsPartOf, StopsInReply, StopsBeforeReply, BreaksIn}
-use Rattle.pst_sessions.specs.Reading.{GivesPast, IsNear}
-use Rattle.pst_sessions.specs.Script.{Rules, script_of}
+use Rattle.pst_answers.specs.declared.stop.Stop.{Stop}
+use Rattle.pst_answers.specs.declared.stop.Stop.TheVariants as stop
+use Rattle.pst_answers.specs.Pieces.{Answering, pieces_from, state_after, IsAll, IsPartOf, StopsInReply, StopsBeforeReply, BreaksIn}
+use Rattle.pst_answers.specs.Reading.{GivesPast, IsNear}
+use Rattle.pst_answers.specs.Script.{Rules, script_of}
 
 -- The sink has taken bytes of which this holds, and, where it tells what it takes, no others.
 abbrev pub HasTaken : {K : Type 0} → (taken : K → Option (List ℕ)) → (old new : K) → (List ℕ → Type 0) → Type 0
@@ -30,14 +24,6 @@ StandForSome stands session held = (m : Meaning) × (h : History) × stands sess
 -- this holds for each meaning of a program and each history of it that they stand for
 abbrev pub OnEachHistory : {S T : Type 0} → (S → T → Meaning → History → Type 0) → S → T → (Meaning → History → Type 0) → Type 0
 OnEachHistory stands session held Holds = (m : Meaning) (h : History) → stands session held m h → Holds m h
-
--- the replayer can be asked about the program, and keeps this history of it
-pub record IsReplaying (program : Program) (replayer : Replayer) (m : Meaning) (h : History) : Type 0 where
-  pub meaning : m ≡ meaning_of program
-  pub history : h ≡ kept_for program replayer.history
-  pub typed : IsTyped (routines_of program)
-  pub going : replayer.failed ≡ false
-  pub may : MayApply program replayer
 
 -- what was written of the reply to a line where it stopped
 abbrev pub StopsAtReply : Stop → Option (List ℕ) → List ℕ → Type 0

@@ -5,10 +5,10 @@ use Rattle.pst_io.specs.Input.{Gives}
 use Rattle.pst_io.specs.Lines.{IsOpen}
 use Rattle.pst_history.specs.Meaning.{Meaning}
 use Rattle.pst_history.specs.History.{History}
-use Rattle.pst_sessions.specs.Pieces.{IsAll, pieces_from, state_after}
-use Rattle.pst_sessions.specs.Script.{script_of}
-use Rattle.pst_sessions.specs.Reading.{IsNear}
-use Rattle.pst_sessions.proofs.script.answer_script.Given as goal
+use Rattle.pst_answers.specs.Pieces.{IsAll, pieces_from, state_after}
+use Rattle.pst_answers.specs.Script.{script_of}
+use Rattle.pst_answers.specs.Reading.{IsNear}
+use Rattle.pst_answers.proofs.script.answer_script.Given as goal
 
 -- on each history that they stood for, these lines were handed out and answered, and they stand for the one after the lines
 abbrev pub invariant-answering : goal.invariant-answering

@@ -4,8 +4,8 @@ ghost use Rattle.std.specs.Prelude.{◌≡◌, ◌≤◌, Err};
 ghost use Rattle.pst_io.specs.Causes.{Rose};
 ghost use Rattle.pst_io.specs.Input.{bytes_read};
 ghost use Rattle.pst_io.specs.Lines.{IsOpen};
-ghost use Rattle.pst_sessions.specs.Sessions.{Answers, StandForSome, OnEachHistory, AnswersScript};
-ghost use Rattle.pst_sessions.specs.Reading.{IsNear};
+ghost use Rattle.pst_answers.specs.Sessions.{Answers, StandForSome, OnEachHistory, AnswersScript};
+ghost use Rattle.pst_answers.specs.Reading.{IsNear};
 
 use crate::answer::answer_line;
 use crate::session::Session;

@@ -5,8 +5,8 @@ ghost use Rattle.pst_io.specs.Causes.{Rose};
 ghost use Rattle.pst_io.specs.Input.{bytes_read};
 ghost use Rattle.pst_io.specs.Text.{line_text};
 ghost use Rattle.pst_io.specs.Lines.{IsOpen, not_begun};
-ghost use Rattle.pst_sessions.specs.Input.{cut};
-ghost use Rattle.pst_sessions.specs.Reading.{GivesUntil, ReadsText};
+ghost use Rattle.pst_answers.specs.Input.{cut};
+ghost use Rattle.pst_answers.specs.Reading.{GivesUntil, ReadsText};
 
 use crate::stop::Stop;
 use pst_base::NoMemory;

@@ -6,13 +6,13 @@ use Rattle.pst_io.specs.Input.{InputState, Hands, Gives, Reads, ReadsPast, IsOve
 use Rattle.pst_io.proofs.Handing.{gives_then}
 use Rattle.pst_io.specs.declared.fault.LinesFault.{LinesFault}
 use Rattle.pst_io.specs.declared.fault.LinesFault.TheVariants as lines
-use Rattle.pst_sessions.specs.declared.stop.Stop.TheVariants as stop
+use Rattle.pst_answers.specs.declared.stop.Stop.TheVariants as stop
 use Rattle.pst_io.specs.Lines.{LinesState, IsOpen, not_begun}
-use Rattle.pst_sessions.specs.declared.stop.Stop.{Stop}
-use Rattle.pst_sessions.specs.Pieces.{Answering, pieces_from, state_after, IsAll}
-use Rattle.pst_sessions.specs.Sessions.{StopsAtReply, HeldAtReply, StopsAnswering}
-use Rattle.pst_sessions.specs.Reading.{GivesPast, GivesUntil, IsNear, stop_of}
-use Rattle.pst_sessions.proofs.Writing.{state_more, in_reply, before_reply, breaks_in}
+use Rattle.pst_answers.specs.declared.stop.Stop.{Stop}
+use Rattle.pst_answers.specs.Pieces.{Answering, pieces_from, state_after, IsAll}
+use Rattle.pst_answers.specs.Sessions.{StopsAtReply, HeldAtReply, StopsAnswering}
+use Rattle.pst_answers.specs.Reading.{GivesPast, GivesUntil, IsNear, stop_of}
+use Rattle.pst_answers.proofs.Writing.{state_more, in_reply, before_reply, breaks_in}
 
 -- reading only, after lines were handed out
 pub then_reads : (a : InputState) (left : Option (List ℕ)) (b : InputState) (left' : Option (List ℕ)) (c : InputState) (left'' : Option (List ℕ)) (given : List (List ℕ))

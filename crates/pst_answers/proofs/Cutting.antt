@@ -5,8 +5,8 @@ use Rattle.std.specs.Io.KnownBytes.{Consumes, IsAtEnd, prepend_known}
 use Rattle.pst_io.specs.Text.{lines_of}
 use Rattle.pst_io.specs.Input.{InputState, Hands, Gives, AreNextLines, pending}
 use Rattle.pst_script.specs.Words.{is_separator}
-use Rattle.pst_sessions.specs.Input.{CutInput, behind_line, cut, or_all}
-use Rattle.pst_sessions.specs.Reading.{IsTextOf}
+use Rattle.pst_answers.specs.Input.{CutInput, behind_line, cut, or_all}
+use Rattle.pst_answers.specs.Reading.{IsTextOf}
 
 abbrev pub in_front : List ℕ → CutInput → CutInput
 in_front text c = record c { text = text ++ c.text }

@@ -11,8 +11,7 @@ use Rattle.pst_script.specs.Commands.{reading}
 use Rattle.pst_script.specs.Texts.{text_of}
 use Rattle.pst_history.specs.Meaning.{Meaning}
 use Rattle.pst_history.specs.History.{History, reply, after}
-use Rattle.pst_linerun.specs.Linear.{line_reply, line_after}
-use Rattle.pst_sessions.specs.Pieces.{Answering}
+use Rattle.pst_answers.specs.Pieces.{Answering}
 
 -- How commands are answered: the reply on a history, and the history after the command.
 pub record Rules : Type 0 where
@@ -22,10 +21,6 @@ pub record Rules : Type 0 where
 -- any version may be written: the versions form a tree
 abbrev pub by_tree : Rules
 by_tree = record { reply = reply; after = after }
-
--- only the newest version may be written: the versions form a line
-abbrev pub by_line : Rules
-by_line = record { reply = line_reply; after = line_after }
 
 -- the reply, if there is one
 abbrev pub answer_of : Rules → Meaning → History → Result (Option Command) LineFault → Option Reply

@@ -1,11 +1,11 @@
 use Rattle.std.proofs.Common.{ap, refl, arith, Ok, Err, [], ◌∷◌, ◌++◌}
 use Rattle.std.proofs.KnownBytes.{Appends-nil, Appends-trans}
 use Rattle.pst_io.proofs.Handing.{gives_none, gives_then}
-use Rattle.pst_sessions.specs.Pieces.{state_after}
-use Rattle.pst_sessions.specs.Script.{script_of}
-use Rattle.pst_sessions.proofs.Reading.{until_fault, until_answered, until_reply, then_reads, still_near}
-use Rattle.pst_sessions.proofs.Writing.{all_more, state_more}
-use Rattle.pst_sessions.proofs.script.answer_script.Goals as goal
+use Rattle.pst_answers.specs.Pieces.{state_after}
+use Rattle.pst_answers.specs.Script.{script_of}
+use Rattle.pst_answers.proofs.Reading.{until_fault, until_answered, until_reply, then_reads, still_near}
+use Rattle.pst_answers.proofs.Writing.{all_more, state_more}
+use Rattle.pst_answers.proofs.script.answer_script.Goals as goal
 
 pub answering-init : goal.answering-init
 answering-init g c = record {

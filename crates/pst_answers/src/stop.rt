@@ -19,7 +19,7 @@ pub enum Stop {
 
 impl From<LinesFault> for Stop {
     ghost use Rattle.std.specs.Prelude.{◌≡◌};
-    ghost use Rattle.pst_sessions.specs.Reading.{stop_of};
+    ghost use Rattle.pst_answers.specs.Reading.{stop_of};
 
     ghost from_gives = { λ fault stop. stop ≡ stop_of fault };
 
@@ -34,7 +34,7 @@ impl From<LinesFault> for Stop {
 
 impl From<Failed> for Stop {
     ghost use Rattle.std.specs.Prelude.{◌≡◌};
-    ghost use Rattle.pst_sessions.specs.declared.stop.Stop.TheVariants.{Write};
+    ghost use Rattle.pst_answers.specs.declared.stop.Stop.TheVariants.{Write};
 
     ghost from_gives = { λ _ stop. stop ≡ Write };
 
@@ -45,7 +45,7 @@ impl From<Failed> for Stop {
 
 impl From<NoMemory> for Stop {
     ghost use Rattle.std.specs.Prelude.{◌≡◌};
-    ghost use Rattle.pst_sessions.specs.declared.stop.Stop.TheVariants.{Memory};
+    ghost use Rattle.pst_answers.specs.declared.stop.Stop.TheVariants.{Memory};
 
     ghost from_gives = { λ _ stop. stop ≡ Memory };
 
@@ -56,7 +56,7 @@ impl From<NoMemory> for Stop {
 
 impl<T: Drop> From<AllocFailed<T>> for Stop {
     ghost use Rattle.std.specs.Prelude.{◌≡◌};
-    ghost use Rattle.pst_sessions.specs.declared.stop.Stop.TheVariants.{Memory};
+    ghost use Rattle.pst_answers.specs.declared.stop.Stop.TheVariants.{Memory};
 
     ghost from_gives = { λ _ stop. stop ≡ Memory };
 

@@ -3,7 +3,7 @@ use Rattle.std.proofs.Common.{◌≡◌, ℕ, ◌⊎◌, inl, inr, List, [], ◌
 use Rattle.std.specs.List.{concat}
 use Rattle.std.specs.Option.{option_to_list}
 use Rattle.std.proofs.lemmas.List.Folds.{concat-append}
-use Rattle.pst_sessions.specs.Pieces.{Answering, pieces_from, state_after, IsAll, IsPartOf, StopsInReply, StopsBeforeReply, BreaksIn}
+use Rattle.pst_answers.specs.Pieces.{Answering, pieces_from, state_after, IsAll, IsPartOf, StopsInReply, StopsBeforeReply, BreaksIn}
 
 pub pieces-append : {A : Type 0} (m : Answering A) (a : A) (given rest : List (List ℕ))
     → pieces_from m a (given ++ rest) ≡ pieces_from m a given ++ pieces_from m (state_after m a given) rest

@@ -2,9 +2,9 @@ use Rattle.std.proofs.Common.{◌≤◌, ◌-◌, List, ℕ}
 use Rattle.pst_io.specs.Input.{Gives, Hands}
 use Rattle.pst_io.specs.Lines.{IsOpen}
 use Rattle.pst_io.specs.declared.room.TheConstants.{MOST_INPUT}
-use Rattle.pst_sessions.specs.Reading.{IsNear}
-use Rattle.pst_sessions.proofs.Cutting.{IsBefore}
-use Rattle.pst_sessions.proofs.program.read_text.Given as goal
+use Rattle.pst_answers.specs.Reading.{IsNear}
+use Rattle.pst_answers.proofs.Cutting.{IsBefore}
+use Rattle.pst_answers.proofs.program.read_text.Given as goal
 
 -- these lines were handed out, none of them the separator line, and each ended by a line feed; they were kept
 abbrev pub invariant-reading : goal.invariant-reading

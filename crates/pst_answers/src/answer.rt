@@ -5,8 +5,8 @@ ghost use Rattle.std.specs.Option.{option_map};
 ghost use Rattle.pst_io.specs.Causes.{Rose};
 ghost use Rattle.pst_script.specs.Commands.{reading};
 ghost use Rattle.pst_script.specs.Texts.{text_of};
-ghost use Rattle.pst_sessions.specs.Script.{script_of, answer_of, next_of};
-ghost use Rattle.pst_sessions.specs.Sessions.{HasTaken, StandForSome, OnEachHistory, StopsAtReply, HeldAtReply, IsSaid};
+ghost use Rattle.pst_answers.specs.Script.{script_of, answer_of, next_of};
+ghost use Rattle.pst_answers.specs.Sessions.{HasTaken, StandForSome, OnEachHistory, StopsAtReply, HeldAtReply, IsSaid};
 
 use crate::session::Session;
 use crate::stop::Stop;

@@ -2,9 +2,9 @@ use Rattle.std.proofs.Common.{◌≡◌, ◌∙◌, ap, sym, subst, arith, inl, 
 use Rattle.pst_io.specs.Text.{line_text}
 use Rattle.pst_io.proofs.Handing.{hands_none, hands_then, gives_none, gives_then}
 use Rattle.pst_script.specs.Words.{is_separator}
-use Rattle.pst_sessions.proofs.Cutting.{IsBefore, begins, goes_on, none_yet, none_after, at_separator, told_separator, told_end}
-use Rattle.pst_sessions.proofs.Reading.{until_fault, hands_as, opens, near_fresh, near_over, still_near}
-use Rattle.pst_sessions.proofs.program.read_text.Goals as goal
+use Rattle.pst_answers.proofs.Cutting.{IsBefore, begins, goes_on, none_yet, none_after, at_separator, told_separator, told_end}
+use Rattle.pst_answers.proofs.Reading.{until_fault, hands_as, opens, near_fresh, near_over, still_near}
+use Rattle.pst_answers.proofs.program.read_text.Goals as goal
 
 pub reading-init : goal.reading-init
 reading-init g c = record {

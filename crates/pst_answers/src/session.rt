@@ -8,9 +8,9 @@ ghost use Rattle.pst_script.specs.Commands.{in_range};
 ghost use Rattle.pst_history.specs.Meaning.{Meaning};
 ghost use Rattle.pst_history.specs.History.{History};
 ghost use Rattle.pst_history.specs.Direct.{meaning_of};
-ghost use Rattle.pst_sessions.specs.Script.{Rules};
-ghost use Rattle.pst_sessions.specs.Kept.{first_history};
-ghost use Rattle.pst_sessions.specs.Sessions.{StandForSome};
+ghost use Rattle.pst_answers.specs.Script.{Rules};
+ghost use Rattle.pst_answers.specs.Kept.{first_history};
+ghost use Rattle.pst_answers.specs.Sessions.{StandForSome};
 
 use pst_base::NoMemory;
 use pst_program::Program;

@@ -2,8 +2,8 @@
 use Rattle.std.specs.Prelude.{◌≡◌, ℕ, ⊤, List}
 use Rattle.pst_history.specs.Meaning.{Meaning}
 use Rattle.pst_history.specs.History.{History, opening, begun}
-use Rattle.pst_sessions.specs.Pieces.{state_after, BreaksIn}
-use Rattle.pst_sessions.specs.Script.{Rules, script_of}
+use Rattle.pst_answers.specs.Pieces.{state_after, BreaksIn}
+use Rattle.pst_answers.specs.Script.{Rules, script_of}
 
 -- What is held, by how far a call came.
 pub record Kept : Type 1 where

@@ -6,9 +6,9 @@ use Rattle.pst_io.specs.declared.fault.LinesFault.{LinesFault}
 use Rattle.pst_io.specs.declared.fault.LinesFault.TheVariants as fault
 use Rattle.pst_io.specs.Text.{lines_of}
 use Rattle.pst_io.specs.Input.{InputState, Gives, IsOver, IsCutOff, bytes_read, pending}
-use Rattle.pst_sessions.specs.declared.stop.Stop.{Stop}
-use Rattle.pst_sessions.specs.declared.stop.Stop.TheVariants.{Read, Write, TooLong, Memory}
-use Rattle.pst_sessions.specs.Input.{cut, cut_of}
+use Rattle.pst_answers.specs.declared.stop.Stop.{Stop}
+use Rattle.pst_answers.specs.declared.stop.Stop.TheVariants.{Read, Write, TooLong, Memory}
+use Rattle.pst_answers.specs.Input.{cut, cut_of}
 
 -- why it stopped, from why a reader of lines did
 abbrev pub stop_of : LinesFault → Stop
