@@ -1,10 +1,6 @@
--- What the evaluator's answers and its state mean.
-use Rattle.std.specs.Prelude.{◌≡◌, ◌^◌, ℕ, ◌+◌, ◌<◌, ℤ, List, [], ◌∷◌, ◌++◌, map, max, slice_get, Bool, true, false, Option, Some, None, Result, Ok, Err}
-use Rattle.std.specs.declared.vec.Vec.{Vec}
-use Rattle.std.specs.declared.alloc.Global.{Global}
+-- What the evaluator's ends mean, and what parts of a program come to.
+use Rattle.std.specs.Prelude.{◌≡◌, ℕ, ◌+◌, List, [], ◌∷◌, map, max, slice_get, Bool, true, false, Option, Some, None, Result, Ok, Err}
 use Rattle.pst_base.specs.declared.names.Name.{Name}
-use Rattle.pst_base.specs.declared.names.TrapKind.{TrapKind}
-use Rattle.pst_base.specs.declared.names.TrapKind.TheVariants.{Overflow}
 use Rattle.pst_base.specs.declared.shape.TypeShape.{TypeShape}
 use Rattle.pst_base.specs.Heap.{OrdinaryHeap}
 use Rattle.pst_program.specs.declared.block.TypedBlock.{TypedBlock, size-TypedBlock}
@@ -14,35 +10,14 @@ use Rattle.pst_program.specs.declared.typed.Typed.{Typed}
 use Rattle.pst_program.specs.declared.program.Program.{Program}
 use Rattle.pst_program.specs.declared.program.TypedProc.{TypedProc}
 use Rattle.pst_program.specs.declared.meaning.Value.{Value}
-use Rattle.pst_program.specs.declared.meaning.Value.TheVariants.{Number as ANumber}
 use Rattle.pst_program.specs.Syntax as syntax
 use Rattle.pst_program.specs.Syntax.{Expr, Action}
-use Rattle.pst_program.specs.Value.{Env, Answer, Gives, Traps, number_of, index_of, value}
-use Rattle.pst_program.specs.Sound.{NamesAreFree}
-use Rattle.pst_program.specs.Meaning.{World, Ending, Normal, Returned, Trapped, Spent, Answers, Gives_all, Traps_at, Calls, call, call_with, exec, exec_action, turns, run_body, if_else, with_index, with_answer, write, store_element}
+use Rattle.pst_program.specs.Value.{Env, number_of, index_of, value}
+use Rattle.pst_program.specs.Meaning.{World, Ending, Calls, call, call_with, exec, exec_action, turns, run_body, if_else, with_index, with_answer, write, store_element}
 use Rattle.pst_program.specs.View.{expr_of, action_of, actions_of, routines_of}
-use Rattle.pst_eval.specs.declared.tally.Tally.{Tally}
-use Rattle.pst_eval.specs.declared.tally.End.{End}
-use Rattle.pst_eval.specs.declared.tally.End.TheVariants.{Normal as EndNormal, Return, Trap, Spent as EndSpent}
-
--- what a value or a trap says
-abbrev pub answer_of : Result Value TrapKind → Answer
-answer_of (Ok v) = Gives v
-answer_of (Err t) = Traps t
-
-abbrev pub given_of : Option ℤ → Result Value TrapKind
-given_of (Some n) = Ok (ANumber n)
-given_of None = Err Overflow
-
--- what the heap and the tally of a run are together
-abbrev pub world_of : OrdinaryHeap → Tally → World
-world_of h t = record { heap = h.heap; charges = t.charges; printed = t.printed.items; run = t.run; made = t.made; counts = t.counts }
-
-abbrev pub ending_of : End → Env → World → Ending
-ending_of EndNormal env w = Normal env w
-ending_of (Return v) env w = Returned v w
-ending_of (Trap t line) env w = Trapped t line w
-ending_of (EndSpent line) env w = Spent line w
+use Rattle.pst_values.specs.declared.tally.Tally.{Tally}
+use Rattle.pst_values.specs.declared.tally.End.{End}
+use Rattle.pst_values.specs.Work.{world_of, ending_of}
 
 -- the end of all, or what goes on where there is none
 abbrev pub last_or : Option End → (World → Ending) → World → Ending
@@ -53,15 +28,6 @@ last_or (Some end) go w = ending_of end [] w
 abbrev pub deepest : List TypedProc → ℕ
 deepest [] = 0
 deepest (p ∷ ps) = max (size-TypedBlock p.body) (deepest ps)
-
-abbrev pub values_of : Result (Vec Value Global) TrapKind → Answers
-values_of (Ok vs) = Gives_all vs.items
-values_of (Err t) = Traps_at t
-
--- with these values before
-abbrev pub after : List Value → Answers → Answers
-after vs (Gives_all ws) = Gives_all (vs ++ ws)
-after vs (Traps_at t) = Traps_at t
 
 -- what follows a condition: one of two, or the end that it came to
 abbrev pub goes_on : Result Bool End → (first other : Env → World → Ending) → Env → World → Ending
@@ -96,25 +62,6 @@ element_written shape n slot index e line env w =
 abbrev pub indexed_written : List TypeShape → Name → (slot elements : ℕ) → (index e : Expr) → (line : ℕ) → Env → World → Ending
 indexed_written shape n slot elements index e line env w =
     with_answer (value shape index env w.heap) line w (λ i. element_written shape n slot (index_of elements (number_of i)) e line env w)
-
--- the counts have room for so many charges more
-pub record HasRoom (charges : ℕ) (t : Tally) : Type 0 where
-  pub made : t.made + charges < 2 ^ 32
-  pub records : t.counts.records + charges < 2 ^ 64
-  pub pointer_writes : t.counts.pointer_writes + charges < 2 ^ 64
-  pub value_writes : t.counts.value_writes + charges < 2 ^ 64
-
--- the heap has the shape, the names of new records are free, and the counts have room for the charges left
-pub record IsAtWork (shape : List TypeShape) (h : OrdinaryHeap) (t : Tally) : Type 0 where
-  pub shaped : h.shape ≡ shape
-  pub fresh : NamesAreFree h.heap t.run t.made
-  pub room : HasRoom t.charges t
-
--- the same, where one charge was taken that nothing was done for
-pub record IsCharged (shape : List TypeShape) (h : OrdinaryHeap) (t : Tally) : Type 0 where
-  pub shaped : h.shape ≡ shape
-  pub fresh : NamesAreFree h.heap t.run t.made
-  pub room : HasRoom (t.charges + 1) t
 
 -- ---- what parts of a program come to, where so many more calls may become active
 

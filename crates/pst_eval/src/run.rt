@@ -4,14 +4,15 @@ ghost use Rattle.std.specs.Prelude.{◌≡◌, ◌≤◌, ℕ, [], IfOk, OnOk, O
 ghost use Rattle.pst_program.specs.declared.block.TypedBlock.{size-TypedBlock};
 ghost use Rattle.pst_program.specs.declared.block.TypedStatement.{size-TypedStatement};
 ghost use Rattle.pst_program.specs.Meaning.{after_call};
-ghost use Rattle.pst_eval.specs.Ends.{ending_of, world_of, deepest, IsAtWork, calls_in, block_end, statement_end, called_end, loop_end, body_end};
+ghost use Rattle.pst_values.specs.Work.{ending_of, world_of, IsAtWork};
+ghost use Rattle.pst_eval.specs.Ends.{deepest, calls_in, block_end, statement_end, called_end, loop_end, body_end};
 
-use crate::call::{after, arguments, default_result, first_env, procedure_at};
+use crate::call::{after, procedure_at};
 use crate::steps::{holds, step};
-use crate::tally::{End, Tally};
 use pst_base::{NoMemory, TrapKind};
 use pst_heap::PlainHeap;
 use pst_program::{Program, Typed, TypedBlock, TypedForm, TypedList, TypedStatement, Value};
+use pst_values::{End, Tally, arguments, default_result, first_env};
 use std::alloc::Global;
 
 /// Runs a block, where `deep` more calls may become active.
@@ -40,6 +41,7 @@ pub fn run_block(
     Ok(End::Normal)
 }
 
+/// Carries out a statement, where `deep` more calls may become active.
 #[cycle(run)]
 fn run_statement(
     alloc: Global,
@@ -126,6 +128,7 @@ fn run_called(
     }
 }
 
+/// Runs a loop: its body as often as its condition holds, each time for a charge.
 #[cycle(run)]
 fn run_while(
     alloc: Global,

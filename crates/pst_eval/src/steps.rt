@@ -5,14 +5,13 @@ ghost use Rattle.std.specs.Option.{option_map};
 ghost use Rattle.pst_program.specs.declared.meaning.Value.{Value};
 ghost use Rattle.pst_program.specs.Meaning.{World, Ending, Calls, set_local, set_root, store_field, make, print_value, return_value, is_target};
 ghost use Rattle.pst_program.specs.View.{expr_of, action_of};
-ghost use Rattle.pst_eval.specs.Ends.{Chooses, ending_of, world_of, step_end, element_store_end, element_written, indexed_written, IsSimple, IsAtWork, IsCharged};
+ghost use Rattle.pst_values.specs.Work.{ending_of, world_of, IsAtWork, IsCharged};
+ghost use Rattle.pst_eval.specs.Ends.{Chooses, step_end, element_store_end, element_written, indexed_written, IsSimple};
 
-use crate::tally::{End, Tally};
-use crate::value::{element_slot, index_of, number, value};
-use crate::write::write;
 use pst_base::{Name, NoMemory, ROOT, SlotNo, TrapKind, TypeNo, TypeShape};
 use pst_heap::PlainHeap;
 use pst_program::{MOST_PRINTED, Typed, TypedForm, Value};
+use pst_values::{End, Tally, element_slot, index_of, number, truth, value, write};
 
 /// Carries out a statement that holds no other and calls nothing.
 pub fn step(
@@ -327,6 +326,6 @@ pub fn holds(
     }
     match value(e, env, heap) {
         Err(trap) => Err(End::Trap(trap, line)),
-        Ok(v) => Ok(crate::value::truth(v)),
+        Ok(v) => Ok(truth(v)),
     }
 }

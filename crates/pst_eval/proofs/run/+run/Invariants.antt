@@ -3,7 +3,8 @@ use Rattle.pst_program.specs.Meaning.{exec, turns, call}
 use Rattle.pst_program.specs.View.{expr_of, actions_of, statements_of, routines_of}
 use Rattle.pst_program.specs.declared.block.TypedBlock.{size-TypedBlock}
 use Rattle.pst_program.specs.declared.block.TypedStatement.{size-TypedStatement}
-use Rattle.pst_eval.specs.Ends.{world_of, deepest, IsAtWork}
+use Rattle.pst_values.specs.Work.{world_of, IsAtWork}
+use Rattle.pst_eval.specs.Ends.{deepest}
 use Rattle.pst_eval.proofs.run.+run.Given as goal
 
 abbrev pub decreases-run_block : goal.decreases-run_block

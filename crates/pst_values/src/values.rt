@@ -4,7 +4,7 @@ ghost use Rattle.std.specs.Prelude.{◌≡◌, ◌+◌, ◌-◌, ◌^◌, min, s
 ghost use Rattle.pst_base.specs.Heap.{kind_in};
 ghost use Rattle.pst_program.specs.Value.{number_of, truth_of, same_value, operate, decides, content, load, object_of, index_of, load_element, value as value_of};
 ghost use Rattle.pst_program.specs.View.{expr_of};
-ghost use Rattle.pst_eval.specs.Ends.{answer_of, given_of};
+ghost use Rattle.pst_values.specs.Answers.{answer_of, given_of};
 
 use pst_base::{Kind, Name, Op, ROOT, SlotNo, TrapKind};
 use pst_heap::PlainHeap;
@@ -51,6 +51,7 @@ pub fn value(e: &Typed, env: &[Value], heap: &PlainHeap) -> Result<Value, TrapKi
     }
 }
 
+/// What a local holds; one that is not there is null.
 fn local_at(env: &[Value], x: u16) -> Value
     ensures { result ≡ slice_index_or env.now x Value.Null }
 {

@@ -6,10 +6,10 @@ ghost use Rattle.pst_base.specs.declared.names.TypeNo.{TypeNo};
 ghost use Rattle.pst_base.specs.Heap.{kind_in};
 ghost use Rattle.pst_program.specs.declared.meaning.Value.{Value};
 ghost use Rattle.pst_program.specs.Meaning.{write, write_pointer};
-ghost use Rattle.pst_eval.specs.Ends.{ending_of, world_of, IsAtWork, IsCharged};
+ghost use Rattle.pst_values.specs.Work.{ending_of, world_of, IsAtWork, IsCharged};
 
 use crate::tally::{End, Tally};
-use crate::value::number;
+use crate::values::number;
 use pst_base::{Kind, Name, SlotNo, TrapKind, TypeNo};
 use pst_heap::PlainHeap;
 use pst_program::Value;

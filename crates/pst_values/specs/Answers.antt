@@ -1,0 +1,30 @@
+-- What the answers of expressions mean.
+use Rattle.std.specs.Prelude.{ℤ, List, ◌++◌, Option, Some, None, Result, Ok, Err}
+use Rattle.std.specs.declared.vec.Vec.{Vec}
+use Rattle.std.specs.declared.alloc.Global.{Global}
+use Rattle.pst_base.specs.declared.names.TrapKind.{TrapKind}
+use Rattle.pst_base.specs.declared.names.TrapKind.TheVariants.{Overflow}
+use Rattle.pst_program.specs.declared.meaning.Value.{Value}
+use Rattle.pst_program.specs.declared.meaning.Value.TheVariants.{Number as ANumber}
+use Rattle.pst_program.specs.Value.{Answer, Gives, Traps}
+use Rattle.pst_program.specs.Meaning.{Answers, Gives_all, Traps_at}
+
+-- what a value or a trap says
+abbrev pub answer_of : Result Value TrapKind → Answer
+answer_of (Ok v) = Gives v
+answer_of (Err t) = Traps t
+
+-- an exact result, or that it is no number of 64 bits
+abbrev pub given_of : Option ℤ → Result Value TrapKind
+given_of (Some n) = Ok (ANumber n)
+given_of None = Err Overflow
+
+-- what the values of arguments say, or the first trap
+abbrev pub values_of : Result (Vec Value Global) TrapKind → Answers
+values_of (Ok vs) = Gives_all vs.items
+values_of (Err t) = Traps_at t
+
+-- with these values before
+abbrev pub after : List Value → Answers → Answers
+after vs (Gives_all ws) = Gives_all (vs ++ ws)
+after vs (Traps_at t) = Traps_at t
