@@ -1,5 +1,5 @@
 -- From call to call.
-use Rattle.std.proofs.Common.{◌≡◌, ◌≢◌, ◌+◌, ◌≤◌, Bool, false, List, Option, None, refl, sym, ◌∙◌, subst, arith}
+use Rattle.std.proofs.Common.{◌≡◌, ◌≢◌, ◌+◌, ◌≤◌, Bool, false, List, Option, refl, sym, ◌∙◌, subst, arith}
 use Rattle.pst_base.specs.declared.names.Name.{Name}
 use Rattle.pst_program.specs.Meaning.{World}
 use Rattle.pst_program.specs.Outcome.{TaskCall}
@@ -14,14 +14,15 @@ use Rattle.pst_steps.specs.declared.standing.Step.{Step}
 use Rattle.pst_steps.specs.declared.standing.Step.TheVariants.{Next, Here, Switched, Waits, Ends, Trap}
 use Rattle.pst_machine.specs.declared.stage.Stage.{Stage}
 use Rattle.pst_steps.specs.View.{move_of}
-use Rattle.pst_machine.specs.Ready.{world_of, current_of, waiting_of, spendable_of, IsFunded, IsRest, Ran}
+use Rattle.pst_running.specs.Ready.{world_of, current_of, waiting_of, spendable_of, IsFunded, IsRest, Ran}
 use Rattle.pst_steps.specs.Calls.{HoldsNothing, SameTally}
 use Rattle.pst_steps.specs.Fields.{KeepsOthers}
-use Rattle.pst_machine.specs.Advance.{AllMayCall, CanGoOn, Carried, CarriedOut, ComesBetween, ComesIn, GoesInto, IsAt, IsInto, MayCarryOn, ReadyAfter, RestsIn, SameTerms, calls_of, payable}
-use Rattle.pst_machine.proofs.Acting.{same_tally}
-use Rattle.pst_machine.proofs.Moving.{kept_refl, kept_trans}
+use Rattle.pst_machine.specs.Advance.{AllMayCall, CanGoOn, Carried, CarriedOut, ComesBetween, ComesIn, IsAt, IsInto, MayCarryOn, ReadyAfter, RestsIn, SameTerms, calls_of, payable}
+use Rattle.pst_running.proofs.Acting.{same_tally}
+use Rattle.pst_running.proofs.Moving.{kept_refl, kept_trans}
 use Rattle.pst_machine.proofs.Leading.{in_on, in_ends}
-use Rattle.pst_machine.proofs.Reading.{unchanged_refl, unchanged_trans, ran_sound, ran_pays, ran_reads, ran_names, ended_between, ended_funds}
+use Rattle.pst_running.proofs.Reading.{unchanged_refl, unchanged_trans, ran_sound, ran_pays, ran_reads, ran_names}
+use Rattle.pst_machine.proofs.Ended.{ended_between, ended_funds}
 
 module _ {P R : Type 0} where
   same_terms : (a b d : Stage P R) → SameTerms a b → SameTerms b d → SameTerms a d

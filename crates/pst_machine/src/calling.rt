@@ -5,16 +5,16 @@ ghost use Rattle.pst_code.specs.Valid.{IsValidCode};
 ghost use Rattle.pst_places.specs.State.{Unchanged};
 ghost use Rattle.pst_steps.specs.declared.register.Register.TheVariants as register;
 ghost use Rattle.pst_steps.specs.Calls.{register_default, HoldsNothing};
-ghost use Rattle.pst_machine.specs.Ready.{IsRest};
+ghost use Rattle.pst_running.specs.Ready.{IsRest};
 ghost use Rattle.pst_steps.specs.Fields.{KeepsOthers};
 ghost use Rattle.pst_machine.specs.Advance.{BeginsNext, CarriedOut, GoesInto, IsBegun, MayCarryOn, SameTerms};
 
 use crate::pending::ProcCall;
-use crate::running::run;
 use crate::stage::Stage;
 use pst_base::{Kind, NoMemory};
 use pst_code::Code;
 use pst_places::HeapAt;
+use pst_running::run;
 use pst_steps::{Register, Standing, Step, fill, let_go};
 
 /// Carries out the call that is under way and those that wait, until the charges are used and another is due, or to the end.

@@ -17,7 +17,7 @@ use Rattle.pst_places.specs.State.{State}
 use Rattle.pst_machine.specs.declared.stage.Stage.{Stage}
 use Rattle.pst_machine.specs.declared.stage.Progress.{Progress}
 use Rattle.pst_machine.specs.declared.stage.Progress.TheVariants.{Running, Done, Trapped as TrappedAt}
-use Rattle.pst_machine.specs.Ready.{world_of, current_of, waiting_of}
+use Rattle.pst_running.specs.Ready.{world_of, current_of, waiting_of}
 use Rattle.pst_machine.specs.Advance.{CallComes, CallsLead, ComesIn, ComesToAnswer, TrapsBy, calls_of}
 use Rattle.pst_runs.specs.Runs.{ended_of}
 

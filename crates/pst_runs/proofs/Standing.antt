@@ -22,7 +22,7 @@ use Rattle.pst_machine.specs.declared.pending.ProcCall.{ProcCall}
 use Rattle.pst_machine.specs.declared.stage.Stage.{Stage}
 use Rattle.pst_machine.specs.declared.stage.Progress.{Progress}
 use Rattle.pst_machine.specs.declared.stage.Progress.TheVariants.{Running, Done, Trapped}
-use Rattle.pst_machine.specs.Ready.{world_of}
+use Rattle.pst_running.specs.Ready.{world_of}
 use Rattle.pst_machine.specs.Advance as machine
 use Rattle.pst_machine.specs.Laws as machine_laws
 use Rattle.pst_machine.specs.Stands.{Stands, StandsWhere, begins_with}

@@ -1,0 +1,4 @@
+pub mod Moving
+pub mod Acting
+pub mod Fitting
+pub mod Reading
