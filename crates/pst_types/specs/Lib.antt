@@ -1,3 +1,3 @@
 pub mod View
-pub mod Parts
+pub mod Added
 pub mod Bodies

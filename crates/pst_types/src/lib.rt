@@ -10,7 +10,6 @@
 //! ```
 #![tactic(auto)]
 
-mod procedure;
 mod walks;
 
 pub use walks::check;

@@ -4,7 +4,7 @@
 //! at to the end, since the scope refers to them, but a body only once, in the second walk. So the bodies are taken out of
 //! the declarations first, and each is let go as soon as its procedure is typed.
 
-ghost use Rattle.std.specs.Prelude.{◌≡◌, ℤ, Ok, IfOk, length, map};
+ghost use Rattle.std.specs.Prelude.{◌≡◌, Ok, IfOk, length, map};
 ghost use Rattle.pst_tree.specs.Syntax as tree;
 ghost use Rattle.pst_tree.specs.View as tree_view;
 ghost use Rattle.pst_tree.specs.Depth.{IsShallow};
@@ -16,17 +16,15 @@ ghost use Rattle.pst_typing.specs.Names.{nothing_declared};
 ghost use Rattle.pst_typing.specs.View.{Answers};
 ghost use Rattle.pst_scope.specs.View.{members_of, scope_of};
 ghost use Rattle.pst_typing.specs.View.{program_of};
-ghost use Rattle.pst_types.specs.View.{procedure_text_of, draft_of};
-ghost use Rattle.pst_types.specs.Parts.{with_type};
+ghost use Rattle.pst_types.specs.View.{draft_of};
+ghost use Rattle.pst_types.specs.Added.{with_type};
 ghost use Rattle.pst_types.specs.Bodies.{with_body, with_bodies};
 
-use crate::procedure::{ProcedureHead, judge_procedure};
-use pst_base::{MOST_LIMIT, MOST_ROOTS, ProcNo, Shape, Text, TypeNo, TypeShape};
+use pst_base::{MOST_LIMIT, Shape, Text, TypeShape};
+use pst_procedures::{ProcedureHead, judge_procedure, note};
 use pst_program::{Program, TypeEntry, TypeNames, TypedProc, TypedProcs};
-use pst_scope::{
-    Members, RecordType, Scope, Signature, Word, judge_fields, lay_out, names_of, shape_of,
-};
-use pst_tree::{Block, Declaration, Fields, Tree, TypeName};
+use pst_scope::{Members, Scope, Word, judge_fields, names_of, shape_of};
+use pst_tree::{Block, Declaration, Fields, Tree};
 use pst_typing::{TypeFault, accepted_programs_are_typed};
 use std::alloc::{AllocError, Global};
 use std::mem;
@@ -37,110 +35,6 @@ pub(crate) struct Draft {
     pub(crate) shape: Vec<TypeShape>,
     pub(crate) names: Vec<TypeEntry>,
     pub(crate) procedures: Vec<TypedProc>,
-}
-
-/// Notes a record type.
-fn note_record<'t>(
-    alloc: Global,
-    scope: &mut Scope<'t>,
-    line: u32,
-    name: &'t Text,
-    fields: &'t Fields,
-) -> Result<(), TypeFault>
-    ensures { (limit : ℤ) → Answers (λ _. scope_of scope.new) result (noted (scope_of scope.old) (tree.Record line name.now limit (map tree_view.field_of fields.now))) }
-{
-    let count = scope.types.len();
-    if count >= 64 {
-        return Err(TypeFault::TooMany { line });
-    }
-    let name = name.as_slice();
-    if !scope.is_free(name) {
-        return Err(TypeFault::Duplicate { line });
-    }
-    let number = TypeNo(count as u8 + 1);
-    let members = lay_out(alloc, fields.as_slice())?;
-    scope.types.insert(name, RecordType { number, members })?;
-    Ok(())
-}
-
-/// Notes a root.
-fn note_root<'t>(
-    scope: &mut Scope<'t>,
-    line: u32,
-    name: &'t Text,
-    kind: &'t TypeName,
-) -> Result<(), TypeFault>
-    ensures { Answers (λ _. scope_of scope.new) result (noted (scope_of scope.old) (tree.Root line name.now (tree_view.type_word_of kind.now))) }
-{
-    if scope.roots.list.len() >= MOST_ROOTS {
-        return Err(TypeFault::TooMany { line });
-    }
-    let name = name.as_slice();
-    if !scope.is_free(name) {
-        return Err(TypeFault::Duplicate { line });
-    }
-    scope.roots.add(name, Word::of_type(kind), None)?;
-    Ok(())
-}
-
-/// Notes a procedure, whatever its body is.
-fn note_procedure<'t>(scope: &mut Scope<'t>, head: &ProcedureHead<'t>) -> Result<(), TypeFault>
-    ensures { (body : tree.Phrases) → Answers (λ _. scope_of scope.new) result (noted (scope_of scope.old) (tree.Procedure (procedure_text_of head.now body))) }
-{
-    let count = scope.procedures.len();
-    if count >= 256 {
-        return Err(TypeFault::TooMany { line: head.line });
-    }
-    let name = head.name.as_slice();
-    if !scope.is_free(name) {
-        return Err(TypeFault::Duplicate { line: head.line });
-    }
-    let signature = Signature {
-        number: ProcNo(count as u16),
-        query: head.query,
-        parameters: head.parameters,
-        result: Word::of_result(head.result),
-    };
-    scope.procedures.insert(name, signature)?;
-    Ok(())
-}
-
-/// Notes a declaration, judged against those before it.
-fn note<'t>(
-    alloc: Global,
-    scope: &mut Scope<'t>,
-    declaration: &'t Declaration,
-) -> Result<(), TypeFault>
-    ensures { Answers (λ _. scope_of scope.new) result (noted (scope_of scope.old) (tree_view.item_of declaration.now)) }
-{
-    match declaration {
-        Declaration::Record {
-            line,
-            name,
-            fields,
-            ..
-        } => note_record(alloc, scope, *line, name, fields),
-        Declaration::Root { line, name, kind } => note_root(scope, *line, name, kind),
-        Declaration::Procedure {
-            line,
-            query,
-            name,
-            parameters,
-            result,
-            locals,
-            ..
-        } => {
-            let head = ProcedureHead {
-                line: *line,
-                query: *query,
-                name,
-                parameters: parameters.as_slice(),
-                result,
-                locals: locals.as_slice(),
-            };
-            note_procedure(scope, &head)
-        }
-    }
 }
 
 /// The first walk: the declared names.
@@ -304,6 +198,21 @@ fn take_bodies(alloc: Global, declarations: &mut [Declaration]) -> Result<Vec<Bl
     Ok(bodies)
 }
 
+/// The program of this language that a draft has become. A function of its own, since nothing can fail here any more.
+fn finished(language: u8, draft: Draft) -> Program
+    ensures program { program_of result ≡ draft_of draft }
+    ensures language { result.language ≡ language }
+{
+    Program {
+        language,
+        shape: Shape::from_vec(draft.shape),
+        names: TypeNames::from_vec(draft.names),
+        procedures: TypedProcs {
+            items: draft.procedures,
+        },
+    }
+}
+
 /// Both walks over the declarations of a program of this language, whose bodies were taken out of them.
 fn walk(
     alloc: Global,
@@ -317,14 +226,7 @@ fn walk(
 {
     let scope = gather(alloc, declarations)?;
     let draft = judge_all(alloc, &scope, declarations, bodies)?;
-    Ok(Program {
-        language,
-        shape: Shape::from_vec(draft.shape),
-        names: TypeNames::from_vec(draft.names),
-        procedures: TypedProcs {
-            items: draft.procedures,
-        },
-    })
+    Ok(finished(language, draft))
 }
 
 /// Checks the types of a program whose expressions are no deeper than 64 and whose blocks are no deeper than 16, as in

@@ -6,7 +6,7 @@ use Rattle.pst_typing.specs.declared.fault.TypeFault.TheVariants.{Unknown}
 use Rattle.pst_typing.specs.Answers.{and_then, check, through}
 use Rattle.pst_typing.specs.Names.{Scope, Local}
 use Rattle.pst_typing.specs.Declarations.{variable, is_result_known, procedure}
-use Rattle.pst_types.specs.Parts.{Variables, counted, setting_in, procedure_in, by_parts}
+use Rattle.pst_procedures.specs.Parts.{Variables, counted, setting_in, procedure_in, by_parts}
 
 -- the next checks may be made with what the checks before gave together
 module _ {B : Type 0} (next : Variables → Result B TypeFault) where

@@ -5,8 +5,8 @@ use Rattle.pst_typing.specs.Names.{is_free, no_members, members_from}
 use Rattle.pst_scope.specs.View.{scope_of, entries_of, members_of, record_type_of}
 use Rattle.pst_scope.proofs.Lookups.{inserted, length_entries}
 use Rattle.pst_typing.proofs.Passed.{same_ok, free_parts}
-use Rattle.pst_types.proofs.Noted.{noted_record}
-use Rattle.pst_types.proofs.walks.note_record.Goals as goal
+use Rattle.pst_procedures.proofs.Noted.{noted_record}
+use Rattle.pst_procedures.proofs.declaration.note_record.Goals as goal
 
 pub returns : goal.returns
 returns c = λ limit.

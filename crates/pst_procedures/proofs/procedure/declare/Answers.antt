@@ -1,7 +1,7 @@
 use Rattle.std.proofs.Common.{arith}
 use Rattle.pst_scope.specs.View.{scope_of}
-use Rattle.pst_types.proofs.Few.{few_parameters}
-use Rattle.pst_types.proofs.procedure.declare.Goals as goal
+use Rattle.pst_procedures.proofs.Few.{few_parameters}
+use Rattle.pst_procedures.proofs.procedure.declare.Goals as goal
 
 pub add_variables-requires-2 : goal.add_variables-requires-2
 add_variables-requires-2 c = let few = few_parameters (scope_of c.args.scope.now) _ c.args.variables.now.entries c.add_variables.new.variables.entries c.len-parameters.result c.requires c.in_ok-add_variables.ensures c.len-parameters.ensures.len in omega (arith, few)

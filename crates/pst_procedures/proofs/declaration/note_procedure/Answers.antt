@@ -1,12 +1,12 @@
 use Rattle.std.proofs.Common.{◌≡◌, ◌++◌, ◌∷◌, [], true, refl, ap, ◌∙◌, sym, subst}
 use Rattle.pst_scope.specs.declared.names.Signature.{Signature}
-use Rattle.pst_types.specs.View.{procedure_text_of}
+use Rattle.pst_procedures.specs.View.{procedure_text_of}
 use Rattle.pst_typing.specs.Names.{is_free}
 use Rattle.pst_scope.specs.View.{scope_of, entries_of, signature_of}
 use Rattle.pst_scope.proofs.Lookups.{inserted, length_entries}
 use Rattle.pst_typing.proofs.Passed.{free_parts}
-use Rattle.pst_types.proofs.Noted.{noted_procedure}
-use Rattle.pst_types.proofs.walks.note_procedure.Goals as goal
+use Rattle.pst_procedures.proofs.Noted.{noted_procedure}
+use Rattle.pst_procedures.proofs.declaration.note_procedure.Goals as goal
 
 pub returns : goal.returns
 returns c = λ body.

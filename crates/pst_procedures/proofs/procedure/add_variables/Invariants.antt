@@ -4,7 +4,7 @@ use Rattle.pst_typing.specs.Answers.{through}
 use Rattle.pst_typing.specs.Declarations.{variable}
 use Rattle.pst_scope.specs.View.{entries_of, local_of, scope_of}
 use Rattle.pst_typing.proofs.Through.{Left}
-use Rattle.pst_types.proofs.procedure.add_variables.Given as goal
+use Rattle.pst_procedures.proofs.procedure.add_variables.Given as goal
 
 abbrev pub invariant-loop-local : goal.invariant-loop-local
 invariant-loop-local l =

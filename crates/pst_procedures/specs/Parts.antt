@@ -1,18 +1,14 @@
--- What the second walk adds: a record type, and a procedure in two parts, its names and its statements.
-use Rattle.std.specs.Prelude.{ℕ, ◌+◌, List, [], ◌∷◌, ◌++◌, length, map, Result, Ok}
+-- A procedure in two parts, its names and its statements.
+use Rattle.std.specs.Prelude.{ℕ, ◌+◌, List, [], length, map, Result, Ok}
 use Rattle.std.specs.Option.{option_map}
 use Rattle.pst_tree.specs.Syntax as tree
 use Rattle.pst_program.specs.Syntax as program
 use Rattle.pst_typing.specs.declared.fault.TypeFault.{TypeFault}
 use Rattle.pst_typing.specs.declared.fault.TypeFault.TheVariants.{Unknown}
 use Rattle.pst_typing.specs.Answers.{and_then, check, through}
-use Rattle.pst_typing.specs.Names.{Members, Scope, Local, Setting, kind_of}
+use Rattle.pst_typing.specs.Names.{Scope, Local, Setting, kind_of}
 use Rattle.pst_typing.specs.Statements.{block}
-use Rattle.pst_typing.specs.Declarations.{shape_of, names_of, variable, is_result_known, NamedProgram}
-
--- a program with one more record type
-abbrev pub with_type : Scope → NamedProgram → (limit : ℕ) → (name : List ℕ) → Members → NamedProgram
-with_type scope p n x m = record p { shape = p.shape ++ shape_of scope n m ∷ []; names = p.names ++ names_of x m ∷ [] }
+use Rattle.pst_typing.specs.Declarations.{variable, is_result_known}
 
 -- the parameters and locals of a procedure, and how many are parameters
 pub record Variables : Type 0 where

@@ -10,8 +10,8 @@ ghost use Rattle.pst_typing.specs.Declarations.{variable, is_new, is_result_know
 ghost use Rattle.pst_typing.specs.Names.{kind_of, is_named};
 ghost use Rattle.pst_typing.specs.View.{Answers};
 ghost use Rattle.pst_scope.specs.View.{kind_word, entries_of, local_of, scope_of, setting_of};
-ghost use Rattle.pst_types.specs.View.{procedure_text_of};
-ghost use Rattle.pst_types.specs.Parts.{counted, variables_in, procedure_in, by_parts};
+ghost use Rattle.pst_procedures.specs.View.{procedure_text_of};
+ghost use Rattle.pst_procedures.specs.Parts.{counted, variables_in, procedure_in, by_parts};
 
 use indexmap::IndexMap;
 use pst_base::{Kind, Kinds, Text};
@@ -22,15 +22,16 @@ use pst_tree::{Block, Local, TypeName};
 use pst_typing::TypeFault;
 use std::alloc::{AllocError, Global};
 
-/// A procedure as it was written, without its body.
+/// A procedure as it was written, without its body: its line, from 1 on, whether it is a query, its name, its parameters, the
+/// type of what it gives, and its locals.
 #[derive(Clone, Copy)]
-pub(crate) struct ProcedureHead<'t> {
-    pub(crate) line: u32,
-    pub(crate) query: bool,
-    pub(crate) name: &'t Text,
-    pub(crate) parameters: &'t [Local],
-    pub(crate) result: &'t Option<TypeName>,
-    pub(crate) locals: &'t [Local],
+pub struct ProcedureHead<'t> {
+    pub line: u32,
+    pub query: bool,
+    pub name: &'t Text,
+    pub parameters: &'t [Local],
+    pub result: &'t Option<TypeName>,
+    pub locals: &'t [Local],
 }
 
 /// Whether neither a parameter or local before nor a root has the name.
@@ -194,8 +195,13 @@ fn judge_parts<'t>(
     judge_in(alloc, &setting, arguments, head, body)
 }
 
-/// Judges a procedure. Its body is let go, which is nearly all of its text.
-pub(crate) fn judge_procedure<'t>(
+/// Judges a procedure with this body in the scope of the declared names: its parameters, what it gives, its locals, and then
+/// its statements. Gives the typed procedure. Its body is let go, which is nearly all of its text.
+///
+/// # Errors
+///
+/// The first fault with its line, or `Memory` where memory runs out before it is found. The body is let go then too.
+pub fn judge_procedure<'t>(
     alloc: Global,
     scope: &Scope<'t>,
     head: &ProcedureHead<'t>,

@@ -1,7 +1,7 @@
 use Rattle.std.proofs.Common.{◌≡◌, ◌∙◌, length, ap, arith, Ok}
 use Rattle.pst_scope.specs.View.{scope_of}
-use Rattle.pst_types.proofs.Held.{kinds_done}
-use Rattle.pst_types.proofs.procedure.kinds_of.Goals as goal
+use Rattle.pst_procedures.proofs.Held.{kinds_done}
+use Rattle.pst_procedures.proofs.procedure.kinds_of.Goals as goal
 
 pub returns : goal.returns
 returns c =
