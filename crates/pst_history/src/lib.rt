@@ -3,15 +3,20 @@
 //! Model: an opening (versions with their heaps, the next run, a budget, counts) and what came since (`specs/History`). What a
 //! program means is a parameter (`specs/Meaning`); the direct meaning is one.
 //!
-//! Contract: the laws, for every opening. Old versions keep their heaps, no count falls, a refused command changes nothing, runs
-//! keep apart, and a version is made by its own run on its parent's heap.
+//! What is kept since the opening in which version 0 is alone is a [`Since`].
 //!
-//!     after m h line    the history after a command
-//!     reply m h line    the reply to it
+//! Contract: each look-up in a [`Since`] is exact, and each change of it is the one that the definitions name, and nothing else.
+//! Of the definitions the laws, for every opening: old versions keep their heaps, no count falls, a refused command changes
+//! nothing, runs keep apart, and a version is made by its own run on its parent's heap.
+//!
+//!     after m h line                 the history after a command
+//!     reply m h line                 the reply to it
+//!     grant(&mut since, run, 100)    a run with a hundred charges more
 #![tactic(auto)]
 
 mod history;
 mod laws;
+mod rows;
 mod worked;
 
 pub use history::{
@@ -23,5 +28,9 @@ pub use laws::{
     heaps_are_well_formed, histories_are_sound, histories_go_on, old_versions_keep_their_heaps,
     only_refused_are_refused, readers_change_nothing, refusals_are_of_commands,
     refused_changes_nothing, runs_keep_apart, sound_histories_go_on, version_is_made_by_its_run,
+};
+pub use rows::{
+    add, give_up, grant, index_of, named_call, next_number, one_call, open, parents, publish,
+    run_of, shut, version_of,
 };
 pub use worked::{open_runs_by_hand, several_calls_by_hand};

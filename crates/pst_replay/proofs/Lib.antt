@@ -1,6 +1,5 @@
 pub mod Paths
 pub mod Totals
-pub mod Fitting
 pub mod Progress
 pub mod Queries
 pub mod Counting

@@ -18,7 +18,8 @@ use Rattle.pst_history.specs.declared.history.Since.{Since}
 use Rattle.pst_history.specs.Direct.{direct_call}
 use Rattle.pst_history.specs.History.{History, called_more, numbered, opening, since, with_run, with_version}
 use Rattle.pst_replay.specs.declared.history.NumberedHistory.{NumberedHistory}
-use Rattle.pst_replay.specs.Replay.{Changes, IsNumbered, direct_calls}
+use Rattle.pst_history.specs.Since.{Changes}
+use Rattle.pst_replay.specs.Replay.{IsNumbered, direct_calls}
 
 -- each run has its calls
 pub as_many : (program : Program) (k : NumberedHistory) → IsNumbered program k → length k.calls ≡ length k.since.runs

@@ -1,9 +1,6 @@
 -- What the calls of a replayer come to.
-use Rattle.std.specs.Prelude.{◌≡◌, ◌<◌, ◌≤◌, ℕ, ◌+◌, ◌-◌, List, [], ◌∷◌, Option, Some, None, length, map, zero, suc, slice_get, count_by, Bool, true, false}
+use Rattle.std.specs.Prelude.{◌≡◌, ◌<◌, ◌≤◌, ℕ, ◌+◌, ◌-◌, List, [], ◌∷◌, Option, Some, None, length, map, zero, suc, slice_get, count_by}
 use Rattle.pst_base.specs.declared.names.RunNo.{RunNo}
-use Rattle.pst_base.specs.declared.names.VersionNo.{VersionNo}
-use Rattle.pst_base.specs.declared.names.Kind.{Kind}
-use Rattle.pst_base.specs.declared.names.Kind.TheVariants.{Int, Pointer}
 use Rattle.pst_base.specs.declared.shape.TypeShape.{TypeShape}
 use Rattle.pst_program.specs.declared.program.Program.{Program}
 use Rattle.pst_program.specs.Outcome.{Outcome, TaskCall, calls_of}
@@ -12,20 +9,15 @@ use Rattle.pst_script.specs.declared.command.Command.{Command}
 use Rattle.pst_script.specs.declared.command.Command.TheVariants as command
 use Rattle.pst_script.specs.declared.reply.Reply.{Reply}
 use Rattle.pst_history.specs.declared.history.Descent.{Descent}
-use Rattle.pst_history.specs.declared.history.NamedCall.{NamedCall}
 use Rattle.pst_history.specs.declared.history.Run.{Run}
-use Rattle.pst_history.specs.declared.history.Since.{Since}
 use Rattle.pst_history.specs.Meaning.{Meaning}
-use Rattle.pst_history.specs.History.{History, opening, since, is_open, with_run, run_at, opened, outcome_of, stepped, reply, after}
+use Rattle.pst_history.specs.History.{History, opening, since, is_open, run_at, outcome_of, stepped, reply, after}
 use Rattle.pst_history.specs.Sound.{IsSoundHistory}
 use Rattle.pst_history.specs.Direct.{direct_call, meaning_of}
+use Rattle.pst_history.specs.Since.{history_for}
 use Rattle.pst_eval.specs.declared.whole.Outcome.{Outcome as Told}
 use Rattle.pst_replay.specs.declared.history.NumberedHistory.{NumberedHistory}
 use Rattle.pst_replay.specs.declared.replayer.Replayer.{Replayer}
-
--- what has happened since version 0 was alone, as a history of a program
-abbrev pub history_for : Program → Since → History
-history_for program s = since (opening (meaning_of program).shape) s
 
 -- what is kept, as a history
 abbrev pub kept : List TypeShape → NumberedHistory → History
@@ -82,18 +74,6 @@ IsEndOfRun program k n told = (r : Run) → run_at (kept_for program k) n ≡ So
 abbrev pub TellsProgress : Program → NumberedHistory → RunNo → Reply → Type 0
 TellsProgress program k run reply =
     (r : Run) → run_at (kept_for program k) run.0 ≡ Some r → reply ≡ stepped run (outcome_of (meaning_of program) (kept_for program k) run.0 r r.granted).end
-
--- a run more, and nothing else
-abbrev pub Opens : VersionNo → List NamedCall → (old new : Since) → Type 0
-Opens version calls old new = (shape : List TypeShape) → since (opening shape) new ≡ opened (since (opening shape) old) version calls
-
--- the run with a number is changed, and nothing else
-abbrev pub Changes : (Run → Run) → ℕ → (old new : Since) → Type 0
-Changes f n old new = (shape : List TypeShape) → since (opening shape) new ≡ with_run (since (opening shape) old) n f (run_at (since (opening shape) old) n)
-
-abbrev pub is_number : Kind → Bool
-is_number Int = true
-is_number (Pointer ty) = false
 
 -- ---- paths
 

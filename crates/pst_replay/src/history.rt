@@ -4,12 +4,12 @@ ghost use Rattle.std.specs.Prelude.{◌≡◌, [], IsSome, OnOk, Some, length};
 ghost use Rattle.pst_program.specs.View.{routines_of};
 ghost use Rattle.pst_program.specs.Typed.{IsTyped};
 ghost use Rattle.pst_history.specs.History.{called_more, numbered};
-ghost use Rattle.pst_replay.specs.Replay.{Changes, IsNumbered, Opens};
+ghost use Rattle.pst_history.specs.Since.{Changes, Opens};
+ghost use Rattle.pst_replay.specs.Replay.{IsNumbered};
 
 use crate::program::{numbered_call, numbered_calls};
-use crate::rows::{add, index_of, open};
 use pst_base::{Items, NoMemory, RunNo, VersionNo};
-use pst_history::{NamedCall, NamedCalls, Since};
+use pst_history::{NamedCall, NamedCalls, Since, add, index_of, open};
 use pst_program::{Calls, ProcCall, Program};
 use std::alloc::Global;
 

@@ -19,9 +19,7 @@ mod answer;
 mod history;
 mod path;
 mod program;
-mod refusal;
 mod replayer;
-mod rows;
 mod runs;
 
 pub use history::{NumberedHistory, RunCalls};

@@ -14,11 +14,10 @@ ghost use Rattle.pst_replay.specs.Replay.{IsEnd, IsEndOfRun, IsNumbered, IsPath,
 
 use crate::history::NumberedHistory;
 use crate::program::{execute, first_heap};
-use crate::rows::{run_of, version_of};
 use pst_base::{NoMemory, RunNo, VersionNo};
 use pst_eval::Outcome;
 use pst_heap::PlainHeap;
-use pst_history::{Run, Since};
+use pst_history::{Run, Since, run_of, version_of};
 use pst_program::{ProcCall, Program};
 use std::alloc::Global;
 

@@ -15,9 +15,9 @@ ghost use Rattle.pst_replay.specs.Replay.{Answers, MayApply, kept, kept_for, ope
 
 use crate::answer::answer;
 use crate::history::NumberedHistory;
-use crate::refusal::refused;
 use pst_base::NoMemory;
 use pst_program::Program;
+use pst_refusals::refused;
 use pst_script::{Command, Reply};
 use std::alloc::Global;
 

@@ -9,14 +9,16 @@ ghost use Rattle.pst_program.specs.Typed.{IsTyped};
 ghost use Rattle.pst_history.specs.History.{opening, refusal, run_at, since, is_open_run, step_reply, close_reply, closed, ended, with_run, with_version, granted_more, called_more, answered, changed};
 ghost use Rattle.pst_history.specs.Sound.{IsSoundHistory};
 ghost use Rattle.pst_history.specs.Direct.{meaning_of};
-ghost use Rattle.pst_replay.specs.Replay.{IsNumbered, Opens, TellsProgress, kept_for};
+ghost use Rattle.pst_history.specs.Since.{Opens};
+ghost use Rattle.pst_replay.specs.Replay.{IsNumbered, TellsProgress, kept_for};
 
 use crate::history::NumberedHistory;
 use crate::path::outcome_under;
-use crate::rows::{grant, named_call, next_number, one_call, publish, run_of, shut};
 use pst_base::{NoMemory, Numbers, RunNo, Text, VersionNo};
 use pst_eval::Outcome;
-use pst_history::{NamedCalls, Since};
+use pst_history::{
+    NamedCalls, Since, grant, named_call, next_number, one_call, publish, run_of, shut,
+};
 use pst_program::{Ended, Program};
 use pst_script::{Call, Reply};
 use std::alloc::Global;

@@ -6,7 +6,8 @@ use Rattle.pst_history.specs.declared.history.Run.{Run}
 use Rattle.pst_history.specs.Direct.{meaning_of}
 use Rattle.pst_history.specs.History.{run_at, closed_run}
 use Rattle.pst_history.proofs.Refusals.{is_some-open}
-use Rattle.pst_replay.specs.Replay.{history_for, kept_for}
+use Rattle.pst_history.specs.Since.{history_for}
+use Rattle.pst_replay.specs.Replay.{kept_for}
 use Rattle.pst_replay.proofs.Progress.{closed-changed, closed-end, closed-replies, closed-histories}
 use Rattle.pst_replay.proofs.Numbers.{ended_numbered, still_numbered}
 use Rattle.pst_replay.proofs.runs.close.Goals as goal

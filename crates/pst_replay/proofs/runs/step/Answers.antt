@@ -5,7 +5,8 @@ use Rattle.pst_history.specs.Direct.{meaning_of}
 use Rattle.pst_history.proofs.Accepting.{step-open}
 use Rattle.pst_history.proofs.Refusals.{is_some-open}
 use Rattle.pst_history.specs.History.{run_at, granted_more}
-use Rattle.pst_replay.specs.Replay.{history_for, kept_for}
+use Rattle.pst_history.specs.Since.{history_for}
+use Rattle.pst_replay.specs.Replay.{kept_for}
 use Rattle.pst_replay.proofs.Progress.{stepped-changed, progress-replies}
 use Rattle.pst_replay.proofs.Numbers.{always, still_numbered}
 use Rattle.pst_replay.proofs.runs.step.Goals as goal

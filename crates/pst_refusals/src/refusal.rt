@@ -7,9 +7,9 @@ ghost use Rattle.pst_script.specs.declared.reply.Refusal.TheVariants as because;
 ghost use Rattle.pst_history.specs.Meaning.{when};
 ghost use Rattle.pst_history.specs.History.{call_refusal, first, is_full_run, is_open, is_open_run, numbered, refusal};
 ghost use Rattle.pst_history.specs.Direct.{meaning_of};
-ghost use Rattle.pst_replay.specs.Replay.{history_for};
+ghost use Rattle.pst_history.specs.Since.{history_for};
 
-use crate::program::{proc_refused, query_refused};
+use crate::arguments::{proc_refused, query_refused};
 use pst_base::{RunNo, VersionNo};
 use pst_history::{CALLS, OPEN_RUNS, RUNS, Run, RunState, Since};
 use pst_program::Program;
@@ -113,9 +113,13 @@ fn first_of(one: Option<Refusal>, next: Option<Refusal>) -> Option<Refusal>
     }
 }
 
-/// The first refusal of a command that holds, if one does.
+/// The first refusal of a command that holds, if one does: of the name of a procedure, its arguments, a version or run, or of as
+/// many runs or calls as there may be. It looks at no heap and changes nothing.
+///
+/// `open_runs` is how many runs of the history are open, at most 64. The caller keeps count of them, so that a history of a million
+/// runs is not gone through at each line.
 #[tactic(auto, unfolding(pst_history::specs::History::refusal))]
-pub(crate) fn refused(
+pub fn refused(
     program: &Program,
     history: &Since,
     open_runs: usize,

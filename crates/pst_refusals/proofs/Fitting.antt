@@ -5,7 +5,7 @@ use Rattle.std.proofs.lemmas.Bool.Decides.{nat_tests}
 use Rattle.pst_base.specs.declared.names.Kind.{Kind}
 use Rattle.pst_base.specs.declared.names.Kind.TheVariants.{Int, Pointer}
 use Rattle.pst_history.specs.Meaning.{fits}
-use Rattle.pst_replay.specs.Replay.{is_number}
+use Rattle.pst_refusals.specs.Kinds.{is_number}
 
 pub fits-lengths : (kinds : List Kind) (xs : List ℤ) → length kinds ≡ length xs → list_all is_number kinds ≡ fits kinds xs
 fits-lengths [] [] e = refl

@@ -1,16 +1,18 @@
-//! Look-ups in a history, and its changes.
+//! Look-ups in what is kept of a history, and the changes that commands make of it.
+//!
+//! Versions and runs are numbered from 1 here, as after the opening in which version 0 is alone.
 
 ghost use Rattle.std.specs.Prelude.{◌≡◌, ◌<◌, ◌≤◌, ◌-◌, ◌+◌, ◌∷◌, ◌++◌, [], length, map, min, IsSome, IfOk, OnOk, slice_get};
 ghost use Rattle.pst_history.specs.History.{numbered, called_more, granted_more, closed_run, dropped_run, call_of};
-ghost use Rattle.pst_replay.specs.Replay.{Opens, Changes};
+ghost use Rattle.pst_history.specs.Since.{Opens, Changes};
 
+use crate::history::{Descent, NamedCall, NamedCalls, Run, RunState, Since};
 use pst_base::{NoMemory, Numbers, RunNo, Text, VersionNo};
-use pst_history::{Descent, NamedCall, NamedCalls, Run, RunState, Since};
 use pst_script::{Call, Parents};
 use std::alloc::Global;
 
-/// The version with a number above 0.
-pub(crate) fn version_of(history: &Since, number: u32) -> Descent
+/// The version with a number: the run that made it, and its parent. Version 0 is of the opening, and made by no run.
+pub fn version_of(history: &Since, number: u32) -> Descent
     requires above { 0 < number }
     requires there { number ≤ length history.now.versions }
     ensures { slice_get history.now.versions (number - 1) ≡ Some result }
@@ -18,8 +20,8 @@ pub(crate) fn version_of(history: &Since, number: u32) -> Descent
     history.versions.items[number as usize - 1]
 }
 
-/// The index of the run with a number.
-pub(crate) fn index_of(history: &Since, number: RunNo) -> usize
+/// The index of the run with a number that a run has, from 1 on. Who keeps something beside each run finds it by this.
+pub fn index_of(history: &Since, number: RunNo) -> usize
     requires { IsSome (numbered 1 history.now.runs number.0) }
     ensures within { result < length history.now.runs }
     ensures number { number.0 ≡ 1 + result }
@@ -27,24 +29,24 @@ pub(crate) fn index_of(history: &Since, number: RunNo) -> usize
     number.0 as usize - 1
 }
 
-/// The run with a number.
-pub(crate) fn run_of(history: &Since, number: RunNo) -> &Run
+/// The run with a number that a run has, from 1 on. Its state says whether it goes on, was carried to its end or given up.
+pub fn run_of(history: &Since, number: RunNo) -> &Run
     requires { IsSome (numbered 1 history.now.runs number.0) }
     ensures { numbered 1 history.now.runs number.0 ≡ Some result.now }
 {
     &history.runs.items[index_of(history, number)]
 }
 
-/// The next run number.
-pub(crate) fn next_number(history: &Since) -> RunNo
+/// The next run number, from 1 to 1,048,577. A query is given it too, but does not take it.
+pub fn next_number(history: &Since) -> RunNo
     requires { length history.now.runs ≤ 1048576 }
     ensures { result.0 ≡ 1 + length history.now.runs }
 {
     RunNo(history.runs.items.len() as u32 + 1)
 }
 
-/// The parents of the versions after 0.
-pub(crate) fn parents(alloc: Global, history: &Since) -> Result<Parents, NoMemory>
+/// The parents of the versions after 0, in their order, as `versions` tells them. It errs only where no memory is left.
+pub fn parents(alloc: Global, history: &Since) -> Result<Parents, NoMemory>
     ensures { IfOk result (λ p. p ≡ map (λ v. v.parent) history.now.versions) }
 {
     let mut items = Vec::with_capacity(alloc, history.versions.items.len())?;
@@ -54,8 +56,8 @@ pub(crate) fn parents(alloc: Global, history: &Since) -> Result<Parents, NoMemor
     Ok(Parents::from_vec(items))
 }
 
-/// A call of a run, made of equal parts.
-pub(crate) fn named_call(procedure: &Text, arguments: &Numbers) -> Result<NamedCall, NoMemory>
+/// A call of a run, of copies of its parts, since a run outlives the line that names them. It errs only where no memory is left.
+pub fn named_call(procedure: &Text, arguments: &Numbers) -> Result<NamedCall, NoMemory>
     ensures { IfOk result (λ call. call ≡ record { procedure = procedure.now; arguments = arguments.now }) }
 {
     Ok(NamedCall {
@@ -64,8 +66,8 @@ pub(crate) fn named_call(procedure: &Text, arguments: &Numbers) -> Result<NamedC
     })
 }
 
-/// The one call of a line.
-pub(crate) fn one_call(alloc: Global, call: &Call) -> Result<NamedCalls, NoMemory>
+/// The one call of a line, as the calls of a run. It errs only where no memory is left.
+pub fn one_call(alloc: Global, call: &Call) -> Result<NamedCalls, NoMemory>
     ensures { IfOk result (λ calls. calls ≡ call_of call.now ∷ []) }
 {
     let mut items = Vec::with_capacity(alloc, 1)?;
@@ -73,12 +75,9 @@ pub(crate) fn one_call(alloc: Global, call: &Call) -> Result<NamedCalls, NoMemor
     Ok(NamedCalls::from_vec(items))
 }
 
-/// Opens a run on a version, under the budget that stands.
-pub(crate) fn open(
-    history: &mut Since,
-    version: VersionNo,
-    calls: NamedCalls,
-) -> Result<(), NoMemory>
+/// Opens a run on a version, with these calls, under the budget that stands and without a charge. It errs only where no memory is
+/// left.
+pub fn open(history: &mut Since, version: VersionNo, calls: NamedCalls) -> Result<(), NoMemory>
     ensures { OnOk result (Opens version calls history.old history.new) }
 {
     let budget = history.budget;
@@ -92,8 +91,8 @@ pub(crate) fn open(
     Ok(())
 }
 
-/// Adds a call to a run.
-pub(crate) fn add(history: &mut Since, number: RunNo, call: NamedCall) -> Result<(), NoMemory>
+/// Adds a call behind those of a run. It errs only where no memory is left.
+pub fn add(history: &mut Since, number: RunNo, call: NamedCall) -> Result<(), NoMemory>
     requires { IsSome (numbered 1 history.old.runs number.0) }
     ensures { OnOk result (Changes (called_more call) number.0 history.old history.new) }
 {
@@ -102,8 +101,8 @@ pub(crate) fn add(history: &mut Since, number: RunNo, call: NamedCall) -> Result
     Ok(())
 }
 
-/// Grants a run more charges, up to its budget.
-pub(crate) fn grant(history: &mut Since, number: RunNo, charges: u32)
+/// Grants a run so many charges more, but in all never more than its budget.
+pub fn grant(history: &mut Since, number: RunNo, charges: u32)
     requires { IsSome (numbered 1 history.old.runs number.0) }
     ensures { Changes (granted_more charges) number.0 history.old history.new }
 {
@@ -119,8 +118,8 @@ fn raised(granted: u32, charges: u32, budget: u32) -> u32
     granted.saturating_add(charges).min(budget)
 }
 
-/// Grants a run its budget, and closes it.
-pub(crate) fn shut(history: &mut Since, number: RunNo)
+/// Grants a run its whole budget, and closes it. Whether it makes a version is said by its end.
+pub fn shut(history: &mut Since, number: RunNo)
     requires { IsSome (numbered 1 history.old.runs number.0) }
     ensures { Changes closed_run number.0 history.old history.new }
 {
@@ -130,8 +129,8 @@ pub(crate) fn shut(history: &mut Since, number: RunNo)
     run.state = RunState::Closed;
 }
 
-/// Gives a run up.
-pub(crate) fn give_up(history: &mut Since, number: RunNo)
+/// Gives a run up. It keeps its number and its grant, since what it did is counted all the same.
+pub fn give_up(history: &mut Since, number: RunNo)
     requires { IsSome (numbered 1 history.old.runs number.0) }
     ensures { Changes dropped_run number.0 history.old history.new }
 {
@@ -139,12 +138,9 @@ pub(crate) fn give_up(history: &mut Since, number: RunNo)
     history.runs.items[index].state = RunState::Dropped;
 }
 
-/// Makes a version of a run that is done, and gives its number.
-pub(crate) fn publish(
-    history: &mut Since,
-    run: RunNo,
-    parent: VersionNo,
-) -> Result<VersionNo, NoMemory>
+/// Makes a version of a run that is done, on the heap of this parent, and gives its number, from 1 to 1,048,577. It errs only where
+/// no memory is left.
+pub fn publish(history: &mut Since, run: RunNo, parent: VersionNo) -> Result<VersionNo, NoMemory>
     requires { length history.old.versions ≤ 1048576 }
     ensures number { IfOk result (λ version. version.0 ≡ 1 + length history.old.versions) }
     ensures made { OnOk result (history.new ≡ record history.old { versions = history.old.versions ++ record { run = run; parent = parent } ∷ [] }) }

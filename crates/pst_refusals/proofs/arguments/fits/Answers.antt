@@ -1,6 +1,6 @@
 use Rattle.std.proofs.Common.{◌∙◌, length}
-use Rattle.pst_replay.proofs.Fitting.{fits-lengths, unfit-lengths, unequal}
-use Rattle.pst_replay.proofs.program.fits.Goals as goal
+use Rattle.pst_refusals.proofs.Fitting.{fits-lengths, unfit-lengths, unequal}
+use Rattle.pst_refusals.proofs.arguments.fits.Goals as goal
 
 pub returns-then-parameters-arguments : goal.returns-then-parameters-arguments
 returns-then-parameters-arguments c = c.all_numbers.ensures ∙ fits-lengths c.args.parameters.now c.args.arguments.now c.if-parameters-arguments.true
