@@ -3,14 +3,12 @@
 
 ghost use Rattle.std.specs.Prelude.{◌≡◌, ◌<◌, ◌≤◌, length, OnOk};
 ghost use Rattle.pst_order.specs.Places.{IsIn};
-ghost use Rattle.pst_row_times.specs.Beds.{IsReady};
+ghost use Rattle.pst_row_bed.specs.Beds.{IsReady};
 
-use crate::bed::Bed;
-use crate::orders::{are_in_order, insert_at_random, insert_behind};
-use crate::reads::fill;
 use pst_base::{NoMemory, NodeId, SlotNo};
 use pst_labels::LabelOrder;
 use pst_order::{Order, Pos, RowOrder};
+use pst_row_bed::{Bed, are_in_order, filled, insert_at_random, insert_behind};
 use pst_rows::Content;
 use std::alloc::Global;
 
@@ -24,28 +22,47 @@ fn are_anew(order: &LabelOrder, new: Pos) -> bool
         && order.before(first, new)
 }
 
+/// The same of an order of one place, in which the places are inserted.
+fn sets_anew(order: &mut LabelOrder) -> Result<bool, NoMemory>
+    requires { length order.old.places ≡ 1 }
+{
+    let first = order.first();
+    let last = insert_behind(order, first, 62)?;
+    let full = order.label(order.first()) == 0 && order.label(last) == (1 << 62) - 1;
+    let new = insert_behind(order, last, 1)?;
+    Ok(full && are_anew(order, new))
+}
+
 /// Whether the labels are set anew at the 63rd insertion behind the last place, and not before.
+///
+/// # Errors
+/// Want of memory.
 pub fn sets_labels_anew(alloc: Global) -> Result<bool, NoMemory> {
     let mut order = LabelOrder::new(alloc)?;
-    let first = order.first();
-    let last = insert_behind(&mut order, first, 62)?;
-    let full = order.label(order.first()) == 0 && order.label(last) == (1 << 62) - 1;
-    let new = insert_behind(&mut order, last, 1)?;
-    Ok(full && are_anew(&order, new))
+    sets_anew(&mut order)
+}
+
+/// Whether two orders of one place give the same list, of 10,000 places that are inserted at random.
+fn agree<A: Order, B: Order>(alloc: Global, plain: &mut A, quick: &mut B) -> Result<bool, NoMemory>
+    requires plain { length (A.places plain.old) ≡ 1 }
+    requires quick { length (B.places quick.old) ≡ 1 }
+{
+    match insert_at_random(alloc, plain, quick, 10_000)? {
+        None => Ok(false),
+        Some(places) => Ok(
+            places.len() == 10_001 && are_in_order(plain, &places) && are_in_order(quick, &places),
+        ),
+    }
 }
 
 /// Whether labels and a vector give the same list, of 10,000 places that are inserted at random.
+///
+/// # Errors
+/// Want of memory.
 pub fn orders_agree(alloc: Global) -> Result<bool, NoMemory> {
     let mut plain = RowOrder::new(alloc)?;
     let mut quick = LabelOrder::new(alloc)?;
-    match insert_at_random(alloc, &mut plain, &mut quick, 10_000)? {
-        None => Ok(false),
-        Some(places) => Ok(
-            places.len() == 10_001
-                && are_in_order(&plain, &places)
-                && are_in_order(&quick, &places),
-        ),
-    }
+    agree(alloc, &mut plain, &mut quick)
 }
 
 /// The first pointer of a row.
@@ -110,14 +127,25 @@ fn replaces<O: Order>(bed: &mut Bed, order: &O) -> bool
     begin == third && end == second && now == Content::Target(NodeId(9))
 }
 
+/// Whether each place of a new bed has what is written there, also after three stamps.
+fn keeps_values<O: Order>(bed: &mut Bed, order: &mut O) -> Result<bool, NoMemory>
+    requires ready { IsReady (O.places order.old) bed.old }
+    requires room { length (O.places order.old) ≡ 2 }
+{
+    let is_new = holds_all(bed, order, NEW.as_slice());
+    stamp_three(bed, order)?;
+    let is_stamped = holds_all(bed, order, STAMPED.as_slice()) && bed.row.stamped() == 3;
+    Ok(is_new && is_stamped && replaces(bed, order))
+}
+
 /// Whether each place has what was written there.
+///
+/// # Errors
+/// Want of memory.
 pub fn places_keep_values(alloc: Global) -> Result<bool, NoMemory> {
     let mut order = RowOrder::new(alloc)?;
     let mut bed = Bed::new(alloc, &mut order)?;
-    let is_new = holds_all(&bed, &order, NEW.as_slice());
-    stamp_three(&mut bed, &mut order)?;
-    let is_stamped = holds_all(&bed, &order, STAMPED.as_slice()) && bed.row.stamped() == 3;
-    Ok(is_new && is_stamped && replaces(&mut bed, &order))
+    keeps_values(&mut bed, &mut order)
 }
 
 /// Stamps so many values over all slots, by turns.
@@ -148,14 +176,25 @@ fn split(bed: &mut Bed, order: &LabelOrder) -> Result<Option<(usize, usize)>, No
     Ok(Some((bed.row.stamped(), right.stamped())))
 }
 
+/// Whether a new bed's row is not split, and after 11 stamps in its middle, where one of them is at the place.
+fn splits_at_eleven(bed: &mut Bed, order: &mut LabelOrder) -> Result<bool, NoMemory>
+    requires ready { IsReady order.old.places bed.old }
+    requires room { length order.old.places ≡ 2 }
+{
+    let is_new = bed.row.split_stamp(order).is_none() && bed.row.spare() == 4;
+    stamp_by_turns(bed, order, 11)?;
+    let is_full = bed.row.stamped() == 11;
+    Ok(is_new && is_full && split(bed, order)? == Some((5, 5)))
+}
+
 /// Whether a new row is not split, and one of 11 stamped values in its middle, one of which is at the place.
+///
+/// # Errors
+/// Want of memory.
 pub fn splits_eleven(alloc: Global) -> Result<bool, NoMemory> {
     let mut order = LabelOrder::new(alloc)?;
     let mut bed = Bed::new(alloc, &mut order)?;
-    let is_new = bed.row.split_stamp(&order).is_none() && bed.row.spare() == 4;
-    stamp_by_turns(&mut bed, &mut order, 11)?;
-    let is_full = bed.row.stamped() == 11;
-    Ok(is_new && is_full && split(&mut bed, &order)? == Some((5, 5)))
+    splits_at_eleven(&mut bed, &mut order)
 }
 
 /// The halves of a row of 160 stamped values over so many slots.
@@ -164,13 +203,15 @@ fn halves(alloc: Global, slots: u16) -> Result<Option<(usize, usize)>, NoMemory>
     requires few { slots ≤ 5 }
 {
     let mut order = LabelOrder::new(alloc)?;
-    let mut bed = Bed::new(alloc, &mut order)?;
-    fill(&mut bed, &mut order, 160, slots)?;
+    let mut bed = filled(alloc, &mut order, 160, slots)?;
     split(&mut bed, &order)
 }
 
 /// Whether rows of 160 stamped values are split in their middle, over one slot to five. Each value has a place of its own, so
 /// that one is at the place, and 159 are left.
+///
+/// # Errors
+/// Want of memory.
 pub fn splits_many(alloc: Global) -> Result<bool, NoMemory> {
     for slots in 1..6 {
         match halves(alloc, slots)? {

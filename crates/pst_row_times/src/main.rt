@@ -2,21 +2,19 @@
 //! and prints how long that took. With no word it does less, and prints what holds alone. Both print what `checks` finds.
 #![tactic(auto)]
 
-ghost use Rattle.std.specs.Prelude.{◌≤◌};
-ghost use Rattle.pst_row_times.specs.Beds.{IsReady};
+ghost use Rattle.std.specs.Prelude.{◌≡◌, ◌<◌, ◌≤◌, length};
+ghost use Rattle.pst_row_bed.specs.Beds.{AreIn, IsReady};
 
-mod bed;
 mod checks;
-mod orders;
-mod reads;
 
-use bed::Bed;
 use checks::{orders_agree, places_keep_values, sets_labels_anew, splits_eleven, splits_many};
-use orders::{are_reversed, compare_many, insert_behind, insert_behind_first};
 use pst_labels::LabelOrder;
-use pst_order::Order;
+use pst_order::{Order, Pos};
+use pst_row_bed::{
+    Bed, are_reversed, compare_many, filled, find_splits, insert_behind, insert_behind_first,
+    read_rows, scan_rows,
+};
 use pst_rows::{Row, Slot};
-use reads::{fill, find_splits, read_rows, scan_rows};
 use std::alloc::Global;
 use std::mem::size_of;
 use std::rt::Env;
@@ -67,6 +65,48 @@ fn print_time(rt: &HostRuntime, timed: bool, what: &str, time: Duration) -> io::
     Ok(())
 }
 
+/// Compares places so far apart, and prints how often the first one was the earlier.
+fn time_comparisons(
+    rt: &HostRuntime,
+    order: &LabelOrder,
+    places: &[Pos],
+    apart: usize,
+    scale: Scale,
+) -> io::Result<()>
+    requires known { AreIn order.now.places places.now }
+    requires some { 0 < length places.now }
+{
+    let start = Instant::now(rt)?;
+    let earlier = compare_many(order, places, apart, scale.comparisons);
+    let comparisons = start.elapsed(rt)?;
+    println!(rt;
+        "{} comparisons of places {apart} apart, the first place earlier: {earlier}",
+        scale.comparisons
+    )?;
+    print_time(rt, scale.timed, "comparisons", comparisons)
+}
+
+/// Prints whether places stand as they were inserted behind the first one and how long that took, and compares them.
+fn compare_inserted(
+    rt: &HostRuntime,
+    order: &LabelOrder,
+    places: &[Pos],
+    insertions: Duration,
+    scale: Scale,
+) -> io::Result<()>
+    requires known { AreIn order.now.places places.now }
+    requires some { 0 < length places.now }
+{
+    println!(rt;
+        "{} behind the first place, in reverse order: {}",
+        scale.insertions,
+        are_reversed(order, places)
+    )?;
+    print_time(rt, scale.timed, "insertions", insertions)?;
+    time_comparisons(rt, order, places, 1, scale)?;
+    time_comparisons(rt, order, places, 61, scale)
+}
+
 /// Inserts behind the first place, and compares the places.
 fn time_first(rt: &HostRuntime, alloc: Global, scale: Scale) -> io::Result<()>
     requires some { 1 ≤ scale.insertions }
@@ -76,33 +116,17 @@ fn time_first(rt: &HostRuntime, alloc: Global, scale: Scale) -> io::Result<()>
     let start = Instant::now(rt)?;
     let places = insert_behind_first(alloc, &mut order, scale.insertions)?;
     let insertions = start.elapsed(rt)?;
-    println!(rt;
-        "{} behind the first place, in reverse order: {}",
-        scale.insertions,
-        are_reversed(&order, &places)
-    )?;
-    print_time(rt, scale.timed, "insertions", insertions)?;
-    for apart in [1, 61] {
-        let start = Instant::now(rt)?;
-        let earlier = compare_many(&order, &places, apart, scale.comparisons);
-        let comparisons = start.elapsed(rt)?;
-        println!(rt;
-            "{} comparisons of places {apart} apart, the first place earlier: {earlier}",
-            scale.comparisons
-        )?;
-        print_time(rt, scale.timed, "comparisons", comparisons)?;
-    }
-    Ok(())
+    compare_inserted(rt, &order, &places, insertions, scale)
 }
 
-/// Inserts behind the last place.
-fn time_last(rt: &HostRuntime, alloc: Global, scale: Scale) -> io::Result<()>
-    requires { scale.insertions ≤ 1000000 }
+/// Inserts behind the last place of an order of one place.
+fn insert_last(rt: &HostRuntime, order: &mut LabelOrder, scale: Scale) -> io::Result<()>
+    requires one { length order.old.places ≡ 1 }
+    requires few { scale.insertions ≤ 1000000 }
 {
-    let mut order = LabelOrder::new(alloc)?;
     let first = order.first();
     let start = Instant::now(rt)?;
-    let last = insert_behind(&mut order, first, scale.insertions)?;
+    let last = insert_behind(order, first, scale.insertions)?;
     let insertions = start.elapsed(rt)?;
     println!(rt;
         "{} behind the last place, the first before the last: {}",
@@ -110,6 +134,14 @@ fn time_last(rt: &HostRuntime, alloc: Global, scale: Scale) -> io::Result<()>
         order.before(order.first(), last)
     )?;
     print_time(rt, scale.timed, "insertions", insertions)
+}
+
+/// Inserts behind the last place.
+fn time_last(rt: &HostRuntime, alloc: Global, scale: Scale) -> io::Result<()>
+    requires { scale.insertions ≤ 1000000 }
+{
+    let mut order = LabelOrder::new(alloc)?;
+    insert_last(rt, &mut order, scale)
 }
 
 /// Reads a row so many times, and by going over its stamped values as well: whether both read the same, and how long each took.
@@ -134,6 +166,28 @@ fn read_by_both(
     Ok((sum == scanned, rows, scans))
 }
 
+/// Reads the first slots of a row, and goes over its stamped values as well.
+fn time_both(
+    rt: &HostRuntime,
+    bed: &Bed,
+    order: &LabelOrder,
+    slots: u16,
+    scale: Scale,
+) -> io::Result<()>
+    requires ready { IsReady order.now.places bed.now }
+    requires some { 1 ≤ slots }
+    requires few { slots ≤ 5 }
+{
+    let (is_same, rows, scans) = read_by_both(rt, bed, order, slots, scale.reads)?;
+    println!(rt;
+        "{} reads of {} stamped values over {slots} slots, as by scans: {is_same}",
+        scale.reads,
+        bed.row.stamped()
+    )?;
+    print_time(rt, scale.timed, "reads", rows)?;
+    print_time(rt, scale.timed, "scans", scans)
+}
+
 /// Reads a row with so many stamped values in its first slots, and goes over them all as well.
 fn time_reads(
     rt: &HostRuntime,
@@ -147,25 +201,16 @@ fn time_reads(
     requires bound { count ≤ 1000 }
 {
     let mut order = LabelOrder::new(alloc)?;
-    let mut bed = Bed::new(alloc, &mut order)?;
-    fill(&mut bed, &mut order, count, slots)?;
-    let (is_same, rows, scans) = read_by_both(rt, &bed, &order, slots, scale.reads)?;
-    println!(rt;
-        "{} reads of {} stamped values over {slots} slots, as by scans: {is_same}",
-        scale.reads,
-        bed.row.stamped()
-    )?;
-    print_time(rt, scale.timed, "reads", rows)?;
-    print_time(rt, scale.timed, "scans", scans)
+    let bed = filled(alloc, &mut order, count, slots)?;
+    time_both(rt, &bed, &order, slots, scale)
 }
 
-/// Looks for a place at which a row of 160 stamped values may be split.
-fn time_splits(rt: &HostRuntime, alloc: Global, scale: Scale) -> io::Result<()> {
-    let mut order = LabelOrder::new(alloc)?;
-    let mut bed = Bed::new(alloc, &mut order)?;
-    fill(&mut bed, &mut order, 160, 5)?;
+/// Looks for a place at which a row may be split.
+fn time_searches(rt: &HostRuntime, bed: &Bed, order: &LabelOrder, scale: Scale) -> io::Result<()>
+    requires { IsReady order.now.places bed.now }
+{
     let start = Instant::now(rt)?;
-    let found = find_splits(&bed, &order, scale.splits);
+    let found = find_splits(bed, order, scale.splits);
     let splits = start.elapsed(rt)?;
     println!(rt;
         "{} searches for the middle of {} stamped values over 5 slots, each found: {}",
@@ -174,6 +219,13 @@ fn time_splits(rt: &HostRuntime, alloc: Global, scale: Scale) -> io::Result<()> 
         found == scale.splits
     )?;
     print_time(rt, scale.timed, "searches", splits)
+}
+
+/// Looks for a place at which a row of 160 stamped values may be split.
+fn time_splits(rt: &HostRuntime, alloc: Global, scale: Scale) -> io::Result<()> {
+    let mut order = LabelOrder::new(alloc)?;
+    let bed = filled(alloc, &mut order, 160, 5)?;
+    time_searches(rt, &bed, &order, scale)
 }
 
 /// Prints whether the labels are set anew where they have to be, and agree with a vector.

@@ -1,5 +1,5 @@
 use Rattle.std.proofs.Common.{◌≡◌, ◌+◌, length}
-use Rattle.pst_row_times.specs.Beds.{IsReady}
+use Rattle.pst_row_bed.specs.Beds.{IsReady}
 use Rattle.pst_row_times.proofs.checks.stamp_by_turns.Given as goal
 
 abbrev pub invariant-loop-turn : goal.invariant-loop-turn
