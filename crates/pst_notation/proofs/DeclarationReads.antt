@@ -14,11 +14,12 @@ use Rattle.pst_grammar.specs.declared.lexeme.Lead.TheVariants as lead
 use Rattle.pst_grammar.specs.Lexemes.{Lexeme, Name, Plain, Leading}
 use Rattle.pst_grammar.specs.Spelling.{listed as spelled_list}
 use Rattle.pst_grammar.specs.Spelling.{TypeText, Int, Named, type_word, spelled_type, spelled_count, FieldText, Val, Ptr, field, spelled_field, Parameter, parameter, spelled_parameter, Local, local, spelled_local, spelled_result, head, Item, Record, Root, Procedure, item, spelled_item, each, Opening, First, Second, language, language_word, spelled_opening, Program, program}
-use Rattle.pst_notation.specs.Canonical.{line, listed, type_text, typed_text, elements_text, field_text, parameter_text, local_text, gives_text, sort_text, item_text, language_text, canonical}
-use Rattle.pst_notation.specs.Tokens.{program_words}
+use Rattle.pst_phrases.specs.Texts.{line, listed}
 use Rattle.pst_notation.proofs.Pieces.{Reads, written, space, feed, on_line, name, number, fixed, open_ends, operator}
 use Rattle.pst_notation.proofs.ExpressionReads.{listed_read}
 use Rattle.pst_notation.proofs.StatementReads.{block_reads, close_reads}
+use Rattle.pst_notation.specs.Canonical.{type_text, typed_text, elements_text, field_text, parameter_text, local_text, gives_text, sort_text, item_text, language_text, canonical}
+use Rattle.pst_notation.specs.Tokens.{program_words}
 
 type_reads : (t : TypeText) {rest : List ℕ} {ts : List Lexeme} → EndsWord rest → Reads rest ts → Reads (type_text (type_word t) ++ rest) (spelled_type t ts)
 type_reads Int ends r = fixed (Plain sign.Int) mark.Int refl ends r

@@ -8,8 +8,8 @@ use Rattle.pst_lex.specs.Bytes.{EndsWord}
 use Rattle.pst_grammar.specs.declared.lexeme.Sign.TheVariants as sign
 use Rattle.pst_grammar.specs.Lexemes.{Lexeme, Operator, Plain}
 use Rattle.pst_grammar.specs.Spelling.{Expr, Number, Null, Name, Parens, Field, Indexed, Negate, Not, Binary, expr, spelled, each, after_comma, listed}
-use Rattle.pst_notation.specs.Canonical as canonical
-use Rattle.pst_notation.specs.Canonical.{expr_text, behind_comma}
+use Rattle.pst_phrases.specs.Texts as texts
+use Rattle.pst_phrases.specs.Texts.{expr_text, behind_comma}
 use Rattle.pst_notation.proofs.Pieces.{Reads, written, space, name, number, fixed, open_ends, close_ends, minus_ends, dot_ends, operator}
 
 pub expr_reads : (e : Expr) {rest : List ℕ} {ts : List Lexeme} → EndsWord rest → Reads rest ts → Reads (expr_text (expr e) ++ rest) (spelled e ts)
@@ -42,7 +42,7 @@ others_read view show spell part (a ∷ l) rest ts ends r =
 
 -- parts with commas between them, and a `)` behind
 pub listed_read : {A B : Type 0} (view : A → B) (show : B → List ℕ) (spell : A → List Lexeme → List Lexeme) → PartReads view show spell →
-    (l : List A) (rest : List ℕ) (ts : List Lexeme) → Reads rest ts → Reads (canonical.listed show (map view l) ++ (41 ∷ rest)) (listed spell l ts)
+    (l : List A) (rest : List ℕ) (ts : List Lexeme) → Reads rest ts → Reads (texts.listed show (map view l) ++ (41 ∷ rest)) (listed spell l ts)
 listed_read view show spell part [] rest ts r = fixed (Plain sign.CloseParen) mark.CloseParen refl (close_ends rest) r
 listed_read view show spell part (a ∷ l) rest ts r =
     written (part a _ _ (others_end view show l (41 ∷ rest) refl) (others_read view show spell part l (41 ∷ rest) (Plain sign.CloseParen ∷ ts) refl

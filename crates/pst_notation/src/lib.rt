@@ -12,9 +12,7 @@
 #![tactic(auto)]
 
 mod declarations;
-mod expressions;
 mod laws;
-mod statements;
 
 pub use declarations::print_program;
 pub use laws::{canonical_text_keeps_what_was_read, canonical_text_reads_as_its_tree};

@@ -1,9 +1,9 @@
 use Rattle.std.proofs.Common.{◌++◌, ap, ◌∙◌, sym}
 use Rattle.pst_tree.specs.Syntax.{Phrases}
 use Rattle.pst_tree.specs.View.{statements_of}
-use Rattle.pst_notation.specs.Canonical.{phrases_text}
-use Rattle.pst_notation.proofs.Blocks.{block_is_list}
-use Rattle.pst_notation.proofs.statements.+statements.Goals as goal
+use Rattle.pst_phrases.specs.Texts.{phrases_text}
+use Rattle.pst_phrases.proofs.Blocks.{block_is_list}
+use Rattle.pst_phrases.proofs.statements.+statements.Goals as goal
 
 pub put_block-loop-statement-init : goal.put_block-loop-statement-init
 put_block-loop-statement-init t c =

@@ -4,7 +4,7 @@ ghost use Rattle.std.specs.Prelude.{◌≡◌, ◌++◌, ◌+◌, OnOk, IfOk, re
 ghost use Rattle.std.specs.List.{flat_map};
 ghost use Rattle.std.specs.Option.{option_map};
 ghost use Rattle.pst_tree.specs.View.{expr_of, phrase_of, phrases_of};
-ghost use Rattle.pst_notation.specs.Canonical.{line, call_text, result_text, return_text, expr_text, phrase_text, phrases_text, listed, behind_comma};
+ghost use Rattle.pst_phrases.specs.Texts.{line, call_text, result_text, return_text, expr_text, phrase_text, phrases_text, listed, behind_comma};
 
 use crate::expressions::put_expression;
 use pst_base::{NoMemory, Text};
@@ -186,19 +186,40 @@ fn put_statement(out: &mut Vec<u8>, indent: usize, statement: &Statement) -> Res
         Form::Write { place, value } => put_write(out, indent, place, value),
         Form::Print(e) => put_print(out, indent, e),
         Form::If { condition, yes, no } => {
-            put_head(out, indent, b"if ", condition)?;
-            put_block(out, deeper(indent)?, yes)?;
+            put_guarded(out, indent, b"if ", condition, yes)?;
             if let Some(no) = no {
-                put_line(out, indent, b"} else {")?;
-                put_block(out, deeper(indent)?, no)?;
+                put_else(out, indent, no)?;
             }
             put_line(out, indent, b"}")
         }
         Form::While { condition, body } => {
-            put_head(out, indent, b"while ", condition)?;
-            put_block(out, deeper(indent)?, body)?;
+            put_guarded(out, indent, b"while ", condition, body)?;
             put_line(out, indent, b"}")
         }
         Form::Return(e) => put_return(out, indent, e),
     }
+}
+
+/// Puts a word with a condition and the block that it guards, up to the closing brace.
+#[cycle(statements)]
+fn put_guarded(
+    out: &mut Vec<u8>,
+    indent: usize,
+    word: &[u8],
+    condition: &Expression,
+    block: &Block,
+) -> Result<(), NoMemory>
+    ensures { OnOk result (out.new.items ≡ out.old.items ++ (line indent (word.now ++ expr_text (expr_of condition.now) ++ codes " {") ++ phrases_text (indent + 2) (phrases_of block.now))) }
+{
+    put_head(out, indent, word, condition)?;
+    put_block(out, deeper(indent)?, block)
+}
+
+/// Puts what stands between the two blocks of a choice, and the second one, up to the closing brace.
+#[cycle(statements)]
+fn put_else(out: &mut Vec<u8>, indent: usize, block: &Block) -> Result<(), NoMemory>
+    ensures { OnOk result (out.new.items ≡ out.old.items ++ (line indent (codes "} else {") ++ phrases_text (indent + 2) (phrases_of block.now))) }
+{
+    put_line(out, indent, b"} else {")?;
+    put_block(out, deeper(indent)?, block)
 }
