@@ -1,5 +1,5 @@
 -- The steps of a fork and of a publication.
-use Rattle.std.proofs.Common.{◌≡◌, ℕ, zero, suc, ◌+◌, ◌<◌, true, false, List, [], ◌∷◌, ◌++◌, length, Option, Some, None, get_or, refl, sym, ap, ◌∙◌, subst, arith}
+use Rattle.std.proofs.Common.{◌≡◌, ℕ, zero, suc, ◌+◌, ◌<◌, true, false, List, [], ◌∷◌, ◌++◌, length, Option, Some, None, get_or, refl, sym, ap, ◌∙◌, subst, inl, inr, arith}
 use Rattle.std.proofs.Math.ListN.{set}
 use Rattle.std.specs.Prelude.{slice_get, IfSome}
 use Rattle.std.specs.Option.{option_map}
@@ -20,11 +20,18 @@ use Rattle.pst_meaning.proofs.Places.{in_list, slice_get-below, slice_get-map, c
 use Rattle.pst_meaning.proofs.Forking.{fork_law, fork_refused_law, fork_broken_law}
 use Rattle.pst_meaning.proofs.Publishing.{publish_law}
 use Rattle.pst_arena.specs.Calls.{arena_at}
-use Rattle.pst_started.specs.Calls.{IsKept}
+use Rattle.pst_started.specs.Calls.{IsKept, IsOneInAtMost, IsPlaceIn}
 use Rattle.pst_started.proofs.Held.{held_inserted}
 
 new_place : (old new : List ℕ) (p z : ℕ) → IsIn old p → IsInsertedAfter old new p z → IsNewPlace old new p z
 new_place old new p z i n = record { there = i.there; fresh = n.fresh; list = n.list }
+
+-- a place is still there once another one came in
+pub in_after : (old new : List ℕ) (p z : ℕ) → IsIn old p → IsInsertedAfter old new p z → IsIn new p
+in_after old new p z i n = record { there = (ranks_law old new p z i.there n).stays p i.there }
+
+pub after_few : (old new : List ℕ) (p z n : ℕ) → IsIn old p → IsInsertedAfter old new p z → length old + 1 < n → length new < n
+after_few old new p z n i c l = omega (arith, l, (ranks_law old new p z i.there c).count)
 
 -- the store with other places and forks, and the call counted
 abbrev pub called : Stored → List ℕ → List Fork → Stored
@@ -40,6 +47,10 @@ module _ (s g : Stored) (from : Place) (e : s ≡ g) (k : IsKept s) (p : IsPubli
   pub fork_there : IsIn s.places from.begin.0
   fork_there = record { there = in_list s k.store.nested from here.has }
 
+  -- there is room in the order for a second place after a first one
+  pub fork_few : length s.places + 1 < 1073741824
+  fork_few = omega (arith, k.store.few, below)
+
   -- nothing came in
   pub refused_kept : (places : List ℕ) (forks : List Fork) → places ≡ s.places → forks ≡ s.forks → IsKept (called s places forks)
   refused_kept places forks a b = subst (λ (ps : List ℕ). IsKept (called s ps forks)) (sym a) (subst (λ (fs : List Fork). IsKept (called s s.places fs)) (sym b)
@@ -53,48 +64,53 @@ module _ (s g : Stored) (from : Place) (e : s ≡ g) (k : IsKept s) (p : IsPubli
     a : IsNewPlace s.places mid from.begin.0 z
     a = new_place s.places mid from.begin.0 z fork_there c
 
-    -- the place that is forked is still there once one place came in
-    pub mid_in : IsIn mid from.begin.0
-    mid_in = record { there = (ranks_law s.places mid from.begin.0 z fork_there.there c).stays from.begin.0 fork_there.there }
-
-    -- there is room in the order for a second one
-    pub mid_few : length mid < 1073741824
-    mid_few = omega (arith, k.store.few, below, (ranks_law s.places mid from.begin.0 z fork_there.there c).count)
+    broken : IsStore (called s mid s.forks) × ForkRefused (state_of s) (state_of (called s mid s.forks))
+    broken = fork_broken_law s from z mid k.store here below a
 
     mid_held : AreHeld (arena_at mid s.nodes) s.noted
     mid_held = held_inserted s.places mid s.nodes from.begin.0 z s.noted k.store.rows a k.held
 
     -- one place came in
-    pub broken_kept : (places : List ℕ) (forks : List Fork) → places ≡ mid → forks ≡ s.forks → IsKept (called s places forks)
-    broken_kept places forks same b = subst (λ (ps : List ℕ). IsKept (called s ps forks)) (sym same) (subst (λ (fs : List Fork). IsKept (called s mid fs)) (sym b)
-        (record { store = (fork_broken_law s from z mid k.store here below a).0; waiting = k.waiting; held = mid_held; counted = k.counted }))
+    broken_kept : (forks : List Fork) → forks ≡ s.forks → IsKept (called s mid forks)
+    broken_kept forks b = subst (λ (fs : List Fork). IsKept (called s mid fs)) (sym b) (record { store = broken.0; waiting = k.waiting; held = mid_held; counted = k.counted })
 
-    pub broken_done : (places : List ℕ) (forks : List Fork) → places ≡ mid → forks ≡ s.forks → ForkRefused (state_of g) (state_of (called s places forks))
-    broken_done places forks same b = subst (λ (g : Stored). ForkRefused (state_of g) (state_of (called s places forks))) e
-        (subst (λ (ps : List ℕ). ForkRefused (state_of s) (state_of (called s ps forks))) (sym same) (subst (λ (fs : List Fork). ForkRefused (state_of s) (state_of (called s mid fs))) (sym b) (fork_broken_law s from z mid k.store here below a).1))
+    broken_done : (forks : List Fork) → forks ≡ s.forks → ForkRefused (state_of g) (state_of (called s mid forks))
+    broken_done forks b = subst (λ (g : Stored). ForkRefused (state_of g) (state_of (called s mid forks))) e (subst (λ (fs : List Fork). ForkRefused (state_of s) (state_of (called s mid fs))) (sym b) broken.1)
 
-    module _ (places : List ℕ) (y : ℕ) (d : IsInsertedAfter mid places from.begin.0 y) (n : ℕ) (number : n ≡ length s.forks) (forks forks' : List Fork) where
-      abbrev place : Place
-      place = record { number = n; begin = record { 0 = y }; end = record { 0 = z } }
+  pub stopped_kept : (places : List ℕ) (forks : List Fork) → IsOneInAtMost s.places places from.begin.0 → forks ≡ s.forks → IsKept (called s places forks)
+  stopped_kept places forks i b = elim i [
+    | inl e ↦ refused_kept places forks e b
+    | inr z ↦ broken_kept places z.0 z.1 forks b
+  ]
 
-      abbrev row : Fork
-      row = record { place = place; from = from; published = false }
+  pub stopped_done : (places : List ℕ) (forks : List Fork) → IsOneInAtMost s.places places from.begin.0 → forks ≡ s.forks → ForkRefused (state_of g) (state_of (called s places forks))
+  stopped_done places forks i b = elim i [
+    | inl e ↦ refused_done places forks e b
+    | inr z ↦ broken_done places z.0 z.1 forks b
+  ]
 
-      b : IsNewPlace mid places from.begin.0 y
-      b = new_place mid places from.begin.0 y mid_in d
+  module _ (places : List ℕ) (n : ℕ) (place : Place) (i : IsPlaceIn s.places places from.begin.0 n place) (count : n ≡ length s.forks) (forks forks' : List Fork) where
+    abbrev row : Fork
+    row = record { place = place; from = from; published = false }
 
-      both_held : AreHeld (arena_at places s.nodes) s.noted
-      both_held = held_inserted mid places s.nodes from.begin.0 y s.noted (fork_broken_law s from z mid k.store here below a).0.rows b mid_held
+    first : IsNewPlace s.places i.mid from.begin.0 place.end.0
+    first = a i.mid place.end.0 i.end_in
 
-      both : IsStore (forked s from place places) × Forked (state_of s) from place (state_of (forked s from place places))
-      both = fork_law s from place mid places k.store here below number a b
+    second : IsNewPlace i.mid places from.begin.0 place.begin.0
+    second = new_place i.mid places from.begin.0 place.begin.0 (in_after s.places i.mid from.begin.0 place.end.0 fork_there i.end_in) i.begin_in
 
-      pub forked_kept : forks' ≡ forks ++ row ∷ [] → forks ≡ s.forks → IsKept (called s places forks')
-      forked_kept x w = subst (λ (fs : List Fork). IsKept (called s places fs)) (sym (x ∙ ap (λ fs. fs ++ row ∷ []) w)) (record { store = both.0; waiting = k.waiting; held = both_held; counted = k.counted })
+    both_held : AreHeld (arena_at places s.nodes) s.noted
+    both_held = held_inserted i.mid places s.nodes from.begin.0 place.begin.0 s.noted (broken i.mid place.end.0 i.end_in).0.rows second (mid_held i.mid place.end.0 i.end_in)
 
-      pub forked_done : forks' ≡ forks ++ row ∷ [] → forks ≡ s.forks → Forked (state_of g) from place (state_of (called s places forks'))
-      forked_done x w = subst (λ (g : Stored). Forked (state_of g) from place (state_of (called s places forks'))) e
-          (subst (λ (fs : List Fork). Forked (state_of s) from place (state_of (called s places fs))) (sym (x ∙ ap (λ fs. fs ++ row ∷ []) w)) both.1)
+    both : IsStore (forked s from place places) × Forked (state_of s) from place (state_of (forked s from place places))
+    both = fork_law s from place i.mid places k.store here below (i.number ∙ count) first second
+
+    pub forked_kept : forks' ≡ forks ++ row ∷ [] → forks ≡ s.forks → IsKept (called s places forks')
+    forked_kept x w = subst (λ (fs : List Fork). IsKept (called s places fs)) (sym (x ∙ ap (λ fs. fs ++ row ∷ []) w)) (record { store = both.0; waiting = k.waiting; held = both_held; counted = k.counted })
+
+    pub forked_done : forks' ≡ forks ++ row ∷ [] → forks ≡ s.forks → Forked (state_of g) from place (state_of (called s places forks'))
+    forked_done x w = subst (λ (g : Stored). Forked (state_of g) from place (state_of (called s places forks'))) e
+        (subst (λ (fs : List Fork). Forked (state_of s) from place (state_of (called s places fs))) (sym (x ∙ ap (λ fs. fs ++ row ∷ []) w)) both.1)
 
 -- ---- a publication
 

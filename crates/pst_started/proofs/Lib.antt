@@ -5,3 +5,4 @@ pub mod Forks
 pub mod Answered
 pub mod Starts
 pub mod Numbers
+pub mod Around

@@ -1,5 +1,6 @@
--- The steps of an allocation and of the pointer writes.
+-- What a record leaves that is made, and a pointer that is written.
 use Rattle.std.proofs.Common.{◌≡◌, ℕ, ◌+◌, ◌-◌, List, [], ◌∷◌, ◌++◌, length, Option, Some, None, refl, sym, ap, ◌∙◌, subst, arith}
+use Rattle.std.specs.Prelude.{◌↔◌}
 use Rattle.std.specs.Option.{option_map}
 use Rattle.std.proofs.lemmas.Bool.{false≢true}
 use Rattle.pst_base.specs.declared.names.TypeNo.{TypeNo}
@@ -8,212 +9,154 @@ use Rattle.pst_base.specs.declared.names.Name.{Name}
 use Rattle.pst_base.specs.declared.names.Kind.{Kind}
 use Rattle.pst_base.specs.declared.names.Kind.TheVariants.{Int, Pointer}
 use Rattle.pst_base.specs.Shape.{type_at, field_kind, element_count}
-use Rattle.pst_base.specs.Heap.{Heap, kind_in, type_in, IsPointer, FitsField, IsFull}
-use Rattle.pst_places.specs.State.{HasRoom, Unchanged, PointerStored, Allocated, WritesStay, IsNewType, IsFresh}
-use Rattle.pst_places.proofs.StateLemmas.{WritesStay_trans, IsFresh_unchanged, IsNewType_kept}
+use Rattle.pst_base.specs.Heap.{kind_in, type_in, IsPointer, FitsField, IsFull}
+use Rattle.pst_places.specs.State.{HasRoom, PointerStored, Allocated, WritesStay, IsNewType, IsFresh}
 use Rattle.pst_order.specs.Places.{rank}
 use Rattle.pst_meaning.specs.declared.place.Place.{Place}
 use Rattle.pst_mirror.specs.Degree.{is_other_entry}
 use Rattle.pst_meaning.specs.Arena.{IsIn}
-use Rattle.pst_meaning.specs.Store.{Node, Noted, Stored, arena, end_of, AreHeld, IsOpen, state_of, IsStore}
+use Rattle.pst_meaning.specs.Store.{Node, Noted, Stored, arena, begin_of, end_of, AreHeld, state_of, IsStore}
 use Rattle.pst_meaning.specs.Steps.{with_nodes, one_record, one_pointer}
-use Rattle.pst_meaning.proofs.Places.{open_place}
 use Rattle.pst_meaning.proofs.Concrete.{drawn}
-use Rattle.pst_meaning.proofs.Around.{pointer_around, allocated_after}
 use Rattle.pst_meaning.proofs.Reading.{kind_law}
 use Rattle.pst_meaning.proofs.Sound.{full_law}
 use Rattle.pst_meaning.proofs.Stepping.{allocate_law, null_law, link_law}
 use Rattle.pst_arena.specs.Calls.{AreOthers, AreWaiting, IsNodeAdded, IsNullWritten, IsOpenTo, IsPointerWritten, IsWritten, arena_at}
-use Rattle.pst_started.specs.Calls.{IsKept, kind_at}
+use Rattle.pst_started.specs.Calls.{HasNoRoom, IsKept, kind_at}
 use Rattle.pst_started.proofs.Held.{held_kept, held_pushed, order_after, order_cleared, order_same, waiting_pushed}
-use Rattle.pst_started.proofs.Stores.{IsRepairedTo, at_s, counted_pointer, counted_record, kept_repaired, repaired_unchanged, repaired_writes}
+use Rattle.pst_started.proofs.Stores.{at_s, counted_pointer, counted_record}
 
 -- ---- a record is made
 
-module _ (s g : Stored) (n1 n2 : List Node) (q1 q2 : Noted) (at : Place) (id : ℕ) (ty : TypeNo) (q : Name) (e : s ≡ g) (k : IsKept s) (p : IsRepairedTo s n1 q1)
-    (o : (state_of g).writable at) (known : IsNewType (state_of g) ty) (fresh : IsFresh (state_of g) q) (a : IsNodeAdded s.shape n1 n2 id q ty at) (same : q2 ≡ q1) (room : HasRoom (state_of g)) where
-  abbrev m1 : Stored
-  m1 = with_nodes s n1 q1 s.counts
+module _ (s g : Stored) (nodes : List Node) (noted : Noted) (at : Place) (id : ℕ) (ty : TypeNo) (q : Name) (e : s ≡ g) (k : IsKept s) (o : (state_of g).writable at) (known : IsNewType (state_of g) ty)
+    (fresh : IsFresh (state_of g) q) (a : IsNodeAdded s.shape s.nodes nodes id q ty at) (same : noted ≡ s.noted) (room : HasRoom (state_of g)) where
+  abbrev holding : List Node → Stored
+  holding ns = with_nodes s ns noted (one_record s.counts)
 
-  abbrev m2 : Stored
-  m2 = with_nodes s n2 q2 (one_record s.counts)
+  made : IsStore (holding (s.nodes ++ a.node ∷ [])) × Allocated (state_of s) at ty q (record { 0 = length s.nodes }) (state_of (holding (s.nodes ++ a.node ∷ [])))
+  made = allocate_law s noted at ty q a.node k.store (at_s s g (λ (s : Stored). (state_of s).writable at) e o) (at_s s g (λ (s : Stored). IsNewType (state_of s) ty) e known) (at_s s g (λ (s : Stored). IsFresh (state_of s) q) e fresh) a.made
 
-  open_m : IsOpen s.forks at
-  open_m = subst (λ (g : Stored). (state_of g).writable at) (sym e) o
-
-  made : IsStore (with_nodes s (n1 ++ a.node ∷ []) q2 (one_record s.counts)) × Allocated (state_of m1) at ty q (record { 0 = length n1 }) (state_of (with_nodes s (n1 ++ a.node ∷ []) q2 (one_record s.counts)))
-  made =
-      let u = repaired_unchanged s n1 q1 k.store p in
-      allocate_law m1 q2 at ty q a.node (kept_repaired s n1 q1 k p).store open_m
-      (IsNewType_kept (state_of s) (state_of m1) ty (subst (λ (g : Stored). IsNewType (state_of g) ty) (sym e) known) u.keeps.grows)
-      (IsFresh_unchanged (state_of s) (state_of m1) q (subst (λ (g : Stored). IsFresh (state_of g) q) (sym e) fresh) u) a.made
-
-  pub make_kept : IsKept m2
-  make_kept = subst (λ (ns : List Node). IsKept (with_nodes s ns q2 (one_record s.counts))) (sym a.list)
+  pub make_kept : IsKept (holding nodes)
+  make_kept = subst (λ (ns : List Node). IsKept (holding ns)) (sym a.list)
       (record {
         store = made.0;
-        waiting = subst (λ (q : Noted). AreWaiting s.shape (n1 ++ a.node ∷ []) q.queue) (sym same) (waiting_pushed s.shape n1 q1.queue a.node p.waiting a.made.stamped);
-        held = subst (λ (q : Noted). AreHeld (arena_at s.places (n1 ++ a.node ∷ [])) q) (sym same) (held_pushed s.places n1 a.node q1 p.held);
+        waiting = subst (λ (q : Noted). AreWaiting s.shape (s.nodes ++ a.node ∷ []) q.queue) (sym same) (waiting_pushed s.shape s.nodes s.noted.queue a.node k.waiting a.made.stamped);
+        held = subst (λ (q : Noted). AreHeld (arena_at s.places (s.nodes ++ a.node ∷ [])) q) (sym same) (held_pushed s.places s.nodes a.node s.noted k.held);
         counted = counted_record s.counts k.counted (at_s s g (λ (s : Stored). HasRoom (state_of s)) e room).records;
       })
 
-  pub make_allocated : Allocated (state_of g) at ty q (record { 0 = id }) (state_of m2)
+  pub make_allocated : Allocated (state_of g) at ty q (record { 0 = id }) (state_of (holding nodes))
   make_allocated =
-      subst (λ (g : Stored). Allocated (state_of g) at ty q (record { 0 = id }) (state_of m2)) e
-      (subst (λ (ns : List Node). Allocated (state_of s) at ty q (record { 0 = id }) (state_of (with_nodes s ns q2 (one_record s.counts)))) (sym a.list)
-      (subst (λ (n : ℕ). Allocated (state_of s) at ty q (record { 0 = n }) (state_of (with_nodes s (n1 ++ a.node ∷ []) q2 (one_record s.counts)))) (sym a.number)
-      (allocated_after (state_of s) (state_of m1) (state_of (with_nodes s (n1 ++ a.node ∷ []) q2 (one_record s.counts))) at ty q (record { 0 = length n1 }) (open_place s at open_m) (repaired_unchanged s n1 q1 k.store p) (repaired_writes s n1 q1 k.store p) made.1)))
+      subst (λ (g : Stored). Allocated (state_of g) at ty q (record { 0 = id }) (state_of (holding nodes))) e
+      (subst (λ (ns : List Node). Allocated (state_of s) at ty q (record { 0 = id }) (state_of (holding ns))) (sym a.list)
+      (subst (λ (n : ℕ). Allocated (state_of s) at ty q (record { 0 = n }) (state_of (holding (s.nodes ++ a.node ∷ [])))) (sym a.number) made.1))
 
--- ---- a node that was found after the repair
+-- ---- a node that was found
 
-pub record IsFound (s g : Stored) (n1 : List Node) (q1 : Noted) (at : Place) (r : NodeId) (x : ℕ) : Type 0 where
+pub record IsFound (s g : Stored) (at : Place) (r : NodeId) (x : ℕ) : Type 0 where
   pub view_is : s ≡ g
   pub kept : IsKept s
-  pub repaired : IsRepairedTo s n1 q1
   pub live : (state_of g).live at r
-  pub inside : IsIn (arena_at s.places n1) x (rank s.places at.begin.0)
-  pub same : (arena_at s.places n1).name x ≡ (arena_at s.places n1).name r.0
+  pub inside : IsIn (arena s) x (begin_of s at)
+  pub same : (arena s).name x ≡ (arena s).name r.0
+
+pub found : (s g : Stored) (at : Place) (r : NodeId) (x : ℕ) → s ≡ g → IsKept s → (state_of g).live at r → IsIn (arena s) x (begin_of s at) → (arena s).name x ≡ (arena s).name r.0 → IsFound s g at r x
+found s g at r x e k l i same = record { view_is = e; kept = k; live = l; inside = i; same = same }
 
 pub pointer_kind : (k : Option Kind) → IsPointer k → (t : TypeNo) × (k ≡ Some (Pointer t))
 pointer_kind None p = absurd p
 pointer_kind (Some Int) p = absurd p
 pointer_kind (Some (Pointer t)) p = (t, refl)
 
-module _ (s g : Stored) (n1 : List Node) (q1 : Noted) (at : Place) (r : NodeId) (x : ℕ) (w : IsFound s g n1 q1 at r x) where
-  abbrev t1 : Stored
-  t1 = with_nodes s n1 q1 s.counts
-
-  h1 : IsStore t1
-  h1 = (kept_repaired s n1 q1 w.kept w.repaired).store
-
-  u1 : Unchanged (state_of s) (state_of t1)
-  u1 = repaired_unchanged s n1 q1 w.kept.store w.repaired
-
+module _ (s g : Stored) (at : Place) (r : NodeId) (x : ℕ) (w : IsFound s g at r x) where
   here : (state_of s).live at r
-  here = subst (λ (g : Stored). (state_of g).live at r) (sym w.view_is) w.live
+  here = at_s s g (λ (s : Stored). (state_of s).live at r) w.view_is w.live
 
-  pub found_name : (arena_at s.places n1).name x ≡ (arena s).name r.0
-  found_name = w.same ∙ u1.keeps.grows.name at r here
+  -- the field's kind as the store has it, and as the node has it
+  pub found_kind : (f : ℕ) → kind_at s at r f ≡ field_kind (type_at s.shape ((arena s).ty x)) f
+  found_kind f = ap (λ (n : Name). kind_in s.shape ((state_of s).heap at) n f) (sym w.same) ∙ (kind_law s at x f w.kept.store here.0 w.inside).1
 
-  pub found_heap : (state_of t1).heap at ≡ (state_of s).heap at
-  found_heap = u1.heaps at here.0
+  pub found_type : type_in ((state_of s).heap at) ((state_of s).name r) ≡ Some ((arena s).ty x)
+  found_type = ap (type_in ((state_of s).heap at)) (sym w.same) ∙ (kind_law s at x 0 w.kept.store here.0 w.inside).0
 
-  -- the field's kind as the store had it, and as the node has it
-  pub found_kind : (f : ℕ) → kind_at s at r f ≡ field_kind (type_at s.shape ((arena_at s.places n1).ty x)) f
-  found_kind f = ap (λ (h : Heap). kind_in s.shape h ((arena s).name r.0) f) (sym found_heap) ∙ ap (λ (n : Name). kind_in s.shape ((state_of t1).heap at) n f) (sym found_name) ∙ (kind_law t1 at x f h1 here.0 w.inside).1
-
-  pub found_type : type_in ((state_of s).heap at) ((state_of s).name r) ≡ Some ((arena_at s.places n1).ty x)
-  found_type = ap (λ (h : Heap). type_in h ((arena s).name r.0)) (sym found_heap) ∙ ap (type_in ((state_of t1).heap at)) (sym found_name) ∙ (kind_law t1 at x 0 h1 here.0 w.inside).0
-
-  pub found_pointer : (f : ℕ) → IsPointer (kind_at g at r f) → IsPointer (field_kind (type_at s.shape ((arena_at s.places n1).ty x)) f)
-  found_pointer f p = subst IsPointer (found_kind f) (subst (λ (g : Stored). IsPointer (kind_at g at r f)) (sym w.view_is) p)
+  pub found_pointer : (f : ℕ) → IsPointer (kind_at g at r f) → IsPointer (field_kind (type_at s.shape ((arena s).ty x)) f)
+  found_pointer f p = subst IsPointer (found_kind f) (at_s s g (λ (s : Stored). IsPointer (kind_at s at r f)) w.view_is p)
 
 -- ---- null is written
 
-module _ (s g : Stored) (n1 n2 : List Node) (q1 q2 : Noted) (at : Place) (r : NodeId) (x f : ℕ) (w : IsFound s g n1 q1 at r x) (o : (state_of g).writable at)
-    (p : IsPointer (kind_at g at r f)) (z : IsNullWritten s.shape s.places n1 n2 x f (rank s.places at.begin.0)) (d : IsWritten s.shape s.places n2 q1 q2) (room : HasRoom (state_of g)) where
-  abbrev u2 : Stored
-  u2 = with_nodes s n2 q2 (one_pointer s.counts)
+module _ (s g : Stored) (nodes : List Node) (noted : Noted) (at : Place) (r : NodeId) (x f : ℕ) (w : IsFound s g at r x) (o : (state_of g).writable at)
+    (p : IsPointer (kind_at g at r f)) (z : IsNullWritten s.shape s.places s.nodes nodes x f (begin_of s at)) (d : IsWritten s.shape s.places nodes s.noted noted) (room : HasRoom (state_of g)) where
+  abbrev without : Stored
+  without = with_nodes s nodes noted (one_pointer s.counts)
 
-  open_n : IsOpen s.forks at
-  open_n = subst (λ (g : Stored). (state_of g).writable at) (sym w.view_is) o
-
-  null_step : IsStore u2 × PointerStored (state_of (t1 s g n1 q1 at r x w)) at ((arena_at s.places n1).name x) f None (state_of u2) × WritesStay (state_of (t1 s g n1 q1 at r x w)) (state_of u2)
+  null_step : IsStore without × PointerStored (state_of s) at ((arena s).name x) f None (state_of without) × WritesStay (state_of s) (state_of without)
   null_step =
-      let t = pointer_kind (field_kind (type_at s.shape ((arena_at s.places n1).ty x)) f) (found_pointer s g n1 q1 at r x w f p) in
-      null_law (with_nodes s n1 q1 s.counts) n2 q2 at x f t.0 (h1 s g n1 q1 at r x w) open_n (d.rows, d.wide) z.grown w.inside t.1 z.cleared
+      let t = pointer_kind (field_kind (type_at s.shape ((arena s).ty x)) f) (found_pointer s g at r x w f p) in
+      null_law s nodes noted at x f t.0 w.kept.store (at_s s g (λ (s : Stored). (state_of s).writable at) w.view_is o) (d.rows, d.wide) z.grown w.inside t.1 z.cleared
 
-  pub null_kept : IsKept u2
-  null_kept = record { store = null_step.0; waiting = d.waiting; held = held_kept (arena_at s.places n1) (arena_at s.places n2) q1 q2 d.roots (order_cleared (arena_at s.places n1) (arena_at s.places n2) x f (rank s.places at.begin.0) z.cleared) w.repaired.held; counted = counted_pointer s.counts w.kept.counted (at_s s g (λ (s : Stored). HasRoom (state_of s)) w.view_is room).pointer_writes }
+  pub null_kept : IsKept without
+  null_kept = record {
+    store = null_step.0;
+    waiting = d.waiting;
+    held = held_kept (arena s) (arena_at s.places nodes) s.noted noted d.roots (order_cleared (arena s) (arena_at s.places nodes) x f (begin_of s at) z.cleared) w.kept.held;
+    counted = counted_pointer s.counts w.kept.counted (at_s s g (λ (s : Stored). HasRoom (state_of s)) w.view_is room).pointer_writes;
+  }
 
-  module _ (n3 : List Node) (q3 : Noted) (y : IsRepairedTo u2 n3 q3) where
-    abbrev u3 : Stored
-    u3 = with_nodes s n3 q3 (one_pointer s.counts)
+  pub null_stored : PointerStored (state_of g) at ((state_of g).name r) f None (state_of without)
+  null_stored = subst (λ (g : Stored). PointerStored (state_of g) at ((state_of g).name r) f None (state_of without)) w.view_is (subst (λ (n : Name). PointerStored (state_of s) at n f None (state_of without)) w.same null_step.1)
 
-    pub null_done : IsKept u3
-    null_done = kept_repaired u2 n3 q3 null_kept y
-
-    pub null_stored : PointerStored (state_of g) at ((state_of g).name r) f None (state_of u3)
-    null_stored = subst (λ (g : Stored). PointerStored (state_of g) at ((state_of g).name r) f None (state_of u3)) w.view_is
-        (pointer_around (state_of s) (state_of (with_nodes s n1 q1 s.counts)) (state_of u2) (state_of u3) at ((arena s).name r.0) f None (here s g n1 q1 at r x w).0 (u1 s g n1 q1 at r x w)
-        (subst (λ (n : Name). PointerStored (state_of (with_nodes s n1 q1 s.counts)) at n f None (state_of u2)) (found_name s g n1 q1 at r x w) null_step.1) (repaired_unchanged u2 n3 q3 null_step.0 y))
-
-    pub null_writes : WritesStay (state_of g) (state_of u3)
-    null_writes = subst (λ (g : Stored). WritesStay (state_of g) (state_of u3)) w.view_is
-        (WritesStay_trans (state_of s) (state_of (with_nodes s n1 q1 s.counts)) (state_of u3) (repaired_writes s n1 q1 w.kept.store w.repaired) (WritesStay_trans (state_of (with_nodes s n1 q1 s.counts)) (state_of u2) (state_of u3) null_step.2 (repaired_writes u2 n3 q3 null_step.0 y)))
+  pub null_writes : WritesStay (state_of g) (state_of without)
+  null_writes = subst (λ (g : Stored). WritesStay (state_of g) (state_of without)) w.view_is null_step.2
 
 -- ---- a pointer is written
 
-module _ (s g : Stored) (n1 : List Node) (q1 : Noted) (at : Place) (r q : NodeId) (x y f : ℕ) (w : IsFound s g n1 q1 at r x) (v : IsFound s g n1 q1 at q y)
-    (fits : FitsField ((state_of g).heap at) (kind_at g at r f) (Some ((state_of g).name q))) where
+module _ (s g : Stored) (at : Place) (r q : NodeId) (x y f : ℕ) (w : IsFound s g at r x) (v : IsFound s g at q y) (fits : FitsField ((state_of g).heap at) (kind_at g at r f) (Some ((state_of g).name q))) where
   -- the field's type is that of the node
-  pub link_kind : field_kind (type_at s.shape ((arena_at s.places n1).ty x)) f ≡ Some (Pointer ((arena_at s.places n1).ty y))
+  pub link_kind : field_kind (type_at s.shape ((arena s).ty x)) f ≡ Some (Pointer ((arena s).ty y))
   link_kind =
-      let here_fits : FitsField ((state_of s).heap at) (kind_at s at r f) (Some ((state_of s).name q)) = subst (λ (g : Stored). FitsField ((state_of g).heap at) (kind_at g at r f) (Some ((state_of g).name q))) (sym w.view_is) fits in
-      sym (found_kind s g n1 q1 at r x w f) ∙ here_fits.1 ∙ ap (option_map Pointer) (found_type s g n1 q1 at q y v)
+      let here_fits : FitsField ((state_of s).heap at) (kind_at s at r f) (Some ((state_of s).name q)) = at_s s g (λ (s : Stored). FitsField ((state_of s).heap at) (kind_at s at r f) (Some ((state_of s).name q))) w.view_is fits in
+      sym (found_kind s g at r x w f) ∙ here_fits.1 ∙ ap (option_map Pointer) (found_type s g at q y v)
 
   -- whether there is room, by the slots
-  full_is : (IsFull s.shape ((state_of (with_nodes s n1 q1 s.counts)).heap at) ((arena_at s.places n1).name x) f (Some ((arena_at s.places n1).name y))) ≡ (IsFull (state_of s).shape ((state_of s).heap at) ((state_of s).name r) f (Some ((state_of s).name q)))
-  full_is = λ i. IsFull s.shape (found_heap s g n1 q1 at r x w i) (found_name s g n1 q1 at r x w i) f (Some (found_name s g n1 q1 at q y v i))
+  full_is : IsFull s.shape ((state_of s).heap at) ((arena s).name x) f (Some ((arena s).name y)) ≡ HasNoRoom s at r f q
+  full_is = λ i. IsFull s.shape ((state_of s).heap at) (w.same i) f (Some (v.same i))
 
-  pub link_full : AreOthers s.shape (arena_at s.places n1) y (rank s.places at.begin.0) x f → IsFull (state_of g).shape ((state_of g).heap at) ((state_of g).name r) f (Some ((state_of g).name q))
-  link_full h =
-      let k1 = h1 s g n1 q1 at r x w in
-      let both = full_law s.shape (end_of (with_nodes s n1 q1 s.counts) s.start) (arena_at s.places n1) (rank s.places at.begin.0) x f y k1.arena (drawn (rank s.places) (length s.places) n1 k1.rows) w.inside v.inside link_kind in
-      subst (λ (g : Stored). IsFull (state_of g).shape ((state_of g).heap at) ((state_of g).name r) f (Some ((state_of g).name q))) w.view_is (subst (λ (T : Type 0). T) full_is (both.1 h))
+  both : IsFull s.shape ((state_of s).heap at) ((arena s).name x) f (Some ((arena s).name y)) ↔ AreOthers s.shape (arena s) y (begin_of s at) x f
+  both = full_law s.shape (end_of s s.start) (arena s) (begin_of s at) x f y w.kept.store.arena (drawn (rank s.places) (length s.places) s.nodes w.kept.store.rows) w.inside v.inside link_kind
 
-  pub link_room : (i : ℕ) → IsOpenTo s.shape (arena_at s.places n1) y (rank s.places at.begin.0) x f i → ¬ (IsFull (state_of g).shape ((state_of g).heap at) ((state_of g).name r) f (Some ((state_of g).name q)))
-  link_room i o full =
-      let k1 = h1 s g n1 q1 at r x w in
-      let both = full_law s.shape (end_of (with_nodes s n1 q1 s.counts) s.start) (arena_at s.places n1) (rank s.places at.begin.0) x f y k1.arena (drawn (rank s.places) (length s.places) n1 k1.rows) w.inside v.inside link_kind in
-      let full_s : IsFull (state_of s).shape ((state_of s).heap at) ((state_of s).name r) f (Some ((state_of s).name q)) = subst (λ (g : Stored). IsFull (state_of g).shape ((state_of g).heap at) ((state_of g).name r) f (Some ((state_of g).name q))) (sym w.view_is) full in
-      let each = both.0 (subst (λ (T : Type 0). T) (sym full_is) full_s) (i - element_count (type_at s.shape ((arena_at s.places n1).ty y))) (omega (arith, o.inverse.from, o.inverse.below)) in
-      let at_i : element_count (type_at s.shape ((arena_at s.places n1).ty y)) + (i - element_count (type_at s.shape ((arena_at s.places n1).ty y))) ≡ i = omega (arith, o.inverse.from) in
-      false≢true (sym o.available ∙ ap (λ (g : ℕ). is_other_entry x f ((arena_at s.places n1).chart.holds y g (rank s.places at.begin.0))) (sym at_i) ∙ each)
+  pub link_full : AreOthers g.shape (arena g) y (begin_of g at) x f → HasNoRoom g at r f q
+  link_full h = subst (λ (g : Stored). HasNoRoom g at r f q) w.view_is (subst (λ (T : Type 0). T) full_is (both.1 (at_s s g (λ (s : Stored). AreOthers s.shape (arena s) y (begin_of s at) x f) w.view_is h)))
 
-  module _ (n2 : List Node) (q2 : Noted) (i : ℕ) (o : (state_of g).writable at) (z : IsPointerWritten s.shape s.places n1 n2 x f (rank s.places at.begin.0) y i) (d : IsWritten s.shape s.places n2 q1 q2) (room : HasRoom (state_of g)) where
-    abbrev v2 : Stored
-    v2 = with_nodes s n2 q2 (one_pointer s.counts)
+  pub link_slot : (i : ℕ) → IsOpenTo g.shape (arena g) y (begin_of g at) x f i → IsOpenTo s.shape (arena s) y (begin_of s at) x f i
+  link_slot i o = at_s s g (λ (s : Stored). IsOpenTo s.shape (arena s) y (begin_of s at) x f i) w.view_is o
 
-    open_l : IsOpen s.forks at
-    open_l = subst (λ (g : Stored). (state_of g).writable at) (sym w.view_is) o
+  pub link_room : (i : ℕ) → IsOpenTo g.shape (arena g) y (begin_of g at) x f i → ¬ (HasNoRoom g at r f q)
+  link_room i free full =
+      let o = link_slot i free in
+      let each = both.0 (subst (λ (T : Type 0). T) (sym full_is) (at_s s g (λ (s : Stored). HasNoRoom s at r f q) w.view_is full)) (i - element_count (type_at s.shape ((arena s).ty y))) (omega (arith, o.inverse.from, o.inverse.below)) in
+      let at_i : element_count (type_at s.shape ((arena s).ty y)) + (i - element_count (type_at s.shape ((arena s).ty y))) ≡ i = omega (arith, o.inverse.from) in
+      false≢true (sym o.available ∙ ap (λ (g : ℕ). is_other_entry x f ((arena s).chart.holds y g (begin_of s at))) (sym at_i) ∙ each)
 
-    link_step : IsStore v2 × PointerStored (state_of (with_nodes s n1 q1 s.counts)) at ((arena_at s.places n1).name x) f (Some ((arena_at s.places n1).name y)) (state_of v2) × WritesStay (state_of (with_nodes s n1 q1 s.counts)) (state_of v2)
-    link_step = link_law (with_nodes s n1 q1 s.counts) z.mid n2 q2 at x f y i (h1 s g n1 q1 at r x w) open_l (z.mid_rows, z.mid_wide) (d.rows, d.wide) z.grown w.inside link_kind z.cleared z.put
+  module _ (nodes : List Node) (noted : Noted) (i : ℕ) (o : (state_of g).writable at) (z : IsPointerWritten s.shape s.places s.nodes nodes x f (begin_of s at) y i) (d : IsWritten s.shape s.places nodes s.noted noted) (room : HasRoom (state_of g)) where
+    abbrev linked : Stored
+    linked = with_nodes s nodes noted (one_pointer s.counts)
 
-    pub link_kept : IsKept v2
+    link_step : IsStore linked × PointerStored (state_of s) at ((arena s).name x) f (Some ((arena s).name y)) (state_of linked) × WritesStay (state_of s) (state_of linked)
+    link_step = link_law s z.mid nodes noted at x f y i w.kept.store (at_s s g (λ (s : Stored). (state_of s).writable at) w.view_is o) (z.mid_rows, z.mid_wide) (d.rows, d.wide) z.grown w.inside link_kind z.cleared z.put
+
+    pub link_kept : IsKept linked
     link_kept = record {
       store = link_step.0;
       waiting = d.waiting;
-      held = held_kept (arena_at s.places n1) (arena_at s.places n2) q1 q2 d.roots
-          (order_after (arena_at s.places n1) (arena_at s.places z.mid) (arena_at s.places n2) (order_cleared (arena_at s.places n1) (arena_at s.places z.mid) x f (rank s.places at.begin.0) z.cleared)
-          (order_same (arena_at s.places z.mid) (arena_at s.places n2) z.put.nodes)) w.repaired.held;
+      held = held_kept (arena s) (arena_at s.places nodes) s.noted noted d.roots
+          (order_after (arena s) (arena_at s.places z.mid) (arena_at s.places nodes) (order_cleared (arena s) (arena_at s.places z.mid) x f (begin_of s at) z.cleared)
+          (order_same (arena_at s.places z.mid) (arena_at s.places nodes) z.put.nodes)) w.kept.held;
       counted = counted_pointer s.counts w.kept.counted (at_s s g (λ (s : Stored). HasRoom (state_of s)) w.view_is room).pointer_writes;
     }
 
-    module _ (n3 : List Node) (q3 : Noted) (again : IsRepairedTo v2 n3 q3) where
-      abbrev v3 : Stored
-      v3 = with_nodes s n3 q3 (one_pointer s.counts)
+    pub link_stored : PointerStored (state_of g) at ((state_of g).name r) f (Some ((state_of g).name q)) (state_of linked)
+    link_stored = subst (λ (g : Stored). PointerStored (state_of g) at ((state_of g).name r) f (Some ((state_of g).name q)) (state_of linked)) w.view_is
+        (subst (λ (n : Name). PointerStored (state_of s) at ((arena s).name r.0) f (Some n) (state_of linked)) v.same (subst (λ (n : Name). PointerStored (state_of s) at n f (Some ((arena s).name y)) (state_of linked)) w.same link_step.1))
 
-      pub link_done : IsKept v3
-      link_done = kept_repaired v2 n3 q3 link_kept again
-
-      pub link_stored : PointerStored (state_of g) at ((state_of g).name r) f (Some ((state_of g).name q)) (state_of v3)
-      link_stored = subst (λ (g : Stored). PointerStored (state_of g) at ((state_of g).name r) f (Some ((state_of g).name q)) (state_of v3)) w.view_is
-          (pointer_around (state_of s) (state_of (with_nodes s n1 q1 s.counts)) (state_of v2) (state_of v3) at ((arena s).name r.0) f (Some ((arena s).name q.0)) (here s g n1 q1 at r x w).0 (u1 s g n1 q1 at r x w)
-          (subst (λ (n : Name). PointerStored (state_of (with_nodes s n1 q1 s.counts)) at ((arena s).name r.0) f (Some n) (state_of v2)) (found_name s g n1 q1 at q y v)
-          (subst (λ (n : Name). PointerStored (state_of (with_nodes s n1 q1 s.counts)) at n f (Some ((arena_at s.places n1).name y)) (state_of v2)) (found_name s g n1 q1 at r x w) link_step.1))
-          (repaired_unchanged v2 n3 q3 link_step.0 again))
-
-      pub link_writes : WritesStay (state_of g) (state_of v3)
-      link_writes = subst (λ (g : Stored). WritesStay (state_of g) (state_of v3)) w.view_is
-          (WritesStay_trans (state_of s) (state_of (with_nodes s n1 q1 s.counts)) (state_of v3) (repaired_writes s n1 q1 w.kept.store w.repaired) (WritesStay_trans (state_of (with_nodes s n1 q1 s.counts)) (state_of v2) (state_of v3) link_step.2 (repaired_writes v2 n3 q3 link_step.0 again)))
-
--- ---- as the code has it
-
-pub found : (s g : Stored) (n1 : List Node) (q1 : Noted) (at : Place) (r : NodeId) (x : ℕ) → s ≡ g → IsKept s → IsRepairedTo s n1 q1 → (state_of g).live at r → IsIn (arena_at s.places n1) x (rank s.places at.begin.0)
-    → (arena_at s.places n1).name x ≡ (arena_at s.places n1).name r.0 → IsFound s g n1 q1 at r x
-found s g n1 q1 at r x e k p l i same = record { view_is = e; kept = k; repaired = p; live = l; inside = i; same = same }
-
-pub writes_repaired : (s g : Stored) (nodes : List Node) (noted : Noted) → s ≡ g → IsKept s → IsRepairedTo s nodes noted → WritesStay (state_of g) (state_of (with_nodes s nodes noted s.counts))
-writes_repaired s g nodes noted e k r = subst (λ (g : Stored). WritesStay (state_of g) (state_of (with_nodes s nodes noted s.counts))) e (repaired_writes s nodes noted k.store r)
+    pub link_writes : WritesStay (state_of g) (state_of linked)
+    link_writes = subst (λ (g : Stored). WritesStay (state_of g) (state_of linked)) w.view_is link_step.2

@@ -1,5 +1,5 @@
 -- The steps of a store's calls, one after another.
-use Rattle.std.proofs.Common.{◌≡◌, ℕ, ◌-◌, ◌^◌, ◌<◌, arith, true, false, cond, List, Option, Some, None, refl, sym, ap, ◌∙◌, subst, Result, Ok, Err, OnOk, OnErr}
+use Rattle.std.proofs.Common.{◌≡◌, ℕ, suc, ◌-◌, ◌^◌, ◌<◌, arith, true, false, cond, List, Option, Some, None, refl, sym, ap, ◌∙◌, subst, Result, Ok, Err, OnOk, OnErr, IfOk}
 use Rattle.std.specs.Prelude.{slice_get, nat_lt}
 use Rattle.std.specs.Option.{option_map}
 use borrow.Author.Tests.{ltb-true}
@@ -12,13 +12,14 @@ use Rattle.pst_base.specs.declared.shape.TypeShape.{TypeShape}
 use Rattle.pst_base.specs.Shape.{type_at, field_kind}
 use Rattle.pst_base.specs.Heap.{kind_in, value_in}
 use Rattle.pst_places.specs.State.{Unchanged, WritesStay}
-use Rattle.pst_order.specs.Places.{rank}
+use Rattle.pst_places.proofs.StateLemmas.{Keeps_refl}
 use Rattle.pst_mirror.specs.Potential.{potential}
 use Rattle.pst_meaning.specs.declared.place.Place.{Place}
 use Rattle.pst_meaning.specs.Arena.{IsIn, IsLive, number}
 use Rattle.pst_meaning.specs.Store.{Node, Noted, Stored, arena, begin_of, end_of, loads, AreHeld, IsPlace, state_of, IsStore}
 use Rattle.pst_meaning.specs.Steps.{with_nodes, one_number, one_pointer, one_record}
 use Rattle.pst_meaning.proofs.Around.{repair_law}
+use Rattle.pst_meaning.proofs.Places.{open_ends}
 use Rattle.pst_meaning.proofs.Reading.{kind_law, value_read_law}
 use Rattle.pst_arena.specs.Calls.{AreNodes, AreWaiting, arena_at, IsRepaired}
 use Rattle.pst_started.specs.Calls.{AreCounted, IsKept, kind_at}
@@ -45,6 +46,10 @@ nodes_of s h = record { rows = h.rows; wide = h.wide; end = end_of s s.start; ar
 pub int_field : (s : Stored) (p : Place) (x f : ℕ) (n : Name) → IsStore s → IsPlace s p → IsIn (arena s) x (begin_of s p) → (arena s).name x ≡ n → kind_in s.shape ((state_of s).heap p) n f ≡ Some Int
     → f < (type_at s.shape ((arena s).ty x)).values
 int_field s p x f n h i a e k = int_below (type_at s.shape ((arena s).ty x)) f (sym (kind_law s p x f h i a).1 ∙ ap (λ (n : Name). kind_in s.shape ((state_of s).heap p) n f) e ∙ k)
+
+pub if_ok : {A E : Type 0} (r : Result A E) (P : Type 0) → P → IfOk r (λ _. P)
+if_ok (Ok a) P p = p
+if_ok (Err e) P p = tt
 
 -- ---- counts
 
@@ -84,30 +89,30 @@ repaired_unchanged s nodes noted h r = (repair_law s r.repaired.count nodes note
 pub repaired_writes : (s : Stored) (nodes : List Node) (noted : Noted) → IsStore s → IsRepairedTo s nodes noted → WritesStay (state_of s) (state_of (with_nodes s nodes noted s.counts))
 repaired_writes s nodes noted h r = (repair_law s r.repaired.count nodes noted h r.repaired.splits).2
 
-pub repaired_nodes : (s : Stored) (nodes : List Node) (noted : Noted) → IsKept s → IsRepairedTo s nodes noted → AreNodes s.shape s.places nodes
-repaired_nodes s nodes noted k r = nodes_of (with_nodes s nodes noted s.counts) (kept_repaired s nodes noted k r).store
-
-pub repaired_live : (s g : Stored) (nodes : List Node) (noted : Noted) (at : Place) (r : NodeId) → s ≡ g → IsKept s → IsRepairedTo s nodes noted → (state_of g).live at r
-    → IsPlace s at × IsLive (arena_at s.places nodes) r.0 (rank s.places at.begin.0)
-repaired_live s g nodes noted at r e k p l =
-    let here : (state_of s).live at r = subst (λ (g : Stored). (state_of g).live at r) (sym e) l in
-    (here.0, ((repaired_unchanged s nodes noted k.store p).keeps.grows.live at r here).1)
-
--- ---- a call that failed before it wrote
-
-pub failed_kept : (s : Stored) (nodes nodes' : List Node) (noted noted' : Noted) → IsKept s → IsRepairedTo s nodes noted → nodes' ≡ nodes → noted' ≡ noted → IsKept (with_nodes s nodes' noted' s.counts)
-failed_kept s nodes nodes' noted noted' k r a b = subst (λ (ns : List Node). IsKept (with_nodes s ns noted' s.counts)) (sym a) (subst (λ (q : Noted). IsKept (with_nodes s nodes q s.counts)) (sym b) (kept_repaired s nodes noted k r))
-
-pub failed_unchanged : (s g : Stored) (nodes nodes' : List Node) (noted noted' : Noted) → s ≡ g → IsKept s → IsRepairedTo s nodes noted → nodes' ≡ nodes → noted' ≡ noted
-    → Unchanged (state_of g) (state_of (with_nodes s nodes' noted' s.counts))
-failed_unchanged s g nodes nodes' noted noted' e k r a b =
-    subst (λ (g : Stored). Unchanged (state_of g) (state_of (with_nodes s nodes' noted' s.counts))) e
-    (subst (λ (ns : List Node). Unchanged (state_of s) (state_of (with_nodes s ns noted' s.counts))) (sym a)
-    (subst (λ (q : Noted). Unchanged (state_of s) (state_of (with_nodes s nodes q s.counts))) (sym b) (repaired_unchanged s nodes noted k.store r)))
-
--- a call that failed at its first repair
+-- a repair, as the store's calls tell it
 pub repaired_same : (s g : Stored) (nodes : List Node) (noted : Noted) → s ≡ g → IsKept s → IsRepairedTo s nodes noted → Unchanged (state_of g) (state_of (with_nodes s nodes noted s.counts))
-repaired_same s g nodes noted e k r = failed_unchanged s g nodes nodes noted noted e k r refl refl
+repaired_same s g nodes noted e k r = subst (λ (g : Stored). Unchanged (state_of g) (state_of (with_nodes s nodes noted s.counts))) e (repaired_unchanged s nodes noted k.store r)
+
+pub writes_repaired : (s g : Stored) (nodes : List Node) (noted : Noted) → s ≡ g → IsKept s → IsRepairedTo s nodes noted → WritesStay (state_of g) (state_of (with_nodes s nodes noted s.counts))
+writes_repaired s g nodes noted e k r = subst (λ (g : Stored). WritesStay (state_of g) (state_of (with_nodes s nodes noted s.counts))) e (repaired_writes s nodes noted k.store r)
+
+-- ---- a write
+
+pub live_at : (s g : Stored) (at : Place) (r : NodeId) → s ≡ g → (state_of g).live at r → IsLive (arena s) r.0 (begin_of s at)
+live_at s g at r e l = (at_s s g (λ (s : Stored). (state_of s).live at r) e l).1
+
+pub behind : (s g : Stored) (at : Place) → s ≡ g → IsStore s → (state_of g).writable at → end_of s at ≡ suc (begin_of s at)
+behind s g at e h o = open_ends s h.nested at (at_s s g (λ (s : Stored). (state_of s).writable at) e o)
+
+pub failed_kept : (s : Stored) (nodes : List Node) (noted : Noted) → IsKept s → nodes ≡ s.nodes → noted ≡ s.noted → IsKept (with_nodes s nodes noted s.counts)
+failed_kept s nodes noted k a b = subst (λ (ns : List Node). IsKept (with_nodes s ns noted s.counts)) (sym a) (subst (λ (q : Noted). IsKept (with_nodes s s.nodes q s.counts)) (sym b) k)
+
+pub failed_same : (s g : Stored) (nodes : List Node) (noted : Noted) → s ≡ g → nodes ≡ s.nodes → noted ≡ s.noted → Unchanged (state_of g) (state_of (with_nodes s nodes noted s.counts))
+failed_same s g nodes noted e a b =
+    subst (λ (g : Stored). Unchanged (state_of g) (state_of (with_nodes s nodes noted s.counts))) e
+    (subst (λ (ns : List Node). Unchanged (state_of s) (state_of (with_nodes s ns noted s.counts))) (sym a)
+    (subst (λ (q : Noted). Unchanged (state_of s) (state_of (with_nodes s s.nodes q s.counts))) (sym b)
+    (record { keeps = Keeps_refl (state_of s); heaps = λ p i. refl; counts = refl })))
 
 -- ---- a number is read
 

@@ -1,5 +1,5 @@
 -- What a store keeps between two calls, and what its calls do.
-use Rattle.std.specs.Prelude.{◌≡◌, ℕ, ◌≤◌, ◌^◌, ℤ, List, ◌∷◌, [], Option, Some, None, Result, Ok, Err}
+use Rattle.std.specs.Prelude.{◌≡◌, ◌⊎◌, ℕ, ◌≤◌, ◌^◌, ℤ, List, ◌∷◌, [], Option, Some, None, Result, Ok, Err}
 use Rattle.pst_base.specs.declared.names.Counts.{Counts}
 use Rattle.pst_base.specs.declared.names.NodeId.{NodeId}
 use Rattle.pst_base.specs.declared.names.Name.{Name}
@@ -11,6 +11,7 @@ use Rattle.pst_rows.specs.declared.content.Content.TheVariants.{Number, Null, Fr
 use Rattle.pst_versions.specs.Rows.{first_row}
 use Rattle.pst_places.specs.declared.heap_at.StoreFault.{StoreFault}
 use Rattle.pst_places.specs.declared.heap_at.StoreFault.TheVariants.{InDegree, Memory}
+use Rattle.pst_order.specs.Places.{IsInsertedAfter}
 use Rattle.pst_places.specs.State.{ValueStored, PointerStored, Unchanged, WritesStay}
 use Rattle.pst_meaning.specs.declared.place.Place.{Place}
 use Rattle.pst_meaning.specs.Store.{Stored, arena, AreHeld, IsRested, IsStore, state_of}
@@ -85,3 +86,14 @@ abbrev pub RestsAfter : Result (Unit {0}) StoreFault → List ℕ → Type 0
 RestsAfter (Ok u) queue = queue ≡ []
 RestsAfter (Err InDegree) queue = queue ≡ []
 RestsAfter (Err Memory) queue = Unit {0}
+
+-- a place with number n came in: its end and then its begin, each directly behind another entry of the order
+pub record IsPlaceIn (old new : List ℕ) (p n : ℕ) (place : Place) : Type 0 where
+  pub number : place.number ≡ n
+  pub mid : List ℕ
+  pub end_in : IsInsertedAfter old mid p place.end.0
+  pub begin_in : IsInsertedAfter mid new p place.begin.0
+
+-- one entry at most came in directly behind another one
+abbrev pub IsOneInAtMost : (old new : List ℕ) → ℕ → Type 0
+IsOneInAtMost old new p = (new ≡ old) ⊎ ((z : ℕ) × IsInsertedAfter old new p z)

@@ -12,6 +12,8 @@
 //!     store.write_number(at, store.root(at), field, 7)?;
 #![tactic(auto)]
 
+mod forking;
 mod store;
+mod types;
 
 pub use store::Started;

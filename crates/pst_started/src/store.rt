@@ -1,5 +1,7 @@
 //! A store that is started.
 
+use crate::forking::{insert_place, reserve_one};
+use crate::types::{capacity_of, field_kind};
 use pst_arena::{Arena, FatNodes};
 use pst_base::{Counts, Kind, Name, NoMemory, NodeId, RunNo, Shape, SlotNo, TypeNo, VersionNo};
 use pst_meaning::place::{Fork, Place};
@@ -40,7 +42,7 @@ impl<O: Order + Drop, N: FatNodes> Model for Started<O, N> {
 }
 
 impl<O: Order + Drop, N: FatNodes> Started<O, N> {
-    ghost use Rattle.std.specs.Prelude.{◌≡◌, ◌⊎◌, ◌↔◌, ◌<◌, Some, None, OnOk, OnErr, IfOk, IfSome, IsTrue, false, length, slice_get, []};
+    ghost use Rattle.std.specs.Prelude.{◌≡◌, ◌⊎◌, ◌↔◌, ◌<◌, Some, None, OnOk, OnErr, IfOk, IfNone, IfSome, IsTrue, false, length, slice_get, []};
     ghost use Rattle.std.specs.Option.{option_map};
     ghost use Rattle.pst_base.specs.declared.names.Kind.TheVariants.{Int};
     ghost use Rattle.pst_base.specs.Heap.{kind_in, type_in, value_in, pointer_in, IsPointer};
@@ -51,9 +53,11 @@ impl<O: Order + Drop, N: FatNodes> Started<O, N> {
     ghost use Rattle.pst_places.specs.Store.{MayStorePointer, PointerOutcome};
     ghost use Rattle.pst_places.specs.State.{HasRoom, Allocated, IsNewType, IsFresh, IsPublished, Forked, ForkRefused, IsOpenFork, Published};
     ghost use Rattle.pst_meaning.specs.declared.place.Place.{Place};
-    ghost use Rattle.pst_meaning.specs.Store.{loads, state_of};
+    ghost use Rattle.pst_meaning.specs.Arena.{IsIn};
+    ghost use Rattle.pst_meaning.specs.Store.{arena, begin_of, loads, state_of};
+    ghost use Rattle.pst_arena.specs.Calls.{AreOthers, IsOpenTo};
     ghost use Rattle.pst_places.specs.declared.versioned.TheConstants.{MOST_FORKS};
-    ghost use Rattle.pst_started.specs.Calls.{IsKept, IsStarted, kind_at, IsNumberStored, IsPointerStored, RestsAfter, Stays, Same, IsLinked, IsRefused};
+    ghost use Rattle.pst_started.specs.Calls.{IsKept, IsStarted, kind_at, IsNumberStored, IsPointerStored, RestsAfter, Stays, Same, IsLinked, IsRefused, HasNoRoom};
 
     /// A store with version 0, which has the root record alone.
     pub fn start(alloc: Global, shape: &Shape) -> Result<Started<O, N>, NoMemory>
@@ -111,8 +115,7 @@ impl<O: Order + Drop, N: FatNodes> Started<O, N> {
         requires { ty.0 < length self.now.shape }
         ensures { result ≡ capacity (type_at self.now.shape ty) }
     {
-        let of = &self.shape.as_slice()[usize::from(ty.0)];
-        2 * (of.targets.as_slice().len() as u32 + u32::from(of.limit))
+        capacity_of(&self.shape, ty)
     }
 
     /// Whether a node waits to be split.
@@ -187,11 +190,7 @@ impl<O: Order + Drop, N: FatNodes> Started<O, N> {
         requires { (state_of self.now).live at r }
         ensures { result ≡ kind_at self.now at r field.0 }
     {
-        let ty = self.ty(r);
-        match self.shape.as_slice().get(usize::from(ty.0)) {
-            None => None,
-            Some(of) => of.kind(field),
-        }
+        field_kind(&self.shape, self.ty(r), field)
     }
 
     /// Whether a place can be forked once more, and each count can be raised once.
@@ -227,7 +226,21 @@ impl<O: Order + Drop, N: FatNodes> Started<O, N> {
         ensures ok { IfOk result (λ r. Allocated (state_of self.old) at ty name r (state_of self.new)) }
         ensures err { OnErr result (Same self.old self.new) }
     {
-        self.nodes.repair(&self.shape, &self.order)?;
+        self.repair()?;
+        self.add_record(at, ty, name)
+    }
+
+    /// Makes a record as `make` does, and splits nothing.
+    #[inline(always)]
+    fn add_record(&mut self, at: Place, ty: TypeNo, name: Name) -> Result<NodeId, NoMemory>
+        requires writable { (state_of self.old).writable at }
+        requires known_type { IsNewType (state_of self.old) ty }
+        requires fresh { IsFresh (state_of self.old) name }
+        requires room { HasRoom (state_of self.old) }
+        ensures noted { self.new.noted ≡ self.old.noted }
+        ensures ok { IfOk result (λ r. Allocated (state_of self.old) at ty name r (state_of self.new)) }
+        ensures err { OnErr result (Same self.old self.new) }
+    {
         let id = self.nodes.add(&self.shape, name, ty, at)?;
         self.counts.records += 1;
         Ok(id)
@@ -288,12 +301,26 @@ impl<O: Order + Drop, N: FatNodes> Started<O, N> {
         ensures ok { OnOk result (IsPointerStored self.old at r field.0 None self.new × Stays self.old self.new) }
         ensures err { OnErr result (Same self.old self.new ⊎ IsPointerStored self.old at r field.0 None self.new) }
     {
-        self.nodes.repair(&self.shape, &self.order)?;
+        self.repair()?;
+        self.stamp_null(at, r, field)?;
+        self.repair()
+    }
+
+    /// Writes null, at a place that can be written, and splits nothing.
+    #[inline(always)]
+    fn stamp_null(&mut self, at: Place, r: NodeId, field: SlotNo) -> Result<(), NoMemory>
+        requires writable { (state_of self.old).writable at }
+        requires live { (state_of self.old).live at r }
+        requires field { IsPointer (kind_at self.old at r field.0) }
+        requires room { HasRoom (state_of self.old) }
+        ensures ok { OnOk result (IsPointerStored self.old at r field.0 None self.new × Stays self.old self.new) }
+        ensures err { OnErr result (Same self.old self.new) }
+    {
         let id = self.nodes.cover(&self.shape, &self.order, r, at.begin);
         self.nodes
             .set_null(&self.shape, &self.order, id, field, at)?;
         self.counts.pointer_writes += 1;
-        self.nodes.repair(&self.shape, &self.order)
+        Ok(())
     }
 
     /// Writes a pointer to a record, at a place that can be written, or answers false exactly where the record has no
@@ -305,22 +332,53 @@ impl<O: Order + Drop, N: FatNodes> Started<O, N> {
         ensures full { IfOk result (λ done. done ≡ false → IsRefused self.old at r field.0 q self.new) }
         ensures err { OnErr result (Same self.old self.new ⊎ IsPointerStored self.old at r field.0 (Some ((state_of self.old).name q)) self.new) }
     {
-        self.nodes.repair(&self.shape, &self.order)?;
+        self.repair()?;
+        let done = self.stamp_target(at, r, field, q)?;
+        if !done {
+            return Ok(false);
+        }
+        self.repair()?;
+        Ok(true)
+    }
+
+    /// Writes a pointer to a record, at a place that can be written, and splits nothing, or answers false exactly where the
+    /// record has no room for a pointer more: then nothing changes.
+    #[inline(always)]
+    fn stamp_target(
+        &mut self,
+        at: Place,
+        r: NodeId,
+        field: SlotNo,
+        q: NodeId,
+    ) -> Result<bool, NoMemory>
+        requires { MayStorePointer (state_of self.old) at r field.0 (Some q) }
+        ensures written { IfOk result (λ done. IsTrue done → IsLinked self.old at r field.0 q self.new) }
+        ensures full { IfOk result (λ done. done ≡ false → HasNoRoom self.old at r field.0 q × (self.new ≡ self.old)) }
+        ensures err { OnErr result (Same self.old self.new) }
+    {
         let x = self.nodes.cover(&self.shape, &self.order, r, at.begin);
         let y = self.nodes.cover(&self.shape, &self.order, q, at.begin);
-        match self
-            .nodes
-            .open_slot(&self.shape, &self.order, y, at.begin, x, field)
-        {
+        match self.open_slot(at, x, field, y) {
             None => Ok(false),
             Some(slot) => {
                 self.nodes
                     .set_target(&self.shape, &self.order, x, field, at, y, slot)?;
                 self.counts.pointer_writes += 1;
-                self.nodes.repair(&self.shape, &self.order)?;
                 Ok(true)
             }
         }
+    }
+
+    /// An inverse slot of node `y` that holds no entry of another field than this one of node `x`, at a place, or None where
+    /// each one does.
+    #[inline(always)]
+    fn open_slot(&self, at: Place, x: NodeId, field: SlotNo, y: NodeId) -> Option<SlotNo>
+        requires { IsIn (arena self.now) y.0 (begin_of self.now at) }
+        ensures none { IfNone result (AreOthers self.now.shape (arena self.now) y.0 (begin_of self.now at) x.0 field.0) }
+        ensures some { IfSome result (λ s. IsOpenTo self.now.shape (arena self.now) y.0 (begin_of self.now at) x.0 field.0 s.0) }
+    {
+        self.nodes
+            .open_slot(&self.shape, &self.order, y, at.begin, x, field)
     }
 
     /// Writes a pointer, or null for None, at a place that can be written. It is refused exactly where the target has no room
@@ -360,21 +418,15 @@ impl<O: Order + Drop, N: FatNodes> Started<O, N> {
     {
         let root = self.root(from);
         self.calls += 1;
-        self.forks.reserve(1)?;
-        self.roots.reserve(1)?;
-        let end = self.order.insert_after(from.begin)?;
-        let begin = self.order.insert_after(from.begin)?;
-        let place = Place {
-            number: self.forks.len() as u32,
-            begin,
-            end,
-        };
+        reserve_one(&mut self.forks, &mut self.roots)?;
+        let number = self.forks.len() as u32;
+        let place = insert_place(&mut self.order, from.begin, number)?;
         self.roots.push_reserved(root);
-        self.forks.push(Fork {
+        self.forks.push_reserved(Fork {
             place,
             from,
             published: false,
-        })?;
+        });
         Ok(place)
     }
 

@@ -1,5 +1,4 @@
-use Rattle.pst_started.proofs.Links.{writes_repaired}
-use Rattle.pst_started.proofs.Stores.{kept_repaired, nodes_of, repaired_same, repaired_to}
+use Rattle.pst_started.proofs.Stores.{kept_repaired, nodes_of, repaired_same, repaired_to, writes_repaired}
 use Rattle.pst_started.proofs.store.Started+O+Arena.split_once.Goals as goal
 
 pub split_next-requires-clause-nodes : goal.split_next-requires-clause-nodes

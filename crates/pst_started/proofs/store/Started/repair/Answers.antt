@@ -1,5 +1,4 @@
-use Rattle.pst_started.proofs.Links.{writes_repaired}
-use Rattle.pst_started.proofs.Stores.{kept_repaired, repaired_same, repaired_to}
+use Rattle.pst_started.proofs.Stores.{kept_repaired, repaired_same, repaired_to, writes_repaired}
 use Rattle.pst_started.proofs.store.Started.repair.Goals as goal
 
 pub invariant_of-self : goal.invariant_of-self

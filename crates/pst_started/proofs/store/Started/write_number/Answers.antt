@@ -1,7 +1,7 @@
 use Rattle.std.proofs.Common.{◌∙◌, inl, inr}
 use Rattle.std.proofs.lemmas.Int.{to_z-of_z}
 use Rattle.pst_meaning.proofs.Around.{unchanged_after}
-use Rattle.pst_started.proofs.Numbers.{kind_kept, number_around, room_kept, writes_around}
+use Rattle.pst_started.proofs.Around.{kind_kept, number_around, room_kept, writes_around}
 use Rattle.pst_started.proofs.Stores.{on_err, on_ok_both}
 use Rattle.pst_started.proofs.store.Started.write_number.Goals as goal
 
