@@ -4,19 +4,42 @@ ghost use Rattle.std.specs.Prelude.{◌≡◌, ◌≤◌, ◌<◌, length, map, 
 ghost use Rattle.std.specs.Option.{option_map};
 ghost use Rattle.pst_tree.specs.View.{field_of, local_of, item_of, type_word_of};
 ghost use Rattle.pst_grammar.specs.Lexemes.{lexemes};
-ghost use Rattle.pst_grammar.specs.Reader.{listed, many};
+ghost use Rattle.pst_grammar.specs.Reader.{expect as expecting, listed, many};
 ghost use Rattle.pst_grammar.specs.Declarations as read;
 ghost use Rattle.pst_expressions.specs.View.{Gives, GivesRest, itself};
 ghost use Rattle.pst_blocks.specs.View.{begins};
-ghost use Rattle.pst_declarations.specs.View.{BeginsWithWord, BeginsOtherwise, fields_of, locals_of, result_of};
+ghost use Rattle.pst_declarations.specs.View.{BeginsWithWord, BeginsOtherwise, GivesBehind, fields_of, locals_of, result_of, heading as heading_of, signature_of};
 
-use pst_base::Op;
+use pst_base::{Op, Text};
 use pst_blocks::block;
 use pst_expressions::{Lexeme, Stop, after, expect, name, number, peek, type_name};
 use pst_grammar::{Lead, Sign};
 use pst_lex::Token;
 use pst_tree::{Declaration, Field, Fields, Local, Locals, TypeName};
 use std::alloc::Global;
+
+/// What a procedure or query shows of itself to a caller.
+#[derive(Drop)]
+struct Signature {
+    name: Text,
+    parameters: Locals,
+    result: Option<TypeName>,
+}
+
+/// A value that was read, and the tokens behind a sign that has to come next. The value is handed in, so that one place lets it
+/// go where another token stands.
+fn followed<'a, T: Drop>(
+    value: T,
+    tokens: &'a [Token],
+    sign: Sign,
+) -> Result<(T, &'a [Token]), Stop<'a>>
+    ensures given { GivesBehind result (expecting sign (lexemes tokens.now)) }
+    ensures kept { IfOk result (λ x. x.0 ≡ value) }
+    ensures shorter { IfOk result (λ x. length x.1.now < length tokens.now) }
+{
+    let rest = expect(tokens, sign)?;
+    Ok((value, rest))
+}
 
 /// The number of elements behind the type of a field, where one stands there. Language 1 has none.
 fn count<'a>(language: u8, tokens: &'a [Token]) -> Result<(Option<i64>, &'a [Token]), Stop<'a>>
@@ -48,17 +71,16 @@ fn value_field<'a>(
     ensures shorter { IfOk result (λ x. length x.1.now < length tokens.now) }
 {
     let (label, rest) = name(tokens)?;
-    let rest = expect(rest, Sign::Colon)?;
-    let rest = expect(rest, Sign::Int)?;
+    let (label, rest) = followed(label, rest, Sign::Colon)?;
+    let (label, rest) = followed(label, rest, Sign::Int)?;
     let (elements, rest) = count(language, rest)?;
-    let rest = expect(rest, Sign::Semicolon)?;
     let name = label.name;
     let field = Field::Val {
         line,
         name,
         elements,
     };
-    Ok((field, rest))
+    followed(field, rest, Sign::Semicolon)
 }
 
 /// What stands behind `ptr`.
@@ -71,10 +93,9 @@ fn pointer_field<'a>(
     ensures shorter { IfOk result (λ x. length x.1.now < length tokens.now) }
 {
     let (label, rest) = name(tokens)?;
-    let rest = expect(rest, Sign::Colon)?;
+    let (label, rest) = followed(label, rest, Sign::Colon)?;
     let (target, rest) = name(rest)?;
     let (elements, rest) = count(language, rest)?;
-    let rest = expect(rest, Sign::Semicolon)?;
     let name = label.name;
     let target = target.name;
     let field = Field::Ptr {
@@ -83,7 +104,7 @@ fn pointer_field<'a>(
         target,
         elements,
     };
-    Ok((field, rest))
+    followed(field, rest, Sign::Semicolon)
 }
 
 /// A field of a record type.
@@ -171,8 +192,7 @@ fn parameters<'a>(alloc: Global, tokens: &'a [Token]) -> Result<(Locals, &'a [To
         items.push(parameter)?;
         rest = behind;
     }
-    let rest = expect(rest, Sign::CloseParen)?;
-    Ok((Locals::from_vec(items), rest))
+    followed(Locals::from_vec(items), rest, Sign::CloseParen)
 }
 
 /// The result's type, if one is named.
@@ -223,9 +243,8 @@ fn variable<'a>(tokens: &'a [Token], line: u32) -> Result<(Local, &'a [Token]), 
 {
     let (label, rest) = name(tokens)?;
     let (kind, rest) = typed(rest)?;
-    let rest = expect(rest, Sign::Semicolon)?;
     let name = label.name;
-    Ok((Local { line, name, kind }, rest))
+    followed(Local { line, name, kind }, rest, Sign::Semicolon)
 }
 
 /// As many locals as stand there, one after another.
@@ -255,9 +274,8 @@ fn record_type<'a>(
 {
     let (label, rest) = name(tokens)?;
     let (limit, rest) = number(rest)?;
-    let rest = expect(rest, Sign::OpenBrace)?;
+    let (label, rest) = followed(label, rest, Sign::OpenBrace)?;
     let (fields, rest) = fields(alloc, language, rest)?;
-    let rest = expect(rest, Sign::CloseBrace)?;
     let name = label.name;
     let declaration = Declaration::Record {
         line,
@@ -265,7 +283,7 @@ fn record_type<'a>(
         limit,
         fields,
     };
-    Ok((declaration, rest))
+    followed(declaration, rest, Sign::CloseBrace)
 }
 
 /// What stands behind `root`.
@@ -275,9 +293,30 @@ fn root<'a>(tokens: &'a [Token], line: u32) -> Result<(Declaration, &'a [Token])
 {
     let (label, rest) = name(tokens)?;
     let (kind, rest) = typed(rest)?;
-    let rest = expect(rest, Sign::Semicolon)?;
     let name = label.name;
-    Ok((Declaration::Root { line, name, kind }, rest))
+    followed(
+        Declaration::Root { line, name, kind },
+        rest,
+        Sign::Semicolon,
+    )
+}
+
+/// The name, the parameters and the result's type of a procedure, up to the `{`.
+fn heading<'a>(alloc: Global, tokens: &'a [Token]) -> Result<(Signature, &'a [Token]), Stop<'a>>
+    ensures given { Gives signature_of result (heading_of (lexemes tokens.now)) }
+    ensures shorter { IfOk result (λ x. length x.1.now < length tokens.now) }
+{
+    let (label, rest) = name(tokens)?;
+    let (label, rest) = followed(label, rest, Sign::OpenParen)?;
+    let (parameters, rest) = parameters(alloc, rest)?;
+    let (kind, rest) = result_type(rest)?;
+    let name = label.name;
+    let signature = Signature {
+        name,
+        parameters,
+        result: kind,
+    };
+    followed(signature, rest, Sign::OpenBrace)
 }
 
 /// What stands behind `proc` or `query`.
@@ -293,25 +332,19 @@ fn procedure<'a>(
     ensures given { Gives item_of result (read.procedure language height nesting line query (lexemes tokens.now)) }
     ensures shorter { IfOk result (λ x. length x.1.now < length tokens.now) }
 {
-    let (label, rest) = name(tokens)?;
-    let rest = expect(rest, Sign::OpenParen)?;
-    let (parameters, rest) = parameters(alloc, rest)?;
-    let (kind, rest) = result_type(rest)?;
-    let rest = expect(rest, Sign::OpenBrace)?;
+    let (signature, rest) = heading(alloc, tokens)?;
     let (locals, rest) = locals(alloc, rest)?;
     let (body, rest) = block(alloc, language, rest, height, nesting)?;
-    let rest = expect(rest, Sign::CloseBrace)?;
-    let name = label.name;
     let declaration = Declaration::Procedure {
         line,
         query,
-        name,
-        parameters,
-        result: kind,
+        name: signature.name,
+        parameters: signature.parameters,
+        result: signature.result,
         locals,
         body,
     };
-    Ok((declaration, rest))
+    followed(declaration, rest, Sign::CloseBrace)
 }
 
 /// A declaration.

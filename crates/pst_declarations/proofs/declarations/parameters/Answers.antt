@@ -1,9 +1,11 @@
-use Rattle.std.proofs.Common.{arith}
+use Rattle.std.proofs.Common.{ap, arith}
 use Rattle.std.proofs.lemmas.Result.{err_from_is_err_and}
 use Rattle.pst_tree.specs.View.{local_of}
 use Rattle.pst_grammar.specs.Declarations.{parameter}
-use Rattle.pst_blocks.proofs.Loops.{comma_more, comma_bad, comma_closed, comma_unclosed}
+use Rattle.pst_blocks.proofs.Loops.{comma_more, comma_bad}
 use Rattle.pst_grammar.proofs.DeclarationAgain.{parameter_short}
+use Rattle.pst_declarations.specs.View.{locals_of}
+use Rattle.pst_declarations.proofs.Parts.{listed_followed}
 use Rattle.pst_declarations.proofs.declarations.parameters.Goals as goal
 
 pub returns-in_err-parameter-clause-given : goal.returns-in_err-parameter-clause-given
@@ -17,11 +19,6 @@ loop-next-preserved c = (
   comma_more parameter local_of _ _ c.in_ok-parameter.parameter _ _ _ _ parameter_short c.in_ok-push-2.ensures.items c.in-Some-after.ensures.seen c.in_ok-parameter.ensures.given c.loop-next.invariant.1,
 )
 
-pub returns-in_err-rest-clause-given : goal.returns-in_err-rest-clause-given
-returns-in_err-rest-clause-given c =
-    let p = err_from_is_err_and c.from_residual-in_err-rest.result c.from_residual-in_err-rest.ensures.1 in
-    rw (p.1, p.2) (comma_unclosed parameter local_of _ _ _ _ c.in_default-after.ensures.seen c.in_err-rest.ensures.given c.loop-next.invariant.1)
-
 pub returns-clause-given : goal.returns-clause-given
 returns-clause-given c =
-    rw c.from_vec-2.ensures (comma_closed parameter local_of _ _ _ _ c.in_default-after.ensures.seen c.in_ok-rest.ensures.given c.loop-next.invariant.1)
+    listed_followed parameter local_of _ _ _ locals_of _ _ (ap locals_of c.from_vec-2.ensures) c.in_default-after.ensures.seen c.loop-next.invariant.1 c.followed.ensures.given c.followed.ensures.kept
