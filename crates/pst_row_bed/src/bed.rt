@@ -1,6 +1,7 @@
 //! A row over an order, with the same stamped values beside it in a plain list.
 
-ghost use Rattle.std.specs.Prelude.{◌≡◌, ◌<◌, ◌≤◌, ◌+◌, ◌^◌, length, IfOk, OnOk, All};
+ghost use Rattle.std.specs.Prelude.{◌≡◌, ◌<◌, ◌≤◌, ◌+◌, ◌^◌, length, Some, slice_get, IfOk, OnOk, All};
+ghost use Rattle.pst_order.specs.declared.order.Pos.{Pos};
 ghost use Rattle.pst_order.specs.Places.{rank, IsIn};
 ghost use Rattle.pst_rows.specs.Rows.{content_at, stamped_count, row_edge};
 ghost use Rattle.pst_rows.specs.Changes.{needed};
@@ -114,6 +115,7 @@ impl Bed {
         requires ready { IsReady (O.places order.now) self.now }
         requires slot { slot.0 < 5 }
         requires index { index < length self.now.places.items }
+        ensures { (p : Pos) → slice_get self.now.places.items index ≡ Some p → result ≡ content_at (rank (O.places order.now)) self.now.row slot.0 (rank (O.places order.now) p.0) }
     {
         self.row.read(order, slot, self.places[index])
     }
