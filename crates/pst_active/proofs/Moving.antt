@@ -5,6 +5,7 @@ use Rattle.std.proofs.lemmas.Option.{same_Some}
 use Rattle.std.proofs.lemmas.List.{length-set}
 use Rattle.pst_base.specs.declared.names.Counts.{Counts}
 use Rattle.pst_base.specs.declared.names.VersionNo.{VersionNo}
+use Rattle.pst_base.specs.declared.names.RunNo.{RunNo}
 use Rattle.pst_base.specs.Heap.{Heap}
 use Rattle.pst_program.specs.declared.meaning.Ended.{Ended}
 use Rattle.pst_program.specs.Sound.{CountsBelow}
@@ -43,6 +44,7 @@ forks-restated {P = P} {R = R} m s h before n old new step holds =
             let parent : r.parent ≡ old.parent = ap (λ y. y.parent) w.1 ∙ step.parent in
             record { row = f.row; found = f.found; parent = f.parent; parent_found = ap (λ p. slice_get s.versions p.0) parent ∙ f.parent_found; from = f.from; published = f.published; has_version = f.has_version }
       ];
+      placed = λ i v row q r. let w = holds.placed i v row q r in record { index = w.index; number = w.number; fork = w.fork; found = w.found; place = w.place };
     }
   where
     same : (r : Run) {k i : ℕ} → IsForkOf s h k i r → IsForkOf s (restated h n new) k i r
@@ -106,9 +108,11 @@ module _ {H P R : Type 0} (m : Meaning) (x : Runs P R (Activation H R P)) (law :
       let more : CountsBelow (run_counts m h n old) (C y) = let Q : Counts → Type 0 = λ c. CountsBelow (run_counts m h n old) c in subst Q (ap C (sym parent)) (restated-counts m law h n old new sound step) in
       let same_next = stand.same_next in
       let same_calls = keeps.fork_calls in
+      let same_spent = keeps.grows.spent in
       let fork_calls = stand.calls in
       let within = numbered-within first h.runs n old step.found in
       let n_below = within.1 in
+      let n_late = within.0 in
       let open_old : unit_of (is_open old) ≡ 1 = ap unit_of step.was_open in
       let open_new : unit_of (is_open new) ≡ 1 = ap unit_of move.goes_on in
       let count : count_by is_open (with_numbered first h.runs n new) + unit_of (is_open old) ≡ count_by is_open h.runs + unit_of (is_open new) = numbered-count first h.runs is_open n old new step.found in
@@ -128,6 +132,7 @@ module _ {H P R : Type 0} (m : Meaning) (x : Runs P R (Activation H R P)) (law :
               | inl q ↦ subst (λ z. IsOlder (t.heap z) next) (sym q) (subst (λ z. IsOlder z next) (sym adv.heap) (older-more (m.outcome w new.granted y).heap (n + 1) next (omega arith) (law.names w new.granted y (subst (λ z. CanBeDone m w z) (heaps new.parent.0 ∙ sym parent) (run-ready m law (restated h n new) (restated-sound m h n old new sound step) n new (numbered-same first h.runs n old new step.found))))))
               | inr q ↦ subst (λ z. IsOlder z next) (sym q) (stand.older p was)
             ];
+        rooted = λ q zero other. adv.names q (λ same. let is : q.run.0 ≡ n = ap (λ (r : RunNo). r.0) same in let first_later = sound.start.next in omega (arith, is, zero, first_later, n_late)) (stand.rooted q zero other);
         versions = versions-same m t h (with_numbered first h.runs n new) heaps (slice-versions m s t h at known writable move.kept stand.versions);
         before = stand.before;
         forks = forks-restated m t h stand.before n old new step (forks-kept s t h stand.before keeps.versions keeps.forks stand.forks);

@@ -83,6 +83,9 @@ pub forks-kept : {P R : Type 0} (s t : State P R) (h : History) (before : ℕ) �
 forks-kept s t h before versions forks holds = record {
   many = ap (λ rows. length rows) forks ∙ holds.many;
   forks = λ i r q. fork-kept s t h (before + i) (h.start.next_run + i) r versions forks (holds.forks i r q);
+  placed = λ i v row q r.
+      let w = holds.placed i v row q (ap (λ rows. slice_get rows (length h.start.heaps + i)) (sym versions) ∙ r) in
+      record { index = w.index; number = w.number; fork = w.fork; found = ap (λ rows. slice_get rows (before + w.index)) forks ∙ w.found; place = w.place };
 }
 
 -- an open run has no version

@@ -1,6 +1,7 @@
 -- A query: a run at the place of a version, which changes nothing and is thrown away.
 use Rattle.std.proofs.Common.{◌≡◌, inr, inl, ℕ, ◌+◌, ◌<◌, ◌^◌, List, ℤ, [], ◌∷◌, min, refl, ap, sym, ◌∙◌, subst, arith, zero, suc, slice_get, Option, Some}
 use Rattle.std.specs.Prelude.{IsTrue, IfSome}
+use Rattle.std.specs.FinMap.{get}
 use Rattle.pst_base.specs.declared.names.Kind.{Kind}
 use Rattle.pst_base.specs.declared.names.RunNo.{RunNo}
 use Rattle.pst_base.specs.Heap.{Heap}
@@ -84,6 +85,7 @@ module _ {H P R : Type 0} (m : Meaning) (x : Runs P R (Activation H R P)) (s t :
       let keeps = same.keeps in
       let calls = stand.calls in
       let same_calls = keeps.fork_calls in
+      let same_spent = keeps.grows.spent in
       record {
         sound = stand.sound;
         same_budget = stand.same_budget;
@@ -92,6 +94,7 @@ module _ {H P R : Type 0} (m : Meaning) (x : Runs P R (Activation H R P)) (s t :
         counts = same.counts ∙ stand.counts;
         calls = omega arith;
         older = λ p has. subst (λ y. IsOlder y next) (sym (same.heaps p (keeps.back p has))) (stand.older p (keeps.back p has));
+        rooted = λ q zero other. let free = stand.rooted q zero other in record { fresh = λ p has. ap (λ y. get y q) (same.heaps p (keeps.back p has)) ∙ free.fresh p (keeps.back p has) };
         versions = versions-kept m s t h keeps.versions keeps.grows.has (λ k row q. same.heaps row.place (stand.versions.versions k row q).has) stand.versions;
         before = stand.before;
         forks = forks-kept s t h stand.before keeps.versions keeps.forks stand.forks;

@@ -1,11 +1,13 @@
 -- What the entries of open runs and a heap stand for: a history, of which neither keeps anything but what is here.
-use Rattle.std.specs.Prelude.{◌≡◌, ℕ, ◌+◌, ◌<◌, List, Some, IfSome, IsTrue, true, length, slice_get, count_by}
+use Rattle.std.specs.Prelude.{◌≡◌, ◌≢◌, ℕ, ◌+◌, ◌<◌, List, Some, IfSome, IsTrue, true, length, slice_get, count_by}
 use Rattle.pst_base.specs.declared.names.RunNo.{RunNo}
+use Rattle.pst_base.specs.declared.names.Name.{Name}
+use Rattle.pst_base.specs.Name.{root_name}
 use Rattle.pst_history.specs.declared.history.NamedCall.{NamedCall}
 use Rattle.pst_program.specs.Laws.{IsOlder}
 use Rattle.pst_code.specs.declared.procedure.Parts.{Parts}
 use Rattle.pst_versions.specs.declared.rows.VersionRow.{VersionRow}
-use Rattle.pst_places.specs.State.{State, ForkRow}
+use Rattle.pst_places.specs.State.{State, ForkRow, IsFresh}
 use Rattle.pst_machine.specs.declared.activation.Activation.{Activation}
 use Rattle.pst_history.specs.declared.history.Run.{Run}
 use Rattle.pst_history.specs.declared.history.Descent.{Descent}
@@ -49,10 +51,19 @@ pub record IsForkOf {P R : Type 0} (s : State P R) (h : History) (k n : ℕ) (r 
   pub published : row.published ≡ true → HasVersion h n
   pub has_version : HasVersion h n → row.published ≡ true
 
+-- the version has the place of the fork of its run
+pub record IsPlaced {P R : Type 0} (s : State P R) (h : History) (before : ℕ) (v : Descent) (row : VersionRow P) : Type 0 where
+  pub index : ℕ
+  pub number : v.run.0 ≡ h.start.next_run + index
+  pub fork : ForkRow P
+  pub found : slice_get s.forks (before + index) ≡ Some fork
+  pub place : fork.place ≡ row.place
+
 -- the last forks are one for each run since the opening, in order
 pub record HoldsForks {P R : Type 0} (s : State P R) (h : History) (before : ℕ) : Type 0 where
   pub many : length s.forks ≡ before + length h.runs
   pub forks : (i : ℕ) (r : Run) → slice_get h.runs i ≡ Some r → IsForkOf s h (before + i) (h.start.next_run + i) r
+  pub placed : (i : ℕ) (v : Descent) (row : VersionRow P) → slice_get h.versions i ≡ Some v → slice_get s.versions (length h.start.heaps + i) ≡ Some row → IsPlaced s h before v row
 
 -- ---- the open runs
 
@@ -82,8 +93,9 @@ pub record StandsFor {H P R : Type 0} (m : Meaning) (x : Runs P R (Activation H 
   -- the heap
   pub shape : s.shape ≡ m.shape
   pub counts : s.counts ≡ counts_of m h
-  pub calls : s.fork_calls < next
+  pub calls : s.fork_calls + s.spent < next
   pub older : (p : P) → s.has p → IsOlder (s.heap p) next
+  pub rooted : (n : Name) → n.run.0 ≡ 0 → n ≢ root_name → IsFresh s n
   pub versions : HoldsVersions m s h
   pub before : ℕ
   pub forks : HoldsForks s h before

@@ -77,6 +77,15 @@ module _ {H P R : Type 0} (m : Meaning) (x : Runs P R (Activation H R P)) (law :
                 has_version = λ has. absurd (none (subst (λ k. HasVersion h k) number has));
               }
         ];
+        placed = λ i v y q z.
+            let w = holds.placed i v y q (ap (λ rows. slice_get rows (length h.start.heaps + i)) (sym f.versions) ∙ z) in
+            record {
+              index = w.index;
+              number = w.number;
+              fork = w.fork;
+              found = ap (λ rows. slice_get rows (before + w.index)) f.forks ∙ slice_get-before s.forks (mine ∷ []) (before + w.index) (slice_get_within s.forks (before + w.index) w.fork w.found) ∙ w.found;
+              place = w.place;
+            };
       }
 
   pub open-keeps : (active : List (OpenEntry H R P)) (budget next : ℕ) (h : History) (stand : StandsFor m x active budget next s h) (version : VersionNo) → MayOpen m h version [] → (row : VersionRow P) → slice_get s.versions version.0 ≡ Some row → (place : P) (a : Activation H R P) (run : RunNo) → run.0 ≡ next → Forked s row.place place t → x.place a ≡ place
@@ -92,6 +101,7 @@ module _ {H P R : Type 0} (m : Meaning) (x : Runs P R (Activation H R P)) (law :
       let same_budget = stand.same_budget in
       let calls = stand.calls in
       let more_calls = f.fork_calls in
+      let same_spent = f.grows.spent in
       let many = stand.many in
       let count : count_by is_open (h.runs ++ new ∷ []) ≡ count_by is_open h.runs + 1 = count_by-more is_open h.runs new in
       let longer : length (active ++ mine ∷ []) ≡ length active + 1 = length-append active (mine ∷ []) in
@@ -114,6 +124,7 @@ module _ {H P R : Type 0} (m : Meaning) (x : Runs P R (Activation H R P)) (law :
           | inl q ↦ subst (λ z. IsOlder (t.heap z) (next + 1)) (sym q) (subst (λ z. IsOlder z (next + 1)) (sym f.heap) (older-more (s.heap row.place) next (next + 1) (omega arith) (stand.older row.place source.has)))
           | inr q ↦ subst (λ z. IsOlder z (next + 1)) (sym (f.heaps p q)) (older-more (s.heap p) next (next + 1) (omega arith) (stand.older p q))
         ];
+        rooted = λ q zero other. (forked-alone s t row.place place row.place q.run f source.has source.has).fresh q refl (stand.rooted q zero other);
         versions = versions-same m t h (h.runs ++ new ∷ []) heaps (versions-kept m s t h f.versions f.grows.has (λ k r q. f.heaps r.place (stand.versions.versions k r q).has) stand.versions);
         before = stand.before;
         forks = forks-opened h stand.before version row place found f none stand.forks;

@@ -1,10 +1,16 @@
 -- An engine without open runs, and a heap, stand for the opening that the heap has.
-use Rattle.std.proofs.Common.{◌≡◌, ℕ, ◌+◌, ◌<◌, ◌≤◌, List, [], ◌∷◌, map, drop, length, refl, ap, sym, ◌∙◌, subst, arith, slice_get, Option, Some, None}
+use Rattle.std.specs.FinMap.{empty, get, get-empty}
+use Rattle.std.proofs.Common.{◌≡◌, ◌≢◌, true, false, cond, ℕ, ◌+◌, ◌<◌, ◌≤◌, List, [], ◌∷◌, map, drop, length, refl, ap, sym, ◌∙◌, subst, arith, slice_get, Option, Some, None}
 use Rattle.std.specs.Option.{option_map}
 use Rattle.std.proofs.lemmas.Option.{same_Some, slice_get_within, slice_get-map}
 use Rattle.std.proofs.lemmas.List.{length-map}
 use Rattle.pst_base.specs.declared.shape.TypeShape.{TypeShape}
-use Rattle.pst_base.specs.Heap.{Heap, IsWellFormed, initial_heap}
+use Rattle.pst_base.specs.declared.names.Name.{Name}
+use Rattle.pst_base.specs.Name.{name_cmp, name_eq, root_name}
+use Rattle.pst_base.specs.Shape.{root_type}
+use Rattle.pst_base.proofs.NameLemmas.{name_eq-true}
+use Rattle.pst_base.proofs.Degrees.{get-with_record}
+use Rattle.pst_base.specs.Heap.{Rec, Heap, new_record, IsWellFormed, initial_heap}
 use Rattle.pst_program.specs.Laws.{IsOlder}
 use Rattle.pst_versions.specs.declared.rows.VersionRow.{VersionRow}
 use Rattle.pst_places.specs.State.{State, IsSound, IsVersioned}
@@ -22,6 +28,16 @@ use Rattle.pst_runs.specs.Runs.{Runs}
 use Rattle.pst_active.specs.Stands.{StandsFor}
 use Rattle.pst_engine.specs.Stands.{IsOpeningHeap, opening_of, row_of, IsStartedHeap}
 use Rattle.pst_engine.proofs.Commands.{get-drop}
+
+-- the root record is the only one in the heap that a script begins with
+get-initial : (shape : List TypeShape) (q : Name) → q ≢ root_name → get (initial_heap shape) q ≡ None
+get-initial shape q other =
+    let r : Rec = new_record shape root_type in
+    let at : get (initial_heap shape) q ≡ cond (name_eq q root_name) (Some r) None = get-with_record empty root_name r q ∙ ap (cond (name_eq q root_name) (Some r)) (get-empty name_cmp q) in
+    at ∙ elim (name_eq q root_name) as (λ b. name_eq q root_name ≡ b → cond b (Some r) None ≡ None) [
+      | true ↦ λ x. absurd (other (name_eq-true q root_name x))
+      | false ↦ λ x. refl
+    ] refl
 
 -- an element of a mapped list
 mapped : {X Y : Type 0} (f : X → Y) (xs : List X) (i : ℕ) (y : Y) → slice_get (map f xs) i ≡ Some y → (x : X) × (slice_get xs i ≡ Some x) × (f x ≡ y)
@@ -77,6 +93,7 @@ module _ {P R : Type 0} (m : Meaning) (law : IsLawful m) (s : State P R) (sound 
         counts = counts-same;
         calls = is.calls;
         older = is.older;
+        rooted = is.rooted;
         versions = record {
           many = omega arith;
           versions = λ k row q.
@@ -92,7 +109,7 @@ module _ {P R : Type 0} (m : Meaning) (law : IsLawful m) (s : State P R) (sound 
           rows = λ i v row p q. absurd (cc);
         };
         before = length s.forks;
-        forks = record { many = omega arith; forks = λ i r q. absurd (cc) };
+        forks = record { many = omega arith; forks = λ i r q. absurd (cc); placed = λ i v row q r. absurd (cc) };
         many = refl;
         entries = λ i e q. absurd (cc);
         all = λ n r q t. absurd (let w = at-number next [] n r q in let f = w.found in cc (f));
@@ -102,11 +119,12 @@ module _ {P R : Type 0} (m : Meaning) (law : IsLawful m) (s : State P R) (sound 
 -- ---- a heap as it is started
 
 pub started-opens : {P R : Type 0} (m : Meaning) → IsLawful m → (s : State P R) → IsStartedHeap m s → IsOpeningHeap m s 1
-started-opens m law s is = record {
+started-opens {P = P} m law s is = record {
   shape = is.shape;
   older = λ p has. let Q : Heap → Type 0 = λ y. IsOlder y 1 in subst Q (sym is.heap ∙ ap s.heap (sym (is.only p has))) (initial-before m law).older;
+  rooted = λ q zero other. record { fresh = λ p has. ap (λ (z : P). get (s.heap z) q) (is.only p has) ∙ ap (λ y. get y q) is.heap ∙ get-initial m.shape q other };
   some = let one : length s.versions ≡ 1 = ap (λ rows. length rows) is.versions in omega arith;
-  calls = let none = is.calls in omega arith;
+  calls = let none = is.calls in let unspent = is.spent in omega arith;
   counts =
       let r : s.counts.records ≡ 1 = ap (λ c. c.records) is.counts in
       let p : s.counts.pointer_writes ≡ 0 = ap (λ c. c.pointer_writes) is.counts in

@@ -50,6 +50,7 @@ module _ {H P R : Type 0} (m : Meaning) (x : Runs P R (Activation H R P)) (s : S
         counts = stand.counts ∙ sym (counts_plus-cancel (counts_of m (restated h n new)) (counts_of m h) (run_counts m h n o.run) (counts_of-restated m h n o.run new sound step));
         calls = stand.calls;
         older = stand.older;
+        rooted = stand.rooted;
         versions = versions-same m s h (with_numbered first h.runs n new) heaps stand.versions;
         before = stand.before;
         forks = forks-restated m s h stand.before n o.run new step stand.forks;

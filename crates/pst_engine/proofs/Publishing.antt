@@ -1,6 +1,7 @@
 -- The place of a closed run becomes a version.
 use Rattle.std.proofs.Common.{◌≡◌, ◌≢◌, ◌⊎◌, inl, inr, ℕ, ◌+◌, ◌<◌, List, [], ◌∷◌, ◌++◌, length, refl, ap, sym, ◌∙◌, subst, arith, zero, suc, slice_get, Some, true, false, length-append}
 use Rattle.std.proofs.lemmas.Option.{same_Some, slice_get_within}
+use Rattle.std.specs.FinMap.{get}
 use Rattle.pst_base.specs.declared.names.VersionNo.{VersionNo}
 use Rattle.pst_program.specs.Laws.{IsOlder}
 use Rattle.pst_versions.specs.declared.rows.VersionRow.{VersionRow}
@@ -15,7 +16,7 @@ use Rattle.pst_history.proofs.Steps.{IsPublishable, published, published-sound, 
 use Rattle.pst_machine.specs.declared.activation.Activation.{Activation}
 use Rattle.pst_active.specs.declared.entry.OpenEntry.{OpenEntry}
 use Rattle.pst_runs.specs.Runs.{Runs, SurvivesOthers}
-use Rattle.pst_active.specs.Stands.{IsVersion, SameRow, HasVersion, IsForkOf, IsEntry, StandsFor}
+use Rattle.pst_active.specs.Stands.{IsVersion, SameRow, HasVersion, IsForkOf, IsPlaced, IsEntry, StandsFor}
 use Rattle.pst_active.proofs.Parts.{entry-run, entry-writable, entry-kept, published-alone}
 
 -- ---- lists of forks
@@ -67,6 +68,7 @@ module _ {H P R : Type 0} (m : Meaning) (x : Runs P R (Activation H R P)) (s t :
       let many = holds.many in
       let calls = stand.calls in
       let same_calls = d.fork_calls in
+      let same_spent = d.grows.spent in
       let base = sound.start.same in
       let len_t : length (s.versions ++ row ∷ []) ≡ length s.versions + 1 = length-append s.versions (row ∷ []) in
       let len_h : length (h.versions ++ v ∷ []) ≡ length h.versions + 1 = length-append h.versions (v ∷ []) in
@@ -82,6 +84,7 @@ module _ {H P R : Type 0} (m : Meaning) (x : Runs P R (Activation H R P)) (s t :
         counts = d.counts ∙ stand.counts ∙ sym (counts_of-published m h n r.parent sound);
         calls = omega arith;
         older = λ p has. subst (λ y. IsOlder y next) (sym (d.heaps p (d.back p has))) (stand.older p (d.back p has));
+        rooted = λ q zero other. let free = stand.rooted q zero other in record { fresh = λ p has. ap (λ y. get y q) (d.heaps p (d.back p has)) ∙ free.fresh p (d.back p has) };
         versions = record {
           many = omega arith;
           versions = λ k y q. elim (old_row k y q) as (λ _. IsVersion m t (published h n r.parent) k y) [
@@ -115,6 +118,24 @@ module _ {H P R : Type 0} (m : Meaning) (x : Runs P R (Activation H R P)) (s t :
         forks = record {
           many = ap (λ rows. length rows) forks_t ∙ published_in-length s.forks (stand.before + o.index) ∙ stand.forks.many;
           forks = λ j z q. each stand o d forks_t j z q;
+          placed = λ i w y p q. elim (slice_get-of_append h.versions v w i p) as (λ _. IsPlaced t (published h n r.parent) stand.before w y) [
+            | inl u ↦
+                let below : i < length h.versions = slice_get_within h.versions i w u in
+                elim (old_row (length h.start.heaps + i) y q) as (λ _. IsPlaced t (published h n r.parent) stand.before w y) [
+                  | inl z ↦ placed_before stand (stand.before + o.index) forks_t w y (stand.forks.placed i w y u z)
+                  | inr z ↦ absurd (omega (arith, z.0))
+                ]
+            | inr u ↦ elim (old_row (length h.start.heaps + i) y q) as (λ _. IsPlaced t (published h n r.parent) stand.before w y) [
+              | inl z ↦ let below : length h.start.heaps + i < length s.versions = slice_get_within s.versions (length h.start.heaps + i) y z in absurd (omega (arith, u.0))
+              | inr z ↦ record {
+                index = o.index;
+                number = (let e : w.run.0 ≡ n = ap (λ (g : Descent). g.run.0) u.1 in e ∙ o.number);
+                fork = record { place = at; from = o.from; published = true };
+                found = ap (λ rows. slice_get rows (stand.before + o.index)) forks_t ∙ published_in-same s.forks (stand.before + o.index) (record { place = at; from = o.from; published = false }) o.row;
+                place = ap (λ (g : VersionRow P). g.place) (sym z.1);
+              }
+            ]
+          ];
         };
         many = stand.many;
         entries = λ j e q.
@@ -130,6 +151,19 @@ module _ {H P R : Type 0} (m : Meaning) (x : Runs P R (Activation H R P)) (s t :
         apart = stand.apart;
       }
     where
+      -- a version that there was has the place of its fork, published or not
+      placed_before : (stand : StandsFor m x active budget next s h) (k : ℕ) → t.forks ≡ published_in s.forks k → (w : Descent) (y : VersionRow P) → IsPlaced s h stand.before w y → IsPlaced t (published h n r.parent) stand.before w y
+      placed_before stand k forks_t w y z = elim (same_or (stand.before + z.index) k) as (λ _. IsPlaced t (published h n r.parent) stand.before w y) [
+        | inl same ↦ record {
+          index = z.index;
+          number = z.number;
+          fork = record z.fork { published = true };
+          found = ap (λ rows. slice_get rows (stand.before + z.index)) forks_t ∙ ap (slice_get (published_in s.forks k)) same ∙ published_in-same s.forks k z.fork (ap (slice_get s.forks) (sym same) ∙ z.found);
+          place = z.place;
+        }
+        | inr ne ↦ record { index = z.index; number = z.number; fork = z.fork; found = ap (λ rows. slice_get rows (stand.before + z.index)) forks_t ∙ published_in-other s.forks k (stand.before + z.index) ne ∙ z.found; place = z.place }
+      ]
+
       -- the run is not open
       not_mine : (stand : StandsFor m x active budget next s h) (o : IsEnded m s h stand.before n r at) (e : OpenEntry H R P) (old : IsEntry m x s h stand.before e) → old.index ≡ o.index → ⊥
       not_mine stand o e old same =

@@ -1,6 +1,8 @@
 -- What an engine and a heap stand for: a history, of which neither keeps anything but what is here.
-use Rattle.std.specs.Prelude.{◌≡◌, ℕ, ◌<◌, ◌^◌, List, ℤ, [], ◌∷◌, map, drop, None, IfSome, true, length, slice_get}
+use Rattle.std.specs.Prelude.{◌≡◌, ◌≢◌, ℕ, ◌+◌, ◌<◌, ◌^◌, List, ℤ, [], ◌∷◌, map, drop, None, IfSome, true, length, slice_get}
 use Rattle.pst_base.specs.declared.names.RunNo.{RunNo}
+use Rattle.pst_base.specs.declared.names.Name.{Name}
+use Rattle.pst_base.specs.Name.{root_name}
 use Rattle.pst_base.specs.declared.names.VersionNo.{VersionNo}
 use Rattle.pst_program.specs.declared.meaning.Ended.{Ended}
 use Rattle.pst_program.specs.declared.meaning.Ended.TheVariants.{Done, Trapped, Stopped}
@@ -12,7 +14,7 @@ use Rattle.pst_program.specs.Sound.{CountsWithin}
 use Rattle.pst_program.specs.Laws.{IsOlder}
 use Rattle.pst_code.specs.declared.procedure.Parts.{Parts}
 use Rattle.pst_versions.specs.declared.rows.VersionRow.{VersionRow}
-use Rattle.pst_places.specs.State.{State, IsOpenFork, Published}
+use Rattle.pst_places.specs.State.{IsFresh, State, IsOpenFork, Published}
 use Rattle.pst_script.specs.Commands.{in_range}
 use Rattle.pst_history.specs.declared.history.Descent.{Descent}
 use Rattle.pst_history.specs.Meaning.{Meaning}
@@ -80,8 +82,9 @@ pub record Wants {H P R : Type 0} (m : Meaning) (parts : Parts) (old : Engine H 
 pub record IsOpeningHeap {P R : Type 0} (m : Meaning) (s : State P R) (next : ℕ) : Type 0 where
   pub shape : s.shape ≡ m.shape
   pub older : (p : P) → s.has p → IsOlder (s.heap p) next
+  pub rooted : (n : Name) → n.run.0 ≡ 0 → n ≢ root_name → IsFresh s n
   pub some : 0 < length s.versions
-  pub calls : s.fork_calls < next
+  pub calls : s.fork_calls + s.spent < next
   pub counts : CountsWithin s.counts (2 ^ 50)
 
 -- a version's row, without its place
@@ -101,4 +104,5 @@ pub record IsStartedHeap {P R : Type 0} (m : Meaning) (s : State P R) : Type 0 w
   pub heap : s.heap place ≡ initial_heap m.shape
   pub counts : s.counts ≡ record { records = 1; pointer_writes = 0; value_writes = 0 }
   pub calls : s.fork_calls ≡ 0
+  pub spent : s.spent ≡ 0
   pub forks : s.forks ≡ []

@@ -128,6 +128,7 @@ pub Forked-forked : (f g : ForestOf) (from : PlaceNo) (o : OrdinaryHeap) → f �
 Forked-forked f g from o e w is = subst (λ (g : ForestOf). Forked (state_of g) from (record { 0 = length f.heaps }) (state_of (forked f from o))) e (record {
   grows = record {
     shape = refl;
+    spent = refl;
     has = λ p h. omega (arith, length_push f.heaps o, h);
     live = λ p r v. (omega (arith, length_push f.heaps o, v.0), ap (λ (h : Heap). type_in h r.name) (heap_at-front f from o p v.0) ∙ v.1);
     name = λ p r v. refl;

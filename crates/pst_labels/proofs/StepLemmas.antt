@@ -1,4 +1,4 @@
-use Rattle.std.proofs.Common.{◌≡◌, ℕ, zero, suc, ◌+◌, ◌-◌, ◌*◌, ◌/◌, ◌%◌, ◌^◌, ◌<◌, ◌≤◌, ◌≢◌, ◌↔◌, List, [], ◌∷◌, ◌++◌, length, get_or, set, take, drop, refl, sym, ◌∙◌, ap, ap₂, subst, ⊎_elim, arith, length-append, length-take}
+use Rattle.std.proofs.Common.{◌≡◌, ℕ, zero, suc, ◌+◌, ◌-◌, ◌*◌, ◌/◌, ◌%◌, ◌^◌, ◌<◌, ◌≤◌, ◌≢◌, ◌↔◌, List, [], ◌∷◌, ◌++◌, length, get_or, set, slice_get, take, drop, Option, Some, None, ◌⊎◌, inl, inr, refl, sym, ◌∙◌, ap, ap₂, subst, ⊎_elim, arith, length-append, length-take}
 use Rattle.std.proofs.lemmas.Bool.{cases_lt, cases_eq, lt-ltb, le-ltb}
 use Rattle.std.proofs.lemmas.List.{get_or_append_left, get_or_push, drop_more, get_or-take}
 use Rattle.pst_order.specs.Places.{rank, IsIn, AreDistinct, IsInsertedAfter}
@@ -104,6 +104,34 @@ follows_is next labels a b ring la lb ne =
           let e : get_or ps (suc (rank ps a)) 0 ≡ get_or next (get_or ps (rank ps a) 0) 0 = walk_step next (length next) 0 (rank ps a) l in
           ap (λ (t : ℕ). get_or next t 0) (sym at_a) ∙ (sym e ∙ (ap (λ (t : ℕ). get_or ps t 0) (sym h) ∙ get-rank ps b lb)),
     )
+
+slice_at : (xs : List ℕ) (i : ℕ) → i < length xs → slice_get xs i ≡ Some (get_or xs i 0)
+slice_at [] i l = absurd (omega arith)
+slice_at (x ∷ xs) zero l = refl
+slice_at (x ∷ xs) (suc i) l = slice_at xs i (omega arith)
+
+slice_past : (xs : List ℕ) (i : ℕ) → length xs ≤ i → slice_get xs i ≡ None
+slice_past [] i l = refl
+slice_past (x ∷ xs) zero l = absurd (omega arith)
+slice_past (x ∷ xs) (suc i) l = slice_past xs i (omega arith)
+
+-- the link of a place leads to the next one of the list, and that of the last to place 0
+pub next_is : (next labels : List ℕ) (a : ℕ) → IsRing next labels → rank (walk next (length next) 0) a < length (walk next (length next) 0) →
+    ((get_or next a 0 ≡ 0) × (slice_get (walk next (length next) 0) (suc (rank (walk next (length next) 0) a)) ≡ None))
+    ⊎ ((get_or next a 0 ≢ 0) × (slice_get (walk next (length next) 0) (suc (rank (walk next (length next) 0) a)) ≡ Some (get_or next a 0)))
+next_is next labels a ring la =
+    let ps : List ℕ = walk next (length next) 0 in
+    let n : length ps ≡ length next = length-walk next (length next) 0 in
+    let at_a : get_or ps (rank ps a) 0 ≡ a = get-rank ps a la in
+    ⊎_elim
+    (λ (u : suc (rank ps a) ≡ length next). inl (subst (λ (t : ℕ). get_or next t 0 ≡ 0) at_a (last_next next labels (length next) (rank ps a) ring.round u), slice_past ps (suc (rank ps a)) (omega arith)))
+    (λ (u : suc (rank ps a) ≡ length next → ⊥).
+    let l : suc (rank ps a) < length next = omega (arith, u) in
+    let e : get_or ps (suc (rank ps a)) 0 ≡ get_or next a 0 = walk_step next (length next) 0 (rank ps a) l ∙ ap (λ (t : ℕ). get_or next t 0) at_a in
+    let r : rank ps (get_or ps (suc (rank ps a)) 0) ≡ suc (rank ps a) = rank-get ps (suc (rank ps a)) ring.numbered.distinct (omega arith) in
+    let f : rank ps 0 ≡ 0 = first_rank next (length next) (omega arith) in
+    inr (λ (z : get_or next a 0 ≡ 0). let same : rank ps (get_or ps (suc (rank ps a)) 0) ≡ rank ps 0 = ap (rank ps) (e ∙ z) in absurd (omega (arith, same, r, f)), slice_at ps (suc (rank ps a)) (omega arith) ∙ ap Some e))
+    (cases_eq (suc (rank ps a)) (length next))
 
 pub reach_from : (labels : List ℕ) (a : ℕ) (qs : List ℕ) (k : ℕ) → k ≤ reach labels a qs k
 reach_from labels a [] k = omega arith

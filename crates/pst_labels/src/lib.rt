@@ -8,7 +8,9 @@
 //!     let mut order = LabelOrder::new(alloc)?;
 #![tactic(auto)]
 
-ghost use Rattle.std.specs.Prelude.{◌≡◌, ℕ, suc, ◌+◌, ◌-◌, ◌/◌, ◌%◌, ◌*◌, ◌^◌, ◌<◌, ◌≤◌, ◌↔◌, List, [], ◌∷◌, length, get_or, take, IsTrue, IfOk, OnErr};
+ghost use Rattle.std.specs.Prelude.{◌≡◌, ℕ, suc, ◌+◌, ◌-◌, ◌/◌, ◌%◌, ◌*◌, ◌^◌, ◌<◌, ◌≤◌, ◌↔◌, List, [], ◌∷◌, length, get_or, slice_get, take, IsTrue, IfOk, OnErr};
+ghost use Rattle.std.specs.Option.{option_map};
+ghost use Rattle.pst_order.specs.declared.order.Pos.{Pos};
 ghost use Rattle.pst_order.specs.Places.{rank, IsIn, AreBelow, AreDistinct, IsInsertedAfter};
 ghost use Rattle.pst_labels.specs.Labels.{circle, ahead as way, label_of, offset as offset_of, around, reach, width, spread as spread_labels, with_room, gap, labels_after, walk, LeastLaw, AheadLaw};
 
@@ -47,6 +49,15 @@ impl LabelOrder {
         ensures low { result < circle }
     {
         self.labels[place.0 as usize]
+    }
+
+    /// The place behind another one, or none behind the last.
+    pub fn next(&self, place: Pos) -> Option<Pos>
+        requires { IsIn self.now.places place.0 }
+        ensures { option_map (λ (q : Pos). q.0) result ≡ slice_get self.now.places (suc (rank self.now.places place.0)) }
+    {
+        let behind = self.next[place.0 as usize];
+        if behind == 0 { None } else { Some(Pos(behind)) }
     }
 }
 

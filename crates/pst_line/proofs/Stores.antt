@@ -102,6 +102,7 @@ module _ (s : Stored) (w : Line) (c : Counts) (h : IsStored s) (stay : VersionsS
   keeps = record {
     grows = record {
       shape = refl;
+      spent = refl;
       has = place;
       live = λ p r l. (place p l.0, (stay.live r.0 p.stamp (at_most s p l.0) l.1).0);
       name = λ p r l. (stay.live r.0 p.stamp (at_most s p l.0) l.1).1;
@@ -293,7 +294,7 @@ fail_law s h =
     let of : (p : LinePlace) → IsPlace t p → IsPlace s p = λ p k. elim k [ inl a ↦ inl a | inr r ↦ inr (record { begun = r.begun; opened = r.opened; newest = r.newest }) ] in (
       record { valid = λ p k. h.valid p (of p k); line = h.line; homes = h.homes; made = h.made; begun = h.begun; ended = h.ended; well_formed = λ p k. h.well_formed p (of p k); bounded = h.bounded },
       record {
-        keeps = record { grows = record { shape = refl; has = to; live = λ p r l. (to p l.0, l.1); name = λ p r l. refl }; back = of; versions = refl; forks = refl; fork_calls = refl };
+        keeps = record { grows = record { shape = refl; spent = refl; has = to; live = λ p r l. (to p l.0, l.1); name = λ p r l. refl }; back = of; versions = refl; forks = refl; fork_calls = refl };
         heaps = λ p k. refl;
         counts = refl;
       },

@@ -75,6 +75,7 @@ state_of s = record {
   versions = rows_from 0 s.versions;
   forks = [];
   fork_calls = 0;
+  spent = 0;
 }
 
 -- ---- what a line store keeps

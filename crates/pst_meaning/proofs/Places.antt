@@ -9,7 +9,7 @@ use Rattle.pst_order.specs.Places.{rank}
 use Rattle.pst_meaning.specs.declared.place.Place.{Place}
 use Rattle.pst_meaning.specs.declared.place.Fork.{Fork}
 use Rattle.pst_meaning.specs.Arena.{heap_at}
-use Rattle.pst_meaning.specs.Store.{Stored, arena, begin_of, end_of, IsOpen, IsPlace, as_fork, state_of, AreNested, published_count}
+use Rattle.pst_meaning.specs.Store.{Stored, arena, begin_of, end_of, IsForked, IsOpen, IsPlace, as_fork, state_of, AreNested, published_count}
 use Rattle.pst_meaning.specs.Steps.{StoreIsSoundLaw, StoreIsVersionedLaw}
 use Rattle.pst_meaning.proofs.HeapLaws.{heap_has}
 use Rattle.pst_meaning.proofs.Concrete.{drawn}
@@ -76,8 +76,9 @@ module _ (s : Stored) (h : AreNested s) where
   pub begins : (p : Place) → IsPlace s p → begin_of s p < end_of s s.start
   begins p i = elim i [
     | inl e ↦ subst (λ (p : Place). begin_of s p < end_of s s.start) (sym e) h.some
-    | inr f ↦ subst (λ (p : Place). begin_of s p < end_of s s.start) f.place
+    | inr (inl f) ↦ subst (λ (p : Place). begin_of s p < end_of s s.start) f.place
         (let v = h.inside f.index f.fork f.at in omega (arith, v, h.last, rank_le s.places f.fork.from.end.0))
+    | inr (inr x) ↦ (let v = h.relics x.index p x.at in omega (arith, v))
   ]
 
   pub in_list : (p : Place) → IsPlace s p → begin_of s p < length s.places
@@ -87,27 +88,22 @@ module _ (s : Stored) (h : AreNested s) where
   fork_late : (f : Fork) (k : ℕ) → slice_get s.forks k ≡ Some f → 0 < begin_of s f.place
   fork_late f k at = omega (arith, h.inside k f at)
 
-  -- a place is known by where it begins
-  pub same_place : (p q : Place) → IsPlace s p → IsPlace s q → begin_of s p ≡ begin_of s q → p ≡ q
-  same_place p q i j e = elim i [
-    | inl a ↦ elim j [
-      | inl b ↦ a ∙ sym b
-      | inr g ↦ absurd (
-          let pe : begin_of s p ≡ 0 = ap (begin_of s) a ∙ h.first in
-          let qe : begin_of s g.fork.place ≡ begin_of s q = ap (begin_of s) g.place in
-          omega (arith, fork_late g.fork g.index g.at))
-    ]
-    | inr f ↦ elim j [
-      | inl b ↦ absurd (
-          let qe : begin_of s q ≡ 0 = ap (begin_of s) b ∙ h.first in
-          let pe : begin_of s f.fork.place ≡ begin_of s p = ap (begin_of s) f.place in
-          omega (arith, fork_late f.fork f.index f.at))
-      | inr g ↦
-          let k : f.index ≡ g.index = h.apart f.index g.index f.fork g.fork f.at g.at (ap (begin_of s) f.place ∙ e ∙ sym (ap (begin_of s) g.place)) in
-          let same : f.fork ≡ g.fork = (let at : slice_get s.forks g.index ≡ Some f.fork = ap (slice_get s.forks) (sym k) ∙ f.at in let bt = g.at in cc) in
-          sym f.place ∙ ap (λ (x : Fork). x.place) same ∙ g.place
-    ]
+  -- a place that begins where one does that can be written is that one
+  pub same_place : (p q : Place) → IsPlace s p → IsOpen s.forks q → begin_of s p ≡ begin_of s q → p ≡ q
+  same_place p q i o e = elim i [
+    | inl a ↦ absurd (
+        let pe : begin_of s p ≡ 0 = ap (begin_of s) a ∙ h.first in
+        let qe : begin_of s g.fork.place ≡ begin_of s q = ap (begin_of s) g.place in
+        omega (arith, fork_late g.fork g.index g.at))
+    | inr (inl f) ↦
+        let k : f.index ≡ g.index = h.apart f.index g.index f.fork g.fork f.at g.at (ap (begin_of s) f.place ∙ e ∙ sym (ap (begin_of s) g.place)) in
+        let same : f.fork ≡ g.fork = (let at : slice_get s.forks g.index ≡ Some f.fork = ap (slice_get s.forks) (sym k) ∙ f.at in let bt = g.at in cc) in
+        sym f.place ∙ ap (λ (x : Fork). x.place) same ∙ g.place
+    | inr (inr x) ↦ absurd (h.written x.index g.index p g.fork x.at g.at o.unpublished (e ∙ sym (ap (begin_of s) g.place)))
   ]
+    where
+      g : IsForked s.forks q
+      g = o.forked
 
   -- and ends directly behind it where it can be written
   pub open_ends : (p : Place) → IsOpen s.forks p → end_of s p ≡ suc (begin_of s p)
@@ -120,7 +116,7 @@ module _ (s : Stored) (h : AreNested s) where
       (i, (let at : slice_get s.forks k ≡ Some f = ap (slice_get s.forks) (sym i) ∙ a in cc))
 
 pub open_place : (s : Stored) (p : Place) → IsOpen s.forks p → IsPlace s p
-open_place s p o = inr o.forked
+open_place s p o = inr (inl o.forked)
 
 -- ---- what is always so
 
@@ -163,7 +159,7 @@ store_is_versioned s h = record {
   writable = λ p from o. open_row s p from o;
   forked = λ i row is.
       let x = slice_get-map as_fork s.forks i row is in
-      inr (record { index = i; fork = x.0; at = x.1; place = ap (λ (row : ForkRow Place). row.place) x.2 });
+      inr (inl (record { index = i; fork = x.0; at = x.1; place = ap (λ (row : ForkRow Place). row.place) x.2 }));
   apart = λ i j a b x y e.
       let f = slice_get-map as_fork s.forks i a x in
       let g = slice_get-map as_fork s.forks j b y in

@@ -7,12 +7,13 @@ use Rattle.pst_base.specs.declared.names.VersionNo.{VersionNo}
 use Rattle.pst_base.specs.declared.names.RunNo.{RunNo}
 use Rattle.std.specs.Option.{option_map}
 use Rattle.pst_versions.specs.declared.rows.VersionRow.{VersionRow}
+use Rattle.pst_versions.specs.Rows.{first_row}
 use Rattle.pst_places.specs.State.{Published, published_in}
 use Rattle.pst_meaning.specs.declared.place.Place.{Place}
 use Rattle.pst_meaning.specs.declared.place.Fork.{Fork}
-use Rattle.pst_meaning.specs.Store.{Stored, begin_of, end_of, IsForked, IsOpen, IsPlace, as_fork, state_of, AreNested, published_count, IsStore}
+use Rattle.pst_meaning.specs.Store.{Stored, begin_of, end_of, IsForked, IsOpen, IsPlace, as_fork, state_of, AreNested, published_count, IsVersionFork, IsStore}
 use Rattle.pst_meaning.specs.Steps.{published, PublishLaw}
-use Rattle.pst_meaning.proofs.Places.{slice_get-push, slice_get-below, slice_get-mapped, length-push, count-le, count-set, same_fork}
+use Rattle.pst_meaning.proofs.Places.{slice_get-push, slice_get-kept, slice_get-below, slice_get-mapped, length-push, count-le, count-set, same_fork}
 
 slice_get-set_same : {A : Type 0} (xs : List A) (i : ℕ) (v : A) → i < length xs → slice_get (set xs i v) i ≡ Some v
 slice_get-set_same [] i v l = absurd (omega arith)
@@ -35,6 +36,11 @@ origin_there : (rows : List (VersionRow Place)) (i : ℕ) (p : Place) → option
 origin_there [] i p e = absurd (cc)
 origin_there (x ∷ xs) zero p e = omega arith
 origin_there (x ∷ xs) (suc i) p e = omega (arith, origin_there xs i p e)
+
+found : (rows : List (VersionRow Place)) (i : ℕ) (p : Place) → option_map (λ (row : VersionRow Place). row.place) (slice_get rows i) ≡ Some p → (row : VersionRow Place) × (slice_get rows i ≡ Some row) × (row.place ≡ p)
+found [] i p e = absurd (cc)
+found (x ∷ xs) zero p e = (x, refl, cc)
+found (x ∷ xs) (suc i) p e = found xs i p e
 
 module _ (s : Stored) (parent : VersionNo) (run : RunNo) (at : Place) (k : ℕ) (f : Fork) (h : IsStore s) (origin : option_map (λ (row : VersionRow Place). row.place) (slice_get s.versions parent.0) ≡ Some f.from) (is : slice_get s.forks k ≡ Some f) (place : f.place ≡ at) (unpublished : f.published ≡ false) where
   abbrev u : Stored
@@ -71,7 +77,8 @@ module _ (s : Stored) (parent : VersionNo) (run : RunNo) (at : Place) (k : ℕ) 
   back : (p : Place) → IsPlace u p → IsPlace s p
   back p i = elim i [
     | inl e ↦ inl e
-    | inr g ↦ let x = same g.index g.fork g.at in inr (record { index = g.index; fork = x.old; at = x.stood; place = sym x.same_place ∙ g.place })
+    | inr (inl g) ↦ let x = same g.index g.fork g.at in inr (inl (record { index = g.index; fork = x.old; at = x.stood; place = sym x.same_place ∙ g.place }))
+    | inr (inr x) ↦ inr (inr x)
   ]
 
   abbrev shut : IsForked u.forks at
@@ -80,11 +87,12 @@ module _ (s : Stored) (parent : VersionNo) (run : RunNo) (at : Place) (k : ℕ) 
   kept : (p : Place) → IsPlace s p → IsPlace u p
   kept p i = elim i [
     | inl e ↦ inl e
-    | inr g ↦ ⊎_elim
+    | inr (inr x) ↦ inr (inr x)
+    | inr (inl g) ↦ ⊎_elim
         (λ (q : g.index ≡ k).
         let e : f ≡ g.fork = (let x : slice_get s.forks k ≡ Some g.fork = ap (slice_get s.forks) (sym q) ∙ g.at in cc) in
-        inr (subst (λ (p : Place). IsForked u.forks p) (sym place ∙ ap (λ (x : Fork). x.place) e ∙ g.place) shut))
-        (λ (q : g.index ≡ k → ⊥). inr (record { index = g.index; fork = g.fork; at = slice_get-set_other s.forks k g.index (record f { published = true }) q ∙ g.at; place = g.place }))
+        inr (inl (subst (λ (p : Place). IsForked u.forks p) (sym place ∙ ap (λ (x : Fork). x.place) e ∙ g.place) shut)))
+        (λ (q : g.index ≡ k → ⊥). inr (inl (record { index = g.index; fork = g.fork; at = slice_get-set_other s.forks k g.index (record f { published = true }) q ∙ g.at; place = g.place })))
         (cases_eq g.index k)
   ]
 
@@ -141,7 +149,49 @@ module _ (s : Stored) (parent : VersionNo) (run : RunNo) (at : Place) (k : ℕ) 
         let x = same i g a in
         let y = same j e b in
         h.nested.apart i j x.old y.old x.stood y.stood (sym (ap (begin_of s) x.same_place) ∙ q ∙ ap (begin_of s) y.same_place);
+    relics = h.nested.relics;
+    written = λ i j p g a e q. elim (was j g e) [
+      | inl v ↦ absurd (let t : true ≡ false = ap (λ (x : Fork). x.published) v.1 ∙ q in cc)
+      | inr v ↦ h.nested.written i j p g a v.1 q
+    ];
   }
+
+  -- the fork of each version that there was
+  fork_kept : (r : VersionRow Place) → IsVersionFork s.forks s.versions r → IsVersionFork u.forks u.versions r
+  fork_kept r x = record {
+    index = x.index;
+    fork = x.fork;
+    at = slice_get-set_other s.forks k x.index (record f { published = true }) (λ q.
+        let e : slice_get s.forks k ≡ Some x.fork = ap (slice_get s.forks) (sym q) ∙ x.at in
+        let y : f ≡ x.fork = cc in
+        let t : true ≡ false = sym x.published ∙ ap (λ (x : Fork). x.published) (sym y) ∙ unpublished in
+        cc) ∙ x.at;
+    place = x.place;
+    published = x.published;
+    parent = x.parent;
+    parent_at = slice_get-kept s.versions row r.parent.0 x.parent x.parent_at;
+    from = x.from;
+  }
+
+  -- and of the new one
+  origin_row : (parent : VersionRow Place) × (slice_get s.versions (row.parent.0) ≡ Some parent) × (parent.place ≡ f.from)
+  origin_row = found s.versions parent.0 f.from origin
+
+  fork_new : IsVersionFork u.forks u.versions row
+  fork_new = record {
+    index = k;
+    fork = record f { published = true };
+    at = slice_get-set_same s.forks k (record f { published = true }) (slice_get-below s.forks k f is);
+    place = place;
+    published = refl;
+    parent = origin_row.0;
+    parent_at = slice_get-kept s.versions row parent.0 origin_row.0 origin_row.1;
+    from = sym origin_row.2;
+  }
+
+  -- no version has the place yet
+  new_there : (v : ℕ) (r : VersionRow Place) → slice_get s.versions v ≡ Some r → r.place ≡ at → ⊥
+  new_there v r e q = h.versions.published v r e (record { forked = record { index = k; fork = f; at = is; place = place ∙ sym q }; unpublished = unpublished })
 
   counted : length u.versions ≡ published_count u.forks + 1
   counted = omega (arith, length-push s.versions row, h.versions.counted, count-set s.forks k f (record f { published = true }) is unpublished refl)
@@ -163,9 +213,24 @@ module _ (s : Stored) (parent : VersionNo) (run : RunNo) (at : Place) (k : ℕ) 
         ];
         few = omega (arith, counted, count-le u.forks, length-set s.forks k (record f { published = true }), h.versions.made, h.versions.calls);
       };
+      root = slice_get-kept s.versions row 0 (first_row s.start) h.versions.root;
+      forked = λ v r e. elim (slice_get-push s.versions row (suc v) r e) [
+        | inl a ↦ fork_kept r (h.versions.forked v r a)
+        | inr b ↦ subst (IsVersionFork u.forks u.versions) b.1 fork_new
+      ];
+      apart = λ v w a b x y q. elim (slice_get-push s.versions row v a x) [
+        | inl i ↦ elim (slice_get-push s.versions row w b y) [
+          | inl j ↦ h.versions.apart v w a b i j q
+          | inr j ↦ absurd (new_there v a i (q ∙ ap (λ (x : VersionRow Place). x.place) (sym j.1)))
+        ]
+        | inr i ↦ elim (slice_get-push s.versions row w b y) [
+          | inl j ↦ absurd (new_there w b j (sym q ∙ ap (λ (x : VersionRow Place). x.place) (sym i.1)))
+          | inr j ↦ i.0 ∙ sym j.0
+        ]
+      ];
       placed = λ v r e. elim (slice_get-push s.versions row v r e) [
         | inl a ↦ kept r.place (h.versions.placed v r a)
-        | inr b ↦ subst (λ (p : Place). IsPlace u p) (ap (λ (x : VersionRow Place). x.place) b.1) (inr shut)
+        | inr b ↦ subst (λ (p : Place). IsPlace u p) (ap (λ (x : VersionRow Place). x.place) b.1) (inr (inl shut))
       ];
       published = λ v r e o. elim (slice_get-push s.versions row v r e) [
         | inl a ↦ h.versions.published v r a (open_was r.place o)
@@ -178,6 +243,7 @@ module _ (s : Stored) (parent : VersionNo) (run : RunNo) (at : Place) (k : ℕ) 
     rooted = record { some = h.rooted.some; name = h.rooted.name; begins = h.rooted.begins };
     bounded = h.bounded;
     few = h.few;
+    spent = h.spent;
   }
 
   published_u : Published (state_of s) parent run at (record { 0 = length s.versions }) (state_of u)
@@ -185,7 +251,7 @@ module _ (s : Stored) (parent : VersionNo) (run : RunNo) (at : Place) (k : ℕ) 
     from = f.from;
     fork = record { index = k; row = slice_get-mapped as_fork s.forks k f is ∙ (λ i. Some (record { place = place i; from = f.from; published = unpublished i })) };
     origin = origin;
-    grows = record { shape = refl; has = kept; live = λ p r l. (kept p l.0, l.1); name = λ p r l. refl };
+    grows = record { shape = refl; spent = refl; has = kept; live = λ p r l. (kept p l.0, l.1); name = λ p r l. refl };
     back = back;
     heaps = λ p i. refl;
     counts = refl;

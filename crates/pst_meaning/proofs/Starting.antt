@@ -137,6 +137,8 @@ module _ (shape : List TypeShape) (start : Place) (root : Node) (valid : IsValid
       before = λ j k f g l e d. absurd (none_there j f e);
       closed = λ k f e. absurd (none_there k f e);
       apart = λ j k f g e. absurd (none_there j f e);
+      relics = λ k p e. absurd (none_there k p e);
+      written = λ j k p f a e. absurd (none_there k f e);
     };
     rows = (
       new.row_is r 2 (omega (arith, begin_at, end_at)) (omega (arith, end_at)),
@@ -166,6 +168,9 @@ module _ (shape : List TypeShape) (start : Place) (root : Node) (valid : IsValid
         parents = λ v row e. absurd (none_there v row (ap (slice_get s.versions) (sym add-one_is) ∙ e));
         few = omega arith;
       };
+      root = refl;
+      forked = λ v row e. absurd (none_there v row e);
+      apart = λ v w a b e d q. (let i = (one_there _ a v e).0 in let j = (one_there _ b w d).0 in i ∙ sym j);
       placed = λ v row e. let o = one_there _ row v e in inl (ap (λ (x : VersionRow Place). x.place) (sym o.1));
       published = λ v row e o. none_there o.forked.index o.forked.fork o.forked.at;
       counted = refl;
@@ -174,6 +179,7 @@ module _ (shape : List TypeShape) (start : Place) (root : Node) (valid : IsValid
     };
     bounded = (let none : length root.row.stamps ≡ 0 = ap (λ (es : List Stamp). length es) new.stamped in omega arith);
     few = omega arith;
+    spent = omega arith;
   }
     where
       add-one_is : {v : ℕ} → v + 1 ≡ suc v

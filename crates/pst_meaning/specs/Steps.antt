@@ -220,6 +220,8 @@ started shape start root = record {
   versions = first_row start ∷ [];
   forks = [];
   calls = 0;
+  relics = [];
+  spent = 0;
   counts = record { records = 1; pointer_writes = 0; value_writes = 0 };
 }
 

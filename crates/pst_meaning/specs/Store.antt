@@ -1,12 +1,12 @@
 -- What a store of fat nodes means, and what it keeps.
-use Rattle.std.specs.Prelude.{◌≡◌, ℕ, zero, suc, ◌+◌, ◌*◌, ◌<◌, ◌≤◌, ◌⊎◌, List, [], ◌∷◌, length, Some, None, slice_get, get_or, map, Contains, false, if◌then◌else◌}
+use Rattle.std.specs.Prelude.{◌≡◌, ℕ, zero, suc, ◌+◌, ◌*◌, ◌<◌, ◌≤◌, ◌⊎◌, List, [], ◌∷◌, length, Some, None, slice_get, get_or, map, Contains, true, false, if◌then◌else◌}
 use Rattle.std.specs.Option.{option_map}
 use Rattle.pst_base.specs.declared.names.NodeId.{NodeId}
 use Rattle.pst_base.specs.declared.names.Counts.{Counts}
 use Rattle.pst_base.specs.declared.shape.TypeShape.{TypeShape}
 use Rattle.pst_base.specs.Name.{root_name}
 use Rattle.pst_base.specs.Shape.{type_at, root_type, element_count, IsValid}
-use Rattle.pst_versions.specs.Rows.{IsVersionTree}
+use Rattle.pst_versions.specs.Rows.{IsVersionTree, first_row}
 use Rattle.pst_places.specs.declared.versioned.TheConstants.{MOST_FORKS}
 use Rattle.pst_places.specs.State.{State, ForkRow}
 use Rattle.pst_versions.specs.declared.rows.VersionRow.{VersionRow}
@@ -54,7 +54,8 @@ pub record Noted : Type 0 where
   pub seen : ℕ
 
 -- The record types; the order list; the nodes, and what is noted beside them; the place of version 0, the versions and
--- the forks; how often a fork was asked for; and what was made and written.
+-- the forks; how often a fork was asked for; and what was made and written. Where the store was taken up from an image, beside
+-- that: over which places the records live that it had, and how many runs took a number that have no fork in it.
 pub record Stored : Type 0 where
   pub shape : List TypeShape
   pub places : List ℕ
@@ -64,6 +65,8 @@ pub record Stored : Type 0 where
   pub versions : List (VersionRow Place)
   pub forks : List Fork
   pub calls : ℕ
+  pub relics : List Place
+  pub spent : ℕ
   pub counts : Counts
 
 -- where a place is read, and where it ends
@@ -87,9 +90,15 @@ pub record IsOpen (forks : List Fork) (p : Place) : Type 0 where
   pub forked : IsForked forks p
   pub unpublished : forked.fork.published ≡ false
 
--- a place of the store: that of version 0, or of a fork. A place of the order list that a refused fork left is none.
+-- the place over which a record lives that an image had
+pub record IsRelic (relics : List Place) (p : Place) : Type 0 where
+  pub index : ℕ
+  pub at : slice_get relics index ≡ Some p
+
+-- a place of the store: that of version 0, of a fork, or of a record that an image had. A place of the order list that a refused
+-- fork left is none.
 abbrev pub IsPlace : Stored → Place → Type 0
-IsPlace s p = (p ≡ s.start) ⊎ IsForked s.forks p
+IsPlace s p = (p ≡ s.start) ⊎ (IsForked s.forks p ⊎ IsRelic s.relics p)
 
 -- ---- what a store means
 
@@ -110,6 +119,7 @@ state_of s = record {
   versions = s.versions;
   forks = map as_fork s.forks;
   fork_calls = s.calls;
+  spent = s.spent;
 }
 
 -- ---- what a store keeps
@@ -135,16 +145,32 @@ pub record AreNested (s : Stored) : Type 0 where
   pub before : (j k : ℕ) (f g : Fork) → j < k → slice_get s.forks j ≡ Some f → slice_get s.forks k ≡ Some g → f.from ≡ g.from → end_of s g.place < begin_of s f.place
   pub closed : (k : ℕ) (f : Fork) → slice_get s.forks k ≡ Some f → f.published ≡ false → end_of s f.place ≡ suc (begin_of s f.place)
   pub apart : (j k : ℕ) (f g : Fork) → slice_get s.forks j ≡ Some f → slice_get s.forks k ≡ Some g → begin_of s f.place ≡ begin_of s g.place → j ≡ k
+  pub relics : (k : ℕ) (p : Place) → slice_get s.relics k ≡ Some p → (begin_of s p < end_of s p) × (end_of s p ≤ end_of s s.start)
+  pub written : (j k : ℕ) (p : Place) (f : Fork) → slice_get s.relics j ≡ Some p → slice_get s.forks k ≡ Some f → f.published ≡ false → begin_of s p ≡ begin_of s f.place → ⊥
 
 -- how many forks are published
 abbrev pub published_count : List Fork → ℕ
 published_count [] = 0
 published_count (f ∷ fs) = (if f.published then 1 else 0) + published_count fs
 
+-- the place of a version after 0 is that of a published fork, which was made from the place of its parent
+pub record IsVersionFork (forks : List Fork) (versions : List (VersionRow Place)) (row : VersionRow Place) : Type 0 where
+  pub index : ℕ
+  pub fork : Fork
+  pub at : slice_get forks index ≡ Some fork
+  pub place : fork.place ≡ row.place
+  pub published : fork.published ≡ true
+  pub parent : VersionRow Place
+  pub parent_at : slice_get versions row.parent.0 ≡ Some parent
+  pub from : fork.from ≡ parent.place
+
 -- Versions and forks: version 0 is at the start; the place of each version is published; and each version but the first
 -- comes from a fork of its own.
 pub record AreVersions (s : Stored) : Type 0 where
   pub tree : IsVersionTree s.versions
+  pub root : slice_get s.versions 0 ≡ Some (first_row s.start)
+  pub forked : (v : ℕ) (row : VersionRow Place) → slice_get s.versions (suc v) ≡ Some row → IsVersionFork s.forks s.versions row
+  pub apart : (v w : ℕ) (a b : VersionRow Place) → slice_get s.versions v ≡ Some a → slice_get s.versions w ≡ Some b → a.place ≡ b.place → v ≡ w
   pub placed : (v : ℕ) (row : VersionRow Place) → slice_get s.versions v ≡ Some row → IsPlace s row.place
   pub published : (v : ℕ) (row : VersionRow Place) → slice_get s.versions v ≡ Some row → IsOpen s.forks row.place → ⊥
   pub counted : length s.versions ≡ published_count s.forks + 1
@@ -199,7 +225,8 @@ pub record IsStore (s : Stored) : Type 0 where
   pub born : AreBorn s
   pub versions : AreVersions s
   pub bounded : length s.nodes + potential (loads s) ≤ bound s.counts
-  pub few : length s.places ≤ 2 * s.calls + 2
+  pub few : length s.places ≤ 2 * (s.calls + s.spent) + 2
+  pub spent : s.spent ≤ MOST_FORKS
 
 -- The root index: of the nodes that were looked at it holds those of the root record, node 0 first, in the order of where
 -- they begin.

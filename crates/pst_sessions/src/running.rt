@@ -2,10 +2,10 @@
 
 use pst_answers::Session;
 use pst_arena::FatNodes;
-use pst_base::NoMemory;
+use pst_base::{NoMemory, RunNo};
 use pst_coded::Compiled;
 use pst_codegen::compile;
-use pst_engine::{Engine, a_new_engine_stands};
+use pst_engine::{Engine, a_new_engine_stands, an_opening_stands};
 use pst_order::Order;
 use pst_program::Program;
 use pst_script::{Command, Reply};
@@ -17,6 +17,55 @@ use std::alloc::Global;
 pub struct Running<O: Order + Drop, N: FatNodes> {
     code: Compiled,
     engine: Engine<StoreOf<O, N>>,
+}
+
+impl<O: Order + Drop, N: FatNodes> Running<O, N> {
+    ghost use Rattle.std.specs.Prelude.{◌≡◌, ◌<◌, ◌≤◌, [], IfOk};
+    ghost use Rattle.pst_program.specs.View.{routines_of};
+    ghost use Rattle.pst_program.specs.Typed.{IsTyped};
+    ghost use Rattle.pst_history.specs.History.{begun};
+    ghost use Rattle.pst_history.specs.Sound.{IsBudget};
+    ghost use Rattle.pst_history.specs.Direct.{meaning_of};
+    ghost use Rattle.pst_engine.specs.Stands.{IsOpeningHeap, opening_of};
+    ghost use Rattle.pst_store.specs.Whole.{queue_in, state_in};
+    ghost use Rattle.pst_sessions.specs.Storing.{IsRunning};
+
+    /// A session over a store that has versions, with this next run number and budget. It stands for the opening that has them.
+    pub fn over(
+        alloc: Global,
+        program: Program,
+        store: &StoreOf<O, N>,
+        next_run: RunNo,
+        budget: u32,
+    ) -> Result<Running<O, N>, NoMemory>
+        requires typed { IsTyped (routines_of program) }
+        requires next { (0 < next_run.0) × (next_run.0 ≤ 1048577) }
+        requires budget { IsBudget budget }
+        requires heap { IsOpeningHeap (meaning_of program) (state_in store.now) next_run.0 }
+        requires rested { queue_in store.now ≡ [] }
+        ensures about { IfOk result (λ session. session.code ≡ program) }
+        ensures stands { IfOk result (λ session. IsRunning session.code session.engine store.now (meaning_of program) (begun (opening_of (state_in store.now) next_run.0 budget))) }
+    {
+        let code = compile(alloc, &program)?;
+        let code = Compiled::new(program, code);
+        let engine = Engine::over(alloc, next_run, budget);
+        an_opening_stands(&code, store, &engine);
+        Ok(Running { code, engine })
+    }
+
+    /// The number of the next run.
+    pub fn next_run(&self) -> RunNo
+        ensures { result ≡ self.now.engine.next_run }
+    {
+        self.engine.next_run
+    }
+
+    /// The budget for runs opened from now on.
+    pub fn budget(&self) -> u32
+        ensures { result ≡ self.now.engine.budget }
+    {
+        self.engine.budget
+    }
 }
 
 impl<O: Order + Drop, N: FatNodes> Session for Running<O, N> {

@@ -49,7 +49,7 @@ module _ (s g : Stored) (from : Place) (e : s ≡ g) (k : IsKept s) (p : IsPubli
 
   -- there is room in the order for a second place after a first one
   pub fork_few : length s.places + 1 < 1073741824
-  fork_few = omega (arith, k.store.few, below)
+  fork_few = omega (arith, k.store.few, k.store.spent, below)
 
   -- nothing came in
   pub refused_kept : (places : List ℕ) (forks : List Fork) → places ≡ s.places → forks ≡ s.forks → IsKept (called s places forks)

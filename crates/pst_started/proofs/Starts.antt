@@ -52,6 +52,8 @@ module _ (shape : List TypeShape) (one places : List ℕ) (start : Place) (nodes
     versions = first_row start ∷ [];
     forks = [];
     calls = 0;
+    relics = [];
+    spent = 0;
     counts = record { records = 1; pointer_writes = 0; value_writes = 0 };
   }
 
@@ -76,20 +78,24 @@ module _ (shape : List TypeShape) (one places : List ℕ) (start : Place) (nodes
       one_held zero i e = let z : 0 ≡ i = cc in (omega arith, subst (λ (i : ℕ). (arena (started shape start root.0)).name i ≡ root_name) z root.2.name)
       one_held (suc k) i e = absurd (none_there k i e)
 
-  pub start_kept : (shape' : List TypeShape) (versions : List (VersionRow Place)) (forks : List Fork) → shape' ≡ shape → versions ≡ first_row start ∷ [] → forks ≡ [] → IsKept (record (made places nodes noted) { shape = shape'; versions = versions; forks = forks })
-  start_kept shape' versions forks sh v f = subst (λ (sp : List TypeShape). IsKept (record (made places nodes noted) { shape = sp; versions = versions; forks = forks })) (sym sh)
-      (subst (λ (vs : List (VersionRow Place)). IsKept (record (made places nodes noted) { versions = vs; forks = forks })) (sym v)
-      (subst (λ (fs : List Fork). IsKept (record (made places nodes noted) { forks = fs })) (sym f) (subst IsKept (sym same) kept)))
+  pub start_kept : (shape' : List TypeShape) (versions : List (VersionRow Place)) (forks : List Fork) (relics : List Place) → shape' ≡ shape → versions ≡ first_row start ∷ [] → forks ≡ [] → relics ≡ [] → IsKept (record (made places nodes noted) { shape = shape'; versions = versions; forks = forks; relics = relics })
+  start_kept shape' versions forks relics sh v f x = subst (λ (sp : List TypeShape). IsKept (record (made places nodes noted) { shape = sp; versions = versions; forks = forks; relics = relics })) (sym sh)
+      (subst (λ (vs : List (VersionRow Place)). IsKept (record (made places nodes noted) { versions = vs; forks = forks; relics = relics })) (sym v)
+      (subst (λ (fs : List Fork). IsKept (record (made places nodes noted) { forks = fs; relics = relics })) (sym f)
+      (subst (λ (ps : List Place). IsKept (record (made places nodes noted) { relics = ps })) (sym x) (subst IsKept (sym same) kept))))
 
-  pub start_done : (shape' : List TypeShape) (versions : List (VersionRow Place)) (forks : List Fork) → shape' ≡ shape → versions ≡ first_row start ∷ [] → forks ≡ [] → IsStarted shape (record (made places nodes noted) { shape = shape'; versions = versions; forks = forks })
-  start_done shape' versions forks sh v f = record {
+  pub start_done : (shape' : List TypeShape) (versions : List (VersionRow Place)) (forks : List Fork) (relics : List Place) → shape' ≡ shape → versions ≡ first_row start ∷ [] → forks ≡ [] → relics ≡ [] → IsStarted shape (record (made places nodes noted) { shape = shape'; versions = versions; forks = forks; relics = relics })
+  start_done shape' versions forks relics sh v f x = record {
     shape_is = sh;
-    rested = subst (λ (sp : List TypeShape). IsRested (record (made places nodes noted) { shape = sp; versions = versions; forks = forks })) (sym sh)
-        (subst (λ (vs : List (VersionRow Place)). IsRested (record (made places nodes noted) { versions = vs; forks = forks })) (sym v)
-        (subst (λ (fs : List Fork). IsRested (record (made places nodes noted) { forks = fs })) (sym f) (subst IsRested (sym same) whole.1)));
+    rested = subst (λ (sp : List TypeShape). IsRested (record (made places nodes noted) { shape = sp; versions = versions; forks = forks; relics = relics })) (sym sh)
+        (subst (λ (vs : List (VersionRow Place)). IsRested (record (made places nodes noted) { versions = vs; forks = forks; relics = relics })) (sym v)
+        (subst (λ (fs : List Fork). IsRested (record (made places nodes noted) { forks = fs; relics = relics })) (sym f)
+        (subst (λ (ps : List Place). IsRested (record (made places nodes noted) { relics = ps })) (sym x) (subst IsRested (sym same) whole.1))));
     versions = v;
     forks = f;
     calls = refl;
+    relics = x;
+    spent = refl;
     counts = refl;
-    heap = subst (λ (sp : List TypeShape). (state_of (record (made places nodes noted) { shape = sp; versions = versions; forks = forks })).heap start ≡ initial_heap shape) (sym sh) (ap (λ (s : Stored). (state_of s).heap start) same ∙ whole.2);
+    heap = subst (λ (sp : List TypeShape). (state_of (record (made places nodes noted) { shape = sp; versions = versions; forks = forks; relics = relics })).heap start ≡ initial_heap shape) (sym sh) (ap (λ (s : Stored). (state_of s).heap start) same ∙ whole.2);
   }

@@ -46,6 +46,8 @@ pub record IsStarted (shape : List TypeShape) (s : Stored) : Type 0 where
   pub versions : s.versions ≡ first_row s.start ∷ []
   pub forks : s.forks ≡ []
   pub calls : s.calls ≡ 0
+  pub relics : s.relics ≡ []
+  pub spent : s.spent ≡ 0
   pub counts : s.counts ≡ record { records = 1; pointer_writes = 0; value_writes = 0 }
   pub heap : (state_of s).heap s.start ≡ initial_heap shape
 

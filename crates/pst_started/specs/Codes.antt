@@ -23,7 +23,7 @@ abbrev pub coded_counts : Coded Counts
 coded_counts = code_by (ℕ × (ℕ × ℕ)) (coded× coded_ℕ (coded× coded_ℕ coded_ℕ)) (λ c. (c.records, (c.pointer_writes, c.value_writes))) (λ p. record { records = p.0; pointer_writes = p.1.0; value_writes = p.1.1 }) (λ _. refl)
 
 abbrev pub coded_stored : Coded Stored
-coded_stored = code_by (List TypeShape × (List ℕ × (List Node × (Noted × (Place × (List (VersionRow Place) × (List Fork × (ℕ × Counts))))))))
-    (coded× coded_shape (coded× (coded_list coded_ℕ) (coded× (coded_list coded_node) (coded× coded_noted (coded× coded_place (coded× (coded_list coded_version) (coded× (coded_list coded_fork) (coded× coded_ℕ coded_counts))))))))
-    (λ s. (s.shape, (s.places, (s.nodes, (s.noted, (s.start, (s.versions, (s.forks, (s.calls, s.counts)))))))))
-    (λ p. record { shape = p.0; places = p.1.0; nodes = p.1.1.0; noted = p.1.1.1.0; start = p.1.1.1.1.0; versions = p.1.1.1.1.1.0; forks = p.1.1.1.1.1.1.0; calls = p.1.1.1.1.1.1.1.0; counts = p.1.1.1.1.1.1.1.1 }) (λ _. refl)
+coded_stored = code_by (List TypeShape × (List ℕ × (List Node × (Noted × (Place × (List (VersionRow Place) × (List Fork × (ℕ × (List Place × (ℕ × Counts))))))))))
+    (coded× coded_shape (coded× (coded_list coded_ℕ) (coded× (coded_list coded_node) (coded× coded_noted (coded× coded_place (coded× (coded_list coded_version) (coded× (coded_list coded_fork) (coded× coded_ℕ (coded× (coded_list coded_place) (coded× coded_ℕ coded_counts))))))))))
+    (λ s. (s.shape, (s.places, (s.nodes, (s.noted, (s.start, (s.versions, (s.forks, (s.calls, (s.relics, (s.spent, s.counts)))))))))))
+    (λ p. record { shape = p.0; places = p.1.0; nodes = p.1.1.0; noted = p.1.1.1.0; start = p.1.1.1.1.0; versions = p.1.1.1.1.1.0; forks = p.1.1.1.1.1.1.0; calls = p.1.1.1.1.1.1.1.0; relics = p.1.1.1.1.1.1.1.1.0; spent = p.1.1.1.1.1.1.1.1.1.0; counts = p.1.1.1.1.1.1.1.1.1.1 }) (λ _. refl)

@@ -16,4 +16,4 @@ mod forking;
 mod store;
 mod types;
 
-pub use store::Started;
+pub use store::{Parts, Started};

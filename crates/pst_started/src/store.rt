@@ -24,7 +24,26 @@ pub struct Started<O: Order + Drop, N: FatNodes> {
     // For each fork the root record's node at the place that was forked, as it was then: a place to look from.
     roots: Vec<NodeId>,
     calls: u32,
+    // Over which places the records live that an image had, and how many runs it tells of that have no fork: none where the store was
+    // started.
+    relics: Vec<Place>,
+    spent: u32,
     counts: Counts,
+}
+
+/// What a store is made of.
+#[derive(Drop)]
+pub struct Parts<O: Order + Drop, N: FatNodes> {
+    pub shape: Shape,
+    pub order: O,
+    pub nodes: N,
+    pub start: Place,
+    pub versions: Versions<Place>,
+    pub forks: Vec<Fork>,
+    pub calls: u32,
+    pub relics: Vec<Place>,
+    pub spent: u32,
+    pub counts: Counts,
 }
 
 impl<O: Order + Drop, N: FatNodes> Model for Started<O, N> {
@@ -36,9 +55,9 @@ impl<O: Order + Drop, N: FatNodes> Model for Started<O, N> {
 
     ghost coded = { coded_stored };
 
-    ghost view = { λ s. record { shape = s.shape; places = O.places s.order; nodes = N.nodes s.nodes; noted = N.noted s.nodes; start = s.start; versions = s.versions; forks = s.forks.items; calls = s.calls; counts = s.counts } };
+    ghost view = { λ s. record { shape = s.shape; places = O.places s.order; nodes = N.nodes s.nodes; noted = N.noted s.nodes; start = s.start; versions = s.versions; forks = s.forks.items; calls = s.calls; relics = s.relics.items; spent = s.spent; counts = s.counts } };
 
-    ghost invariant = { λ s. IsKept (record { shape = s.shape; places = O.places s.order; nodes = N.nodes s.nodes; noted = N.noted s.nodes; start = s.start; versions = s.versions; forks = s.forks.items; calls = s.calls; counts = s.counts }) };
+    ghost invariant = { λ s. IsKept (record { shape = s.shape; places = O.places s.order; nodes = N.nodes s.nodes; noted = N.noted s.nodes; start = s.start; versions = s.versions; forks = s.forks.items; calls = s.calls; relics = s.relics.items; spent = s.spent; counts = s.counts }) };
 }
 
 impl<O: Order + Drop, N: FatNodes> Started<O, N> {
@@ -81,12 +100,56 @@ impl<O: Order + Drop, N: FatNodes> Started<O, N> {
             forks: Vec::new(alloc),
             roots: Vec::new(alloc),
             calls: 0,
+            relics: Vec::new(alloc),
+            spent: 0,
             counts: Counts {
                 records: 1,
                 pointer_writes: 0,
                 value_writes: 0,
             },
         })
+    }
+
+    /// A store of parts that keep what a store keeps.
+    pub fn of_parts(alloc: Global, parts: Parts<O, N>) -> Started<O, N>
+        requires { IsKept (record { shape = parts.shape; places = O.places parts.order; nodes = N.nodes parts.nodes; noted = N.noted parts.nodes; start = parts.start; versions = parts.versions; forks = parts.forks.items; calls = parts.calls; relics = parts.relics.items; spent = parts.spent; counts = parts.counts }) }
+        ensures { result ≡ record { shape = parts.shape; places = O.places parts.order; nodes = N.nodes parts.nodes; noted = N.noted parts.nodes; start = parts.start; versions = parts.versions; forks = parts.forks.items; calls = parts.calls; relics = parts.relics.items; spent = parts.spent; counts = parts.counts } }
+    {
+        Started {
+            shape: parts.shape,
+            order: parts.order,
+            nodes: parts.nodes,
+            start: parts.start,
+            versions: parts.versions,
+            forks: parts.forks,
+            roots: Vec::new(alloc),
+            calls: parts.calls,
+            relics: parts.relics,
+            spent: parts.spent,
+            counts: parts.counts,
+        }
+    }
+
+    /// The order list.
+    pub fn order(&self) -> &O
+        ensures { O.places result.now ≡ self.now.places }
+    {
+        &self.order
+    }
+
+    /// The nodes.
+    pub fn node_list(&self) -> &N
+        ensures nodes { N.nodes result.now ≡ self.now.nodes }
+        ensures noted { N.noted result.now ≡ self.now.noted }
+    {
+        &self.nodes
+    }
+
+    /// The run that made a version, or None exactly where there is no such version.
+    pub fn run_of(&self, version: VersionNo) -> Option<RunNo>
+        ensures { result ≡ option_map (λ row. row.run) (slice_get self.now.versions version.0) }
+    {
+        self.versions.run_of(version)
     }
 
     /// What is known of every store.

@@ -21,6 +21,7 @@ state_in None = record {
   versions = [];
   forks = [];
   fork_calls = 0;
+  spent = 0;
 }
 state_in (Some s) = state_of s
 

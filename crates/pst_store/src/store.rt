@@ -1,9 +1,9 @@
 //! The store, and what is asked of it alone.
 
 use pst_arena::{Arena, FatNodes};
-use pst_base::{NoMemory, Shape, TypeNo};
+use pst_base::{NoMemory, RunNo, Shape, TypeNo, VersionNo};
 use pst_labels::LabelOrder;
-use pst_order::Order;
+use pst_order::{Order, Pos};
 use pst_started::Started;
 use std::alloc::Global;
 use std::marker::Model;
@@ -34,7 +34,10 @@ impl<O: Order + Drop, N: FatNodes> Model for StoreOf<O, N> {
 }
 
 impl<O: Order + Drop, N: FatNodes> StoreOf<O, N> {
-    ghost use Rattle.std.specs.Prelude.{◌≡◌, ◌<◌, ◌↔◌, [], None, OnOk, OnErr, IfSome, IsSomeAnd, IsTrue, length};
+    ghost use Rattle.std.specs.Prelude.{◌≡◌, ◌<◌, ◌↔◌, [], None, Some, OnOk, OnErr, IfSome, IsSome, IsSomeAnd, IsTrue, length, slice_get};
+    ghost use Rattle.std.specs.Option.{option_map};
+    ghost use Rattle.pst_versions.specs.declared.rows.VersionRow.{VersionRow};
+    ghost use Rattle.pst_meaning.specs.declared.place.Place.{Place};
     ghost use Rattle.pst_base.specs.Shape.{IsValid, type_at};
     ghost use Rattle.pst_mirror.specs.Potential.{capacity};
     ghost use Rattle.pst_places.specs.State.{Unchanged, WritesStay};
@@ -66,6 +69,50 @@ impl<O: Order + Drop, N: FatNodes> StoreOf<O, N> {
         ensures { result ≡ self }
     {
         self.started
+    }
+
+    /// A store that is started already.
+    pub fn of_started(started: Started<O, N>) -> Self
+        ensures { result ≡ Some started }
+    {
+        StoreOf {
+            started: Some(started),
+        }
+    }
+
+    /// The order list of a store that is started.
+    pub fn order(&self) -> &O
+        requires { IsSome self.now }
+        ensures { IsSomeAnd self.now (λ s. O.places result.now ≡ s.places) }
+    {
+        self.started.as_ref().unwrap().order()
+    }
+
+    /// The nodes of a store that is started.
+    pub fn node_list(&self) -> &N
+        requires { IsSome self.now }
+        ensures nodes { N.nodes result.now ≡ nodes_in self.now }
+        ensures queue { (N.noted result.now).queue ≡ queue_in self.now }
+    {
+        self.started.as_ref().unwrap().node_list()
+    }
+
+    /// Where a version begins and ends in the order list, or None exactly where there is no such version.
+    pub fn ends_of(&self, version: VersionNo) -> Option<(Pos, Pos)>
+        ensures { result ≡ option_map (λ (row : VersionRow Place). (row.place.begin, row.place.end)) (slice_get (state_in self.now).versions version.0) }
+    {
+        let place = self.started.as_ref()?.place_of(version)?;
+        Some((place.begin, place.end))
+    }
+
+    /// The run that made a version, or None exactly where there is no such version.
+    pub fn run_of(&self, version: VersionNo) -> Option<RunNo>
+        ensures { result ≡ option_map (λ (row : VersionRow Place). row.run) (slice_get (state_in self.now).versions version.0) }
+    {
+        match &self.started {
+            None => None,
+            Some(started) => started.run_of(version),
+        }
     }
 
     /// What is known of every store, also after want of memory: what a store keeps; that no more nodes and potential are there
