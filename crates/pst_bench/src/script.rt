@@ -83,7 +83,7 @@ fn script_of(alloc: Global, size: u32, number: u64) -> Result<Text, NoMemory>
 ///
 /// `NoMemory` where there is none for the text, for which room for 432,600 bytes is taken.
 pub fn bench_script(alloc: Global, number: u64) -> Result<Text, NoMemory>
-    ensures { IfOk result (λ text. text ≡ script SIZE number) }
+    ensures { IfOk result (λ text. text ≡ script 20000 number) }
 {
     script_of(alloc, SIZE, number)
 }

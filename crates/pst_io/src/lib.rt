@@ -6,8 +6,10 @@
 //! Contract: `put` writes a piece whole, or a proper prefix with a fault that the sink counted. `Lines::next` hands out exactly
 //! the next line, and answers the end, too long an input and a fault exactly where they come.
 //!
-//!     let mut lines = Lines::new(alloc)?;
-//!     let ended = lines.next(&mut source, &mut line)?;
+//!     let mut lines = Lines::new(alloc);
+//!     while lines.next(&mut source)? {
+//!         carry_out(lines.line());
+//!     }
 #![tactic(auto)]
 
 mod fault;
@@ -24,6 +26,6 @@ pub use fault::LinesFault;
 pub use lines::Lines;
 pub use memory_sink::MemSink;
 pub use memory_source::MemSource;
-pub use room::{MOST_INPUT, MOST_READ};
+pub use room::{MOST_INPUT, MOST_READ, limits_in_digits};
 pub use standard::{StdSink, StdSource};
 pub use traits::{Failed, Sink, Source, put};

@@ -1,5 +1,6 @@
 // The buffer of an input: the bytes that are held stand between two places of it.
 ghost use Rattle.std.specs.Prelude.{◌≡◌, ◌<◌, ◌≤◌, ◌-◌, drop, take, vec_len, OnErr, OnOk};
+ghost use Rattle.pst_io.specs.declared.room.TheConstants.{MOST_INPUT, MOST_READ};
 
 use std::alloc::AllocError;
 
@@ -8,6 +9,12 @@ pub const MOST_INPUT: usize = 67_108_864;
 
 /// The most bytes that one read asks a source for: 64 KiB.
 pub const MOST_READ: usize = 65_536;
+
+/// Both limits in digits.
+pub fn limits_in_digits()
+    ensures input { MOST_INPUT ≡ 67108864 }
+    ensures read { MOST_READ ≡ 65536 }
+{}
 
 // Moves the bytes between two places to the front.
 pub fn move_to_front(buffer: &mut Vec<u8>, start: usize, end: usize)

@@ -2,7 +2,6 @@
 use Rattle.std.specs.Prelude.{◌≡◌, ℕ, ◌⊎◌, List, [], ◌∷◌, ◌++◌, length, Option, Some, None, ℤ, pos, ◌+ℤ◌, fold, codes}
 use Rattle.std.specs.Fmt.{decimal, signed_decimal}
 use Rattle.pst_io.specs.Text.{lines_of}
-use Rattle.pst_bench.specs.declared.script.TheConstants.{SIZE}
 use Rattle.pst_bench.specs.Script.{script}
 use Rattle.pst_script.specs.Commands.{reading}
 use Rattle.pst_script.specs.Texts.{text_of}
@@ -57,9 +56,9 @@ abbrev pub summary : (versions : ℕ) → (stats : List ℕ) → (nodes : ℕ) �
 summary versions stats nodes sum =
     codes "versions " ++ decimal versions ++ codes "\n" ++ stats ++ codes "nodes " ++ decimal nodes ++ codes "\nsum " ++ signed_decimal sum ++ codes "\n"
 
--- the lines of the script with this number
+-- the lines of the script with this number, whose path has 20,000 versions
 abbrev pub bench_lines : ℕ → List (List ℕ)
-bench_lines number = lines_of (script SIZE number)
+bench_lines number = lines_of (script 20000 number)
 
 -- the summary of the history after lines, of the replies to them, and of the store that is left
 abbrev pub summary_of : Meaning → List (List ℕ) → Option Stored → List ℕ
