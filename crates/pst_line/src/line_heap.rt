@@ -54,6 +54,10 @@ impl HeapAt for LineStore {
         }
     }
 
+    fn nearest(&self, _at: LinePlace, r: NodeId) -> NodeId {
+        r
+    }
+
     fn same(&self, r: NodeId, q: NodeId) -> bool {
         match &self.core {
             None => true,

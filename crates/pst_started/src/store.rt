@@ -202,6 +202,17 @@ impl<O: Order + Drop, N: FatNodes> Started<O, N> {
             .root_near(&self.shape, &self.order, near, at.begin)
     }
 
+    /// The node of a record that lives at a place. A node that other runs cut meanwhile may stand far before it.
+    #[inline(always)]
+    pub fn nearest(&self, at: Place, r: NodeId) -> NodeId
+        requires live { (state_of self.now).live at r }
+        ensures name { (state_of self.now).name result ≡ (state_of self.now).name r }
+        ensures live { (state_of self.now).live at result }
+        ensures covers { IsIn (arena self.now) result.0 (begin_of self.now at) }
+    {
+        self.nodes.cover(&self.shape, &self.order, r, at.begin)
+    }
+
     /// The number in a field of a record, at a place.
     #[inline(always)]
     pub fn number(&self, at: Place, r: NodeId, field: SlotNo) -> i64

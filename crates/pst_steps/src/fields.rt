@@ -7,10 +7,11 @@ ghost use Rattle.pst_base.specs.Heap.{kind_in};
 ghost use Rattle.pst_program.specs.declared.meaning.Value.TheVariants as value;
 ghost use Rattle.pst_program.specs.Value.{number_of, content, load as load_of};
 ghost use Rattle.pst_code.specs.declared.instr.Instr.TheVariants.{Loadx};
+ghost use Rattle.pst_code.specs.declared.procedure.Parts.{Parts};
 ghost use Rattle.pst_code.specs.Machine.{held, act};
 ghost use Rattle.pst_places.specs.State.{IsFresh, IsNewType, HasRoom};
 ghost use Rattle.pst_places.specs.Store.{MayStorePointer};
-ghost use Rattle.pst_steps.specs.View.{value_of, set_to};
+ghost use Rattle.pst_steps.specs.View.{value_of, frame_of, set_to};
 ghost use Rattle.pst_steps.specs.Live.{IsLive, IsPlainRegister};
 ghost use Rattle.pst_steps.specs.Calls.{held_in};
 ghost use Rattle.pst_steps.specs.Steps.{MayWriteRoot, MayStore, MayStoreElements, ReadsAs, Stored, StoredElement, slot_in, RefusesElement};
@@ -86,6 +87,21 @@ fn field<H: HeapAt>(
             None => Register::Null,
             Some(target) => Register::Reference(target),
         },
+    }
+}
+
+/// Brings the reference in a register up to date: it is then the nearest one to its record at a place. What is no reference
+/// stays as it is.
+#[inline(always)]
+pub fn renew<H: HeapAt>(heap: &H, at: H::Place, frame: &mut CallFrame<H::Ref>, r: Reg)
+    requires live { All (IsLive (H.state heap.now) at) frame.old.registers.items }
+    ensures means { (parts : Parts) → frame_of parts (H.state heap.now).name frame.new ≡ frame_of parts (H.state heap.now).name frame.old }
+    ensures live { All (IsLive (H.state heap.now) at) frame.new.registers.items }
+    ensures same { frame.new.procedure ≡ frame.old.procedure }
+{
+    if let Register::Reference(q) = held(frame, r) {
+        let near = heap.nearest(at, q);
+        set(frame, r, Register::Reference(near));
     }
 }
 

@@ -5,7 +5,7 @@
 //!
 //! Contract: an instruction leaves the frame that one step of the definition leaves, and answers whether the run goes on, waits,
 //! ends or traps; one that reads changes no heap, and one that writes changes that of its own place alone. Calls keep the frame
-//! that waits, and returns go back to it. Where a run goes is said above: here nothing is repeated, and no code is looked up but
+//! that waits, and returns go back to it. A reference that is brought up to date (`renew`) stands for the same record. Where a run goes is said above: here nothing is repeated, and no code is looked up but
 //! the procedure that is called.
 //!
 //!     let step = apply(&mut frame, Op::Add, sum, left, right);
@@ -20,7 +20,9 @@ mod register;
 mod standing;
 
 pub use calls::{call, fill, leave, let_go};
-pub use fields::{Element, load, load_element, make, root, set_root, store, store_element};
+pub use fields::{
+    Element, load, load_element, make, renew, root, set_root, store, store_element,
+};
 pub use frame::{held, operand, set};
 pub use plain::{apply, bound, check, copy, jump, jump_at_most, jump_less, negate, take_charge};
 pub use register::{Register, same};

@@ -12,11 +12,13 @@ impl<O: Order + Drop, N: FatNodes> HeapAt for StoreOf<O, N> {
 
     type Place = Place;
 
-    ghost use Rattle.std.specs.Prelude.{◌≡◌, ◌⊎◌, [], Some, IfOk, OnOk, OnErr};
+    ghost use Rattle.std.specs.Prelude.{◌≡◌, ◌⊎◌, [], Some, IfOk, IfSome, OnOk, OnErr};
     ghost use Rattle.pst_base.specs.declared.names.Kind.TheVariants.{Int};
     ghost use Rattle.pst_base.specs.Heap.{kind_in};
     ghost use Rattle.pst_places.specs.State.{Allocated, HasRoom, IsFresh, IsNewType, Unchanged, ValueStored, WritesStay};
     ghost use Rattle.pst_places.specs.Store.{MayStorePointer, PointerOutcome};
+    ghost use Rattle.pst_meaning.specs.Arena.{IsIn};
+    ghost use Rattle.pst_meaning.specs.Store.{arena, begin_of};
     ghost use Rattle.pst_started.specs.Calls.{RestsAfter};
     ghost use Rattle.pst_store.specs.Whole.{queue_in, state_in};
 
@@ -60,6 +62,19 @@ impl<O: Order + Drop, N: FatNodes> HeapAt for StoreOf<O, N> {
         match &self.started {
             None => TypeNo(0),
             Some(started) => started.ty(r),
+        }
+    }
+
+    #[inline(always)]
+    fn nearest(&self, at: Place, r: NodeId) -> NodeId
+        requires live { (state_in self.now).live at r }
+        ensures name { (state_in self.now).name result ≡ (state_in self.now).name r }
+        ensures live { (state_in self.now).live at result }
+        ensures covers { IfSome self.now (λ s. IsIn (arena s) result.0 (begin_of s at)) }
+    {
+        match &self.started {
+            None => r,
+            Some(started) => started.nearest(at, r),
         }
     }
 
