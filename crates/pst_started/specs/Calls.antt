@@ -14,8 +14,9 @@ use Rattle.pst_places.specs.declared.heap_at.StoreFault.TheVariants.{InDegree, M
 use Rattle.pst_order.specs.Places.{IsInsertedAfter}
 use Rattle.pst_places.specs.State.{ValueStored, PointerStored, Unchanged, WritesStay}
 use Rattle.pst_meaning.specs.declared.place.Place.{Place}
-use Rattle.pst_meaning.specs.Store.{Stored, arena, AreHeld, IsRested, IsStore, state_of}
-use Rattle.pst_arena.specs.Calls.{AreWaiting}
+use Rattle.pst_meaning.specs.Store.{Stored, arena, AreAllHeld, AreHeld, IsRested, IsStore, state_of}
+use Rattle.pst_meaning.specs.Steps.{HasGrownBy}
+use Rattle.pst_arena.specs.Calls.{AreWaiting, IsRepaired}
 
 -- each count is at most 2^60, so that the sums of the bound on nodes fit 64 bits
 pub record AreCounted (counts : Counts) : Type 0 where
@@ -82,6 +83,36 @@ IsLinked old at r f q new = IsPointerStored old at r f (Some ((state_of old).nam
 -- a pointer to a record that has no room for it is refused
 abbrev pub IsRefused : Stored → Place → NodeId → ℕ → NodeId → Stored → Type 0
 IsRefused old at r f q new = HasNoRoom old at r f q × Same old new × Stays old new
+
+-- some nodes were split, one after another, and nothing else was done
+pub record IsSplitUp (old new : Stored) : Type 0 where
+  pub shape : new.shape ≡ old.shape
+  pub places : new.places ≡ old.places
+  pub repaired : IsRepaired old.shape old.places old.nodes new.nodes
+
+-- no node came, none has fewer stamped values, and at most k were added in all
+pub record IsStamped (k : ℕ) (old new : Stored) : Type 0 where
+  pub shape : new.shape ≡ old.shape
+  pub places : new.places ≡ old.places
+  pub grown : HasGrownBy old.shape old.nodes new.nodes k
+
+-- a write: nodes that waited were split, at most k values were stamped, and nodes that waited then were split
+pub record StampsAtMost (k : ℕ) (old new : Stored) : Type 0 where
+  pub ready : Stored
+  pub written : Stored
+  pub before : IsSplitUp old ready
+  pub stamped : IsStamped k ready written
+  pub after : IsSplitUp written new
+
+-- every node of the root record is held by the root index
+abbrev pub HoldsRoots : Stored → Type 0
+HoldsRoots s = AreAllHeld (arena s) s.noted
+
+-- every node of the root record is held after a pointer write, but where memory ran out
+abbrev pub HoldsAfter : Result (Unit {0}) StoreFault → Stored → Type 0
+HoldsAfter (Ok u) s = HoldsRoots s
+HoldsAfter (Err InDegree) s = HoldsRoots s
+HoldsAfter (Err Memory) s = Unit {0}
 
 -- nothing waits after a pointer write, but where memory ran out
 abbrev pub RestsAfter : Result (Unit {0}) StoreFault → List ℕ → Type 0

@@ -7,6 +7,7 @@ ghost use Rattle.pst_started.specs.Calls.{IsPlaceIn, IsOneInAtMost};
 use pst_base::{NoMemory, NodeId};
 use pst_meaning::place::{Fork, Place};
 use pst_order::{Order, Pos};
+use std::alloc::Global;
 
 /// Room for one fork more. After `NoMemory` there may be room for a part of it.
 #[inline(always)]
@@ -18,6 +19,15 @@ pub fn reserve_one(forks: &mut Vec<Fork>, roots: &mut Vec<NodeId>) -> Result<(),
     forks.reserve(1)?;
     roots.reserve(1)?;
     Ok(())
+}
+
+/// For each of so many forks the first node of the root record: where a root is looked for as long as nothing nearer is known.
+pub fn first_roots(alloc: Global, count: usize) -> Result<Vec<NodeId>, NoMemory>
+    ensures { IfOk result (λ roots. vec_len roots ≡ count) }
+{
+    let mut roots = Vec::new(alloc);
+    roots.resize(count, NodeId(0))?;
+    Ok(roots)
 }
 
 /// A place between two new entries of the order, both directly behind another one: its end comes in first. After a refusal one

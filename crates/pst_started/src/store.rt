@@ -1,6 +1,6 @@
 //! A store that is started.
 
-use crate::forking::{insert_place, reserve_one};
+use crate::forking::{first_roots, insert_place, reserve_one};
 use crate::types::{capacity_of, field_kind};
 use pst_arena::{Arena, FatNodes};
 use pst_base::{Counts, Kind, Name, NoMemory, NodeId, RunNo, Shape, SlotNo, TypeNo, VersionNo};
@@ -76,7 +76,7 @@ impl<O: Order + Drop, N: FatNodes> Started<O, N> {
     ghost use Rattle.pst_meaning.specs.Store.{arena, begin_of, loads, state_of};
     ghost use Rattle.pst_arena.specs.Calls.{AreOthers, IsOpenTo};
     ghost use Rattle.pst_places.specs.declared.versioned.TheConstants.{MOST_FORKS};
-    ghost use Rattle.pst_started.specs.Calls.{IsKept, IsStarted, kind_at, IsNumberStored, IsPointerStored, RestsAfter, Stays, Same, IsLinked, IsRefused, HasNoRoom};
+    ghost use Rattle.pst_started.specs.Calls.{IsKept, IsStarted, kind_at, IsNumberStored, IsPointerStored, HoldsAfter, HoldsRoots, RestsAfter, Stays, Same, IsLinked, IsRefused, IsSplitUp, IsStamped, StampsAtMost, HasNoRoom};
 
     /// A store with version 0, which has the root record alone.
     pub fn start(alloc: Global, shape: &Shape) -> Result<Started<O, N>, NoMemory>
@@ -110,24 +110,25 @@ impl<O: Order + Drop, N: FatNodes> Started<O, N> {
         })
     }
 
-    /// A store of parts that keep what a store keeps.
-    pub fn of_parts(alloc: Global, parts: Parts<O, N>) -> Started<O, N>
+    /// A store of parts that keep what a store keeps. `NoMemory` where there is none for a node beside each fork.
+    pub fn of_parts(alloc: Global, parts: Parts<O, N>) -> Result<Started<O, N>, NoMemory>
         requires { IsKept (record { shape = parts.shape; places = O.places parts.order; nodes = N.nodes parts.nodes; noted = N.noted parts.nodes; start = parts.start; versions = parts.versions; forks = parts.forks.items; calls = parts.calls; relics = parts.relics.items; spent = parts.spent; counts = parts.counts }) }
-        ensures { result ≡ record { shape = parts.shape; places = O.places parts.order; nodes = N.nodes parts.nodes; noted = N.noted parts.nodes; start = parts.start; versions = parts.versions; forks = parts.forks.items; calls = parts.calls; relics = parts.relics.items; spent = parts.spent; counts = parts.counts } }
+        ensures { IfOk result (λ store. store ≡ record { shape = parts.shape; places = O.places parts.order; nodes = N.nodes parts.nodes; noted = N.noted parts.nodes; start = parts.start; versions = parts.versions; forks = parts.forks.items; calls = parts.calls; relics = parts.relics.items; spent = parts.spent; counts = parts.counts }) }
     {
-        Started {
+        let roots = first_roots(alloc, parts.forks.len())?;
+        Ok(Started {
             shape: parts.shape,
             order: parts.order,
             nodes: parts.nodes,
             start: parts.start,
             versions: parts.versions,
             forks: parts.forks,
-            roots: Vec::new(alloc),
+            roots,
             calls: parts.calls,
             relics: parts.relics,
             spent: parts.spent,
             counts: parts.counts,
-        }
+        })
     }
 
     /// The order list.
@@ -284,6 +285,8 @@ impl<O: Order + Drop, N: FatNodes> Started<O, N> {
     #[inline(always)]
     pub fn repair(&mut self) -> Result<(), NoMemory>
         ensures rested { OnOk result (self.new.noted.queue ≡ []) }
+        ensures held { OnOk result (HoldsRoots self.new) }
+        ensures splits { IsSplitUp self.old self.new }
         ensures same { Same self.old self.new }
         ensures stays { Stays self.old self.new }
     {
@@ -297,6 +300,7 @@ impl<O: Order + Drop, N: FatNodes> Started<O, N> {
         requires fresh { IsFresh (state_of self.old) name }
         requires room { HasRoom (state_of self.old) }
         ensures rested { IfOk result (λ _. self.new.noted.queue ≡ []) }
+        ensures held { IfOk result (λ _. HoldsRoots self.new) }
         ensures ok { IfOk result (λ r. Allocated (state_of self.old) at ty name r (state_of self.new)) }
         ensures err { OnErr result (Same self.old self.new) }
     {
@@ -335,6 +339,7 @@ impl<O: Order + Drop, N: FatNodes> Started<O, N> {
         requires field { kind_at self.old at r field.0 ≡ Some Int }
         requires room { HasRoom (state_of self.old) }
         ensures ok { OnOk result (IsNumberStored self.old at r field.0 n self.new × Stays self.old self.new) }
+        ensures stamped { IsStamped 2 self.old self.new }
         ensures err { OnErr result (Same self.old self.new) }
     {
         let id = self.nodes.cover(&self.shape, &self.order, r, at.begin);
@@ -357,6 +362,8 @@ impl<O: Order + Drop, N: FatNodes> Started<O, N> {
         requires field { kind_at self.old at r field.0 ≡ Some Int }
         requires room { HasRoom (state_of self.old) }
         ensures rested { OnOk result (self.new.noted.queue ≡ []) }
+        ensures held { OnOk result (HoldsRoots self.new) }
+        ensures stamps { StampsAtMost 2 self.old self.new }
         ensures ok { OnOk result (IsNumberStored self.old at r field.0 n self.new × Stays self.old self.new) }
         ensures err { OnErr result (Same self.old self.new ⊎ IsNumberStored self.old at r field.0 n self.new) }
     {
@@ -372,6 +379,8 @@ impl<O: Order + Drop, N: FatNodes> Started<O, N> {
         requires field { IsPointer (kind_at self.old at r field.0) }
         requires room { HasRoom (state_of self.old) }
         ensures rested { OnOk result (self.new.noted.queue ≡ []) }
+        ensures held { OnOk result (HoldsRoots self.new) }
+        ensures stamps { StampsAtMost 6 self.old self.new }
         ensures ok { OnOk result (IsPointerStored self.old at r field.0 None self.new × Stays self.old self.new) }
         ensures err { OnErr result (Same self.old self.new ⊎ IsPointerStored self.old at r field.0 None self.new) }
     {
@@ -388,6 +397,7 @@ impl<O: Order + Drop, N: FatNodes> Started<O, N> {
         requires field { IsPointer (kind_at self.old at r field.0) }
         requires room { HasRoom (state_of self.old) }
         ensures ok { OnOk result (IsPointerStored self.old at r field.0 None self.new × Stays self.old self.new) }
+        ensures stamped { IsStamped 6 self.old self.new }
         ensures err { OnErr result (Same self.old self.new) }
     {
         let id = self.nodes.cover(&self.shape, &self.order, r, at.begin);
@@ -402,6 +412,8 @@ impl<O: Order + Drop, N: FatNodes> Started<O, N> {
     pub fn link(&mut self, at: Place, r: NodeId, field: SlotNo, q: NodeId) -> Result<bool, NoMemory>
         requires { MayStorePointer (state_of self.old) at r field.0 (Some q) }
         ensures rested { IfOk result (λ _. self.new.noted.queue ≡ []) }
+        ensures held { IfOk result (λ _. HoldsRoots self.new) }
+        ensures stamps { StampsAtMost 6 self.old self.new }
         ensures written { IfOk result (λ done. IsTrue done → IsLinked self.old at r field.0 q self.new) }
         ensures full { IfOk result (λ done. done ≡ false → IsRefused self.old at r field.0 q self.new) }
         ensures err { OnErr result (Same self.old self.new ⊎ IsPointerStored self.old at r field.0 (Some ((state_of self.old).name q)) self.new) }
@@ -428,6 +440,7 @@ impl<O: Order + Drop, N: FatNodes> Started<O, N> {
         requires { MayStorePointer (state_of self.old) at r field.0 (Some q) }
         ensures written { IfOk result (λ done. IsTrue done → IsLinked self.old at r field.0 q self.new) }
         ensures full { IfOk result (λ done. done ≡ false → HasNoRoom self.old at r field.0 q × (self.new ≡ self.old)) }
+        ensures stamped { IsStamped 6 self.old self.new }
         ensures err { OnErr result (Same self.old self.new) }
     {
         let x = self.nodes.cover(&self.shape, &self.order, r, at.begin);
@@ -466,6 +479,8 @@ impl<O: Order + Drop, N: FatNodes> Started<O, N> {
     ) -> Result<(), StoreFault>
         requires { MayStorePointer (state_of self.old) at r field.0 to }
         ensures rested { RestsAfter result self.new.noted.queue }
+        ensures held { HoldsAfter result self.new }
+        ensures stamps { StampsAtMost 6 self.old self.new }
         ensures outcome { PointerOutcome (state_of self.old) at r field.0 to result (state_of self.new) }
     {
         match to {
