@@ -1,5 +1,6 @@
-use Rattle.std.proofs.Common.{◌≡◌, ℕ, zero, suc, ◌+◌, ◌-◌, ◌*◌, ◌/◌, ◌%◌, ◌^◌, ◌<◌, ◌≤◌, ◌≢◌, ◌↔◌, List, [], ◌∷◌, ◌++◌, length, get_or, set, slice_get, take, drop, Option, Some, None, ◌⊎◌, inl, inr, refl, sym, ◌∙◌, ap, ap₂, subst, ⊎_elim, arith, length-append, length-take}
+use Rattle.std.proofs.Common.{◌≡◌, ℕ, zero, suc, ◌+◌, ◌-◌, ◌*◌, ◌/◌, ◌%◌, ◌^◌, ◌<◌, ◌≤◌, ◌≢◌, ◌↔◌, List, [], ◌∷◌, ◌++◌, length, get_or, set, slice_get, take, drop, Some, None, ◌⊎◌, inl, inr, refl, sym, ◌∙◌, ap, ap₂, subst, ⊎_elim, arith, length-append, length-take}
 use Rattle.std.proofs.lemmas.Bool.{cases_lt, cases_eq, lt-ltb, le-ltb}
+use Rattle.std.proofs.lemmas.Option.{slice_get-get_or, slice_get_past}
 use Rattle.std.proofs.lemmas.List.{get_or_append_left, get_or_push, drop_more, get_or-take}
 use Rattle.pst_order.specs.Places.{rank, IsIn, AreDistinct, IsInsertedAfter}
 use Rattle.pst_labels.specs.Labels.{Labelled, circle, ahead, label_of, around, offset, reach, spread, with_room, gap, labels_after, walk, IsRound, AreLinked, IsRing}
@@ -9,13 +10,13 @@ use Rattle.pst_labels.proofs.RingLemmas.{circle_some, IsReached}
 use Rattle.pst_labels.proofs.InsertLemmas.{IsCircleFrom, circle_from, reached, IsDone, done}
 
 -- what a caller sees of the fields
-abbrev pub seen_of : List ℕ → List ℕ → Labelled
-seen_of next labels = record { places = walk next (length next) 0; labels = labels }
+abbrev pub seen_of : List ℕ → List ℕ → ℕ → Labelled
+seen_of next labels spare = record { places = walk next (length next) 0; labels = labels; spare = spare }
 
-pub seen : (next labels : List ℕ) (now : Labelled) (p : ℕ) → seen_of next labels ≡ now → IsIn now.places p → rank (walk next (length next) 0) p < length (walk next (length next) 0)
+pub seen : {spare : ℕ} (next labels : List ℕ) (now : Labelled) (p : ℕ) → seen_of next labels spare ≡ now → IsIn now.places p → rank (walk next (length next) 0) p < length (walk next (length next) 0)
 seen next labels now p e h = subst (λ (s : Labelled). rank s.places p < length s.places) (sym e) h.there
 
-pub in_range : (next labels : List ℕ) (now : Labelled) (p : ℕ) → seen_of next labels ≡ now → IsRing next labels → IsIn now.places p → p < length next
+pub in_range : {spare : ℕ} (next labels : List ℕ) (now : Labelled) (p : ℕ) → seen_of next labels spare ≡ now → IsRing next labels → IsIn now.places p → p < length next
 in_range next labels now p e ring h = (circle_from next labels p ring (seen next labels now p e h)).below.0
 
 pub ring_one : (next labels : List ℕ) → next ≡ 0 ∷ [] → labels ≡ 0 ∷ [] → IsRing next labels
@@ -43,7 +44,7 @@ pub record IsFirst (places : List ℕ) : Type 0 where
   pub first : rank places 0 ≡ 0
   pub distinct : AreDistinct places
 
-pub first_is : (next labels : List ℕ) (now : Labelled) → seen_of next labels ≡ now → IsRing next labels → IsFirst now.places
+pub first_is : {spare : ℕ} (next labels : List ℕ) (now : Labelled) → seen_of next labels spare ≡ now → IsRing next labels → IsFirst now.places
 first_is next labels now e ring =
     let n : length (walk next (length next) 0) ≡ length next = length-walk next (length next) 0 in
     let f : rank (walk next (length next) 0) 0 ≡ 0 = first_rank next (length next) (omega (arith, ring.numbered.some)) in
@@ -105,16 +106,6 @@ follows_is next labels a b ring la lb ne =
           ap (λ (t : ℕ). get_or next t 0) (sym at_a) ∙ (sym e ∙ (ap (λ (t : ℕ). get_or ps t 0) (sym h) ∙ get-rank ps b lb)),
     )
 
-slice_at : (xs : List ℕ) (i : ℕ) → i < length xs → slice_get xs i ≡ Some (get_or xs i 0)
-slice_at [] i l = absurd (omega arith)
-slice_at (x ∷ xs) zero l = refl
-slice_at (x ∷ xs) (suc i) l = slice_at xs i (omega arith)
-
-slice_past : (xs : List ℕ) (i : ℕ) → length xs ≤ i → slice_get xs i ≡ None
-slice_past [] i l = refl
-slice_past (x ∷ xs) zero l = absurd (omega arith)
-slice_past (x ∷ xs) (suc i) l = slice_past xs i (omega arith)
-
 -- the link of a place leads to the next one of the list, and that of the last to place 0
 pub next_is : (next labels : List ℕ) (a : ℕ) → IsRing next labels → rank (walk next (length next) 0) a < length (walk next (length next) 0) →
     ((get_or next a 0 ≡ 0) × (slice_get (walk next (length next) 0) (suc (rank (walk next (length next) 0) a)) ≡ None))
@@ -124,13 +115,13 @@ next_is next labels a ring la =
     let n : length ps ≡ length next = length-walk next (length next) 0 in
     let at_a : get_or ps (rank ps a) 0 ≡ a = get-rank ps a la in
     ⊎_elim
-    (λ (u : suc (rank ps a) ≡ length next). inl (subst (λ (t : ℕ). get_or next t 0 ≡ 0) at_a (last_next next labels (length next) (rank ps a) ring.round u), slice_past ps (suc (rank ps a)) (omega arith)))
+    (λ (u : suc (rank ps a) ≡ length next). inl (subst (λ (t : ℕ). get_or next t 0 ≡ 0) at_a (last_next next labels (length next) (rank ps a) ring.round u), slice_get_past ps (suc (rank ps a)) (omega arith)))
     (λ (u : suc (rank ps a) ≡ length next → ⊥).
     let l : suc (rank ps a) < length next = omega (arith, u) in
     let e : get_or ps (suc (rank ps a)) 0 ≡ get_or next a 0 = walk_step next (length next) 0 (rank ps a) l ∙ ap (λ (t : ℕ). get_or next t 0) at_a in
     let r : rank ps (get_or ps (suc (rank ps a)) 0) ≡ suc (rank ps a) = rank-get ps (suc (rank ps a)) ring.numbered.distinct (omega arith) in
     let f : rank ps 0 ≡ 0 = first_rank next (length next) (omega arith) in
-    inr (λ (z : get_or next a 0 ≡ 0). let same : rank ps (get_or ps (suc (rank ps a)) 0) ≡ rank ps 0 = ap (rank ps) (e ∙ z) in absurd (omega (arith, same, r, f)), slice_at ps (suc (rank ps a)) (omega arith) ∙ ap Some e))
+    inr (λ (z : get_or next a 0 ≡ 0). let same : rank ps (get_or ps (suc (rank ps a)) 0) ≡ rank ps 0 = ap (rank ps) (e ∙ z) in absurd (omega (arith, same, r, f)), slice_get-get_or ps (suc (rank ps a)) 0 (omega arith) ∙ ap Some e))
     (cases_eq (suc (rank ps a)) (length next))
 
 pub reach_from : (labels : List ℕ) (a : ℕ) (qs : List ℕ) (k : ℕ) → k ≤ reach labels a qs k
@@ -190,7 +181,7 @@ share_step labels qs a w j k at v l m n e f =
     let s : suc k ≡ k + 1 = omega arith in
     ap₂ (λ (x y : ℕ). spread (set labels at x) (drop ((k + 1) - 1) t) a w j y) f (sym s) ∙ ap (λ (u : List ℕ). spread labels u a w j k) (sym d')
 
-pub few_is : (next labels : List ℕ) (now : Labelled) → seen_of next labels ≡ now → length now.places < 2 ^ 30 → length next < 2 ^ 30
+pub few_is : {spare : ℕ} (next labels : List ℕ) (now : Labelled) → seen_of next labels spare ≡ now → length now.places < 2 ^ 30 → length next < 2 ^ 30
 few_is next labels now e l =
     let h : length (walk next (length next) 0) < 2 ^ 30 = subst (λ (s : Labelled). length s.places < 2 ^ 30) (sym e) l in
     omega (arith, length-walk next (length next) 0)
@@ -218,10 +209,8 @@ pub record IsAllDone (now : Labelled) (p : ℕ) (next' labels' : List ℕ) (fres
   pub ring : IsRing next' labels'
   pub places : IsInsertedAfter now.places (walk next' (length next') 0) p fresh
   pub labels : labels' ≡ labels_after now.labels (around now.places p) p
-  pub found : reach now.labels (label_of now.labels p) (around now.places p) 1 ≤ length now.places
-  pub gap : 2 ≤ gap now.labels (around now.places p) p
 
-pub all_done : (next labels : List ℕ) (now : Labelled) (p behind fresh label : ℕ) (room next' labels' : List ℕ) → seen_of next labels ≡ now → IsRing next labels → IsIn now.places p → length now.places < 2 ^ 30 → IsMade next labels p behind fresh label room → next' ≡ next ++ behind ∷ [] → labels' ≡ room ++ label ∷ [] → IsAllDone now p (set next' p fresh) labels' fresh
+pub all_done : {spare : ℕ} (next labels : List ℕ) (now : Labelled) (p behind fresh label : ℕ) (room next' labels' : List ℕ) → seen_of next labels spare ≡ now → IsRing next labels → IsIn now.places p → length now.places < 2 ^ 30 → IsMade next labels p behind fresh label room → next' ≡ next ++ behind ∷ [] → labels' ≡ room ++ label ∷ [] → IsAllDone now p (set next' p fresh) labels' fresh
 all_done next labels now p behind fresh label room next' labels' e ring h few m en el =
     let l : rank (walk next (length next) 0) p < length (walk next (length next) 0) = seen next labels now p e h in
     let w : walk next (length next) (get_or next p 0) ≡ around (walk next (length next) 0) p = same_around next labels p ring l in
@@ -231,13 +220,23 @@ all_done next labels now p behind fresh label room next' labels' e ring h few m 
     let el'' : labels' ≡ labels_after labels (around (walk next (length next) 0) p) p = el' ∙ ap (λ (qs : List ℕ). labels_after labels qs p) w in
     let r : IsRing (set next' p fresh) labels' = subst (λ (t : List ℕ). IsRing (set next' p fresh) t) (sym el'') (subst (λ (t : List ℕ). IsRing t (labels_after labels (around (walk next (length next) 0) p) p)) (sym en') d.ring) in
     let q : IsInsertedAfter (walk next (length next) 0) (walk (set next' p fresh) (length (set next' p fresh)) 0) p (length next) = subst (λ (t : List ℕ). IsInsertedAfter (walk next (length next) 0) (walk t (length t) 0) p (length next)) (sym en') d.places in
-    let found' : reach labels (label_of labels p) (walk next (length next) (get_or next p 0)) 1 ≤ length next = found_is next labels p ring l (few_is next labels now e few) in
-    let found : reach labels (label_of labels p) (around (walk next (length next) 0) p) 1 ≤ length (walk next (length next) 0) = omega (arith, length-walk next (length next) 0, subst (λ (qs : List ℕ). reach labels (label_of labels p) qs 1 ≤ length next) w found') in
     let q' : IsInsertedAfter (walk next (length next) 0) (walk (set next' p fresh) (length (set next' p fresh)) 0) p fresh = subst (λ (z : ℕ). IsInsertedAfter (walk next (length next) 0) (walk (set next' p fresh) (length (set next' p fresh)) 0) p z) (sym m.fresh_is) q in
     record {
       ring = r;
       places = subst (λ (s : Labelled). IsInsertedAfter s.places (walk (set next' p fresh) (length (set next' p fresh)) 0) p fresh) e q';
       labels = el'' ∙ ap (λ (s : Labelled). labels_after s.labels (around s.places p) p) e;
-      found = subst (λ (s : Labelled). reach s.labels (label_of s.labels p) (around s.places p) 1 ≤ length s.places) e found;
-      gap = subst (λ (s : Labelled). 2 ≤ gap s.labels (around s.places p) p) e d.gap;
     }
+
+-- there is a label for a place behind each one
+pub record IsFound (now : Labelled) (p : ℕ) : Type 0 where
+  pub found : reach now.labels (label_of now.labels p) (around now.places p) 1 ≤ length now.places
+  pub gap : 2 ≤ gap now.labels (around now.places p) p
+
+pub found_there : {spare : ℕ} (next labels : List ℕ) (now : Labelled) (p : ℕ) → seen_of next labels spare ≡ now → IsRing next labels → IsIn now.places p → length now.places < 2 ^ 30 → IsFound now p
+found_there next labels now p e ring h few =
+    let l : rank (walk next (length next) 0) p < length (walk next (length next) 0) = seen next labels now p e h in
+    let w : walk next (length next) (get_or next p 0) ≡ around (walk next (length next) 0) p = same_around next labels p ring l in
+    let d : IsDone next labels p (set (next ++ get_or next p 0 ∷ []) p (length next)) (labels_after labels (around (walk next (length next) 0) p) p) = done next labels p ring l (few_is next labels now e few) in
+    let r : reach labels (label_of labels p) (walk next (length next) (get_or next p 0)) 1 ≤ length next = found_is next labels p ring l (few_is next labels now e few) in
+    let s : reach labels (label_of labels p) (around (walk next (length next) 0) p) 1 ≤ length (walk next (length next) 0) = omega (arith, length-walk next (length next) 0, subst (λ (qs : List ℕ). reach labels (label_of labels p) qs 1 ≤ length next) w r) in
+    subst (λ (t : Labelled). IsFound t p) e (record { found = s; gap = d.gap })

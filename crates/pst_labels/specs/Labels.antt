@@ -1,15 +1,20 @@
 -- The label rule: the labels of an order go once round a circle, and an insertion makes room behind its place.
-use Rattle.std.specs.Prelude.{◌≡◌, ℕ, zero, suc, ◌+◌, ◌-◌, ◌*◌, ◌/◌, ◌%◌, ◌<◌, ◌≤◌, nat_lt, List, [], ◌∷◌, ◌++◌, length, get_or, set, take, drop, if◌then◌else◌, ⊤}
+use Rattle.std.specs.Prelude.{◌≡◌, ℕ, zero, suc, ◌+◌, ◌-◌, ◌*◌, ◌/◌, ◌%◌, ◌<◌, ◌≤◌, nat_lt, min, List, [], ◌∷◌, ◌++◌, length, get_or, set, take, drop, if◌then◌else◌, ⊤}
 use Rattle.pst_order.specs.Places.{rank, AreBelow, AreNumbered}
 
 -- how many labels there are: 2 ^ 62
 unfoldable pub circle : ℕ
 circle = 4611686018427387904
 
--- an order with the label of each place, by the place's number
+-- an order with the label of each place, by the place's number, and how many places more need no memory
 pub record Labelled : Type 0 where
   pub places : List ℕ
   pub labels : List ℕ
+  pub spare : ℕ
+
+-- what two lists have room for, of which each place takes one number
+abbrev pub room_for : (capacity count capacity' count' : ℕ) → ℕ
+room_for capacity count capacity' count' = min (capacity - count) (capacity' - count')
 
 -- the label of a place
 abbrev pub label_of : List ℕ → ℕ → ℕ

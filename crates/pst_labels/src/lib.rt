@@ -1,21 +1,21 @@
 //! The order by labels: a circular list in which each place has a label.
 //!
-//! Model: the list of places and the label of each (below 2^62).
+//! Model: the list of places, the label of each (below 2^62), and the spare room.
 //!
 //! Contract: that of an order, and after every insertion the labels are exactly those of the rule; no insertion is refused for
-//! want of labels. (After Dietz and Sleator; the rule is this project's own.)
+//! want of labels, and none where there is spare room. (After Dietz and Sleator; the rule is this project's own.)
 //!
 //!     let mut order = LabelOrder::new(alloc)?;
 #![tactic(auto)]
 
-ghost use Rattle.std.specs.Prelude.{◌≡◌, ℕ, suc, ◌+◌, ◌-◌, ◌/◌, ◌%◌, ◌*◌, ◌^◌, ◌<◌, ◌≤◌, ◌↔◌, List, [], ◌∷◌, length, get_or, slice_get, take, IsTrue, IfOk, OnErr};
+ghost use Rattle.std.specs.Prelude.{◌≡◌, ℕ, suc, ◌+◌, ◌-◌, ◌/◌, ◌%◌, ◌*◌, ◌^◌, ◌<◌, ◌≤◌, ◌↔◌, List, [], ◌∷◌, length, get_or, slice_get, take, IsTrue, IfOk, IsOk, OnOk, OnErr};
 ghost use Rattle.std.specs.Option.{option_map};
 ghost use Rattle.pst_order.specs.declared.order.Pos.{Pos};
 ghost use Rattle.pst_order.specs.Places.{rank, IsIn, AreBelow, AreDistinct, IsInsertedAfter};
 ghost use Rattle.pst_labels.specs.Labels.{circle, ahead as way, label_of, offset as offset_of, around, reach, width, spread as spread_labels, with_room, gap, labels_after, walk, LeastLaw, AheadLaw};
 
 use pst_base::NoMemory;
-use pst_order::{Order, Pos};
+use pst_order::{Order, Pos, Walked};
 use std::alloc::Global;
 use std::marker::Model;
 
@@ -31,12 +31,16 @@ pub struct LabelOrder {
 }
 
 impl Model for LabelOrder {
-    ghost use Rattle.std.specs.Prelude.{length};
-    ghost use Rattle.pst_labels.specs.Labels.{Labelled, walk, IsRing};
+    ghost use Rattle.std.specs.Prelude.{length, vec_len, vec_capacity};
+    ghost use Rattle.pst_labels.specs.Labels.{Labelled, room_for, walk, IsRing};
 
     ghost Value = { Labelled };
 
-    ghost view = { λ a. record { places = walk a.next.items (length a.next.items) 0; labels = a.labels.items } };
+    ghost view = { λ a. record {
+      places = walk a.next.items (length a.next.items) 0;
+      labels = a.labels.items;
+      spare = room_for (vec_capacity a.next) (vec_len a.next) (vec_capacity a.labels) (vec_len a.labels);
+    } };
 
     ghost invariant = { λ a. IsRing a.next.items a.labels.items };
 }
@@ -59,6 +63,26 @@ impl LabelOrder {
         let behind = self.next[place.0 as usize];
         if behind == 0 { None } else { Some(Pos(behind)) }
     }
+
+    /// How many places more need no memory.
+    pub fn spare(&self) -> usize
+        ensures { result ≡ self.now.spare }
+    {
+        let links = self.next.capacity() - self.next.len();
+        links.min(self.labels.capacity() - self.labels.len())
+    }
+
+    /// Makes room for so many places more. The list stays, also where there is no memory for them.
+    pub fn reserve(&mut self, count: usize) -> Result<(), NoMemory>
+        ensures places { self.new.places ≡ self.old.places }
+        ensures labels { self.new.labels ≡ self.old.labels }
+        ensures ok { OnOk result (count ≤ self.new.spare) }
+        ensures as_well { self.old.spare ≤ self.new.spare }
+        ensures succeeds { count ≤ self.old.spare → IsOk result }
+    {
+        self.next.reserve(count)?;
+        self.labels.reserve(count)
+    }
 }
 
 impl Order for LabelOrder {
@@ -80,13 +104,17 @@ impl Order for LabelOrder {
         Pos(0)
     }
 
+    // A label is there behind every place, so no insertion is refused for want of one: `found` and `gap` hold whatever the
+    // answer, and where there is spare room the answer is a place.
     fn insert_after(&mut self, place: Pos) -> Result<Pos, NoMemory>
         requires in_list { IsIn self.old.places place.0 }
         requires few { length self.old.places < 2 ^ 30 }
         ensures ok { IfOk result (λ z. IsInsertedAfter self.old.places self.new.places place.0 z.0) }
         ensures labels { IfOk result (λ z. self.new.labels ≡ labels_after self.old.labels (around self.old.places place.0) place.0) }
-        ensures found { IfOk result (λ z. reach self.old.labels (label_of self.old.labels place.0) (around self.old.places place.0) 1 ≤ length self.old.places) }
-        ensures gap { IfOk result (λ z. 2 ≤ gap self.old.labels (around self.old.places place.0) place.0) }
+        ensures found { reach self.old.labels (label_of self.old.labels place.0) (around self.old.places place.0) 1 ≤ length self.old.places }
+        ensures gap { 2 ≤ gap self.old.labels (around self.old.places place.0) place.0 }
+        ensures spare { OnOk result (self.old.spare ≤ self.new.spare + 1) }
+        ensures succeeds { 1 ≤ self.old.spare → IsOk result }
         ensures err { OnErr result (self.new ≡ self.old) }
     {
         self.next.reserve(1)?;
@@ -106,6 +134,16 @@ impl Order for LabelOrder {
 
     fn follows(&self, a: Pos, b: Pos) -> bool {
         b.0 != 0 && self.next[a.0 as usize] == b.0
+    }
+}
+
+impl Walked for LabelOrder {
+    fn next(&self, place: Pos) -> Option<Pos> {
+        LabelOrder::next(self, place)
+    }
+
+    fn numbered(&self) {
+        let _places = self.next.len();
     }
 }
 

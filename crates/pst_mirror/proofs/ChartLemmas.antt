@@ -4,7 +4,7 @@ use Rattle.std.proofs.Math.Bool.{and-false}
 use Rattle.pst_rows.specs.declared.content.Content.{Content}
 use Rattle.pst_rows.specs.declared.content.Content.TheVariants.{Null}
 use Rattle.pst_rows.specs.Values.{RowValue, stamps_in, base_in, content_in, edge_in, IsValue, IsValueSet}
-use Rattle.pst_rows.specs.Timeline.{in_force, is_edge, start_of, AreInside, IsSetOver}
+use Rattle.pst_rows.specs.Timeline.{in_force, is_edge, start_of, AreInside}
 use Rattle.pst_mirror.specs.Segments.{IsSegmentOf}
 use Rattle.pst_mirror.specs.Charts.{is_alive, row_holds, rows_hold, rows_edge, chart_of, IsSlotSet, RowSetLaw, ChartsAreSteady, ChartsAreTiled}
 use Rattle.pst_rows.proofs.TimelineLemmas.{set_over_reads, set_over_edges, steady, same_below, option_cases, edge_here, some_is, start_high}

@@ -10,6 +10,7 @@ pub mod SplitLemmas
 pub mod ValueLemmas
 pub mod LivesLemmas
 pub mod DegreeLemmas
+pub mod CapacityLemmas
 pub mod PotentialLemmas
 pub mod HeapLemmas
 pub mod ForkLemmas

@@ -1,7 +1,9 @@
 -- Capacity and potential: each node of more than half its capacity counts for what it has above it, so that a split, which
 -- makes two of one, lowers the sum (the potential of Driscoll, Sarnak, Sleator and Tarjan).
 use Rattle.std.specs.Prelude.{◌≡◌, ℕ, ◌+◌, ◌*◌, ◌-◌, ◌<◌, ◌≤◌, List, [], ◌∷◌, ◌++◌, length, set, get_or, sum_by, ⊤}
+use Rattle.pst_base.specs.declared.names.TypeNo.{TypeNo}
 use Rattle.pst_base.specs.declared.shape.TypeShape.{TypeShape}
+use Rattle.pst_base.specs.Shape.{type_at, IsValid}
 
 -- half the capacity of a type: its pointer fields and its limit
 abbrev pub half : TypeShape → ℕ
@@ -10,6 +12,11 @@ half t = length t.targets + t.limit
 -- how many values may be stamped in a node of a type before it is split
 abbrev pub capacity : TypeShape → ℕ
 capacity t = 2 * half t
+
+-- the capacity is 2 at least, for the root record with no pointer, and 160 at most, for 64 pointers and a limit of 16
+abbrev pub CapacityIsFew : Type 0
+CapacityIsFew = (shape : List TypeShape) (ty : TypeNo) → IsValid shape → ty.0 < length shape →
+    (2 ≤ capacity (type_at shape ty)) × (capacity (type_at shape ty) ≤ 160)
 
 -- what a node weighs: how many values are stamped in it, and half its capacity
 pub record Load : Type 0 where

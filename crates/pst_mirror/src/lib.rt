@@ -13,7 +13,7 @@ ghost use Rattle.pst_mirror.specs.Mirror.{CutLaw, CutRoundLaw, SplitLaw, SplitWh
 ghost use Rattle.pst_mirror.specs.Fork.{RankLaw, InsertLaw, ReindexLaw, RowsInsertLaw};
 ghost use Rattle.pst_mirror.specs.Lives.{UniqueLaw, WalkLaw, LastLaw, SplitLifeLaw, StaysLiveLaw};
 ghost use Rattle.pst_mirror.specs.Degree.{DegreeLaw, LimitLaw, FullLaw, FullApartLaw};
-ghost use Rattle.pst_mirror.specs.Potential.{PotentialFalls};
+ghost use Rattle.pst_mirror.specs.Potential.{CapacityIsFew, PotentialFalls};
 ghost use Rattle.pst_mirror.specs.Heap.{SplitShowsLaw};
 ghost use Rattle.pst_mirror.specs.Segments.{SegmentsFromPositions, PositionsFromSegments};
 ghost use Rattle.pst_mirror.specs.Charts.{RowSetLaw, TwoSetsLaw, RowCutLaw, RowReplaceLaw, RowSplitLaw, ChartsAreSteady, ChartsAreTiled};
@@ -90,6 +90,11 @@ pub fn degree()
 /// A split shows at each position what was shown.
 pub fn shown()
     ensures { SplitShowsLaw }
+{}
+
+/// A node of a valid shape has a capacity of 2 stamped values at least, and of 160 at most.
+pub fn capacity_is_few()
+    ensures { CapacityIsFew }
 {}
 
 /// Where a node over its capacity becomes two and the others grow by at most half a capacity, the potential falls.

@@ -15,5 +15,5 @@ mod order;
 mod row;
 
 pub use compare::{Compare, Counting, PlaceList, partition};
-pub use order::{Order, Pos, ranks, ranks_rise};
+pub use order::{Order, Pos, Walked, ranks, ranks_rise};
 pub use row::RowOrder;

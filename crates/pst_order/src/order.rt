@@ -1,7 +1,8 @@
 //! Places, what an order is, and what an insertion does to it.
 
-ghost use Rattle.std.specs.Prelude.{◌≡◌, ℕ, suc, ◌+◌, ◌^◌, ◌<◌, ◌↔◌, List, [], ◌∷◌, length, IsTrue, IfOk, OnErr};
-ghost use Rattle.pst_order.specs.Places.{rank, IsIn, AreDistinct, IsInsertedAfter, RanksLaw, RanksRiseLaw};
+ghost use Rattle.std.specs.Prelude.{◌≡◌, ℕ, suc, ◌+◌, ◌^◌, ◌<◌, ◌↔◌, List, [], ◌∷◌, length, slice_get, IsTrue, IfOk, OnErr};
+ghost use Rattle.std.specs.Option.{option_map};
+ghost use Rattle.pst_order.specs.Places.{rank, IsIn, AreDistinct, AreNumbered, IsInsertedAfter, RanksLaw, RanksRiseLaw};
 
 use pst_base::NoMemory;
 use std::alloc::Global;
@@ -47,6 +48,18 @@ pub trait Order {
         requires a_in { IsIn (places self.now) a.0 }
         requires b_in { IsIn (places self.now) b.0 }
         ensures { IsTrue result ↔ (rank (places self.now) b.0 ≡ suc (rank (places self.now) a.0)) };
+}
+
+/// An order whose list can be walked from its first place to its last, for a layer that knows it by this trait alone.
+pub trait Walked: Order {
+    /// The place behind another one, or none behind the last.
+    fn next(&self, place: Pos) -> Option<Pos>
+        requires { IsIn (Self.places self.now) place.0 }
+        ensures { option_map (λ (q : Pos). q.0) result ≡ slice_get (Self.places self.now) (suc (rank (Self.places self.now) place.0)) };
+
+    /// The numbers of `n` places are those from 0 to `n - 1`, each once: they can index a table. It has no effect.
+    fn numbered(&self)
+        ensures { AreNumbered (Self.places self.now) };
 }
 
 /// What an insertion behind a place does to every rank: those up to the place's are kept, the new place has the next one,

@@ -3,7 +3,7 @@
 ghost use Rattle.std.specs.Prelude.{◌≡◌, ℕ, ◌<◌, length};
 ghost use Rattle.pst_order.specs.Places.{rank, IsIn};
 
-use crate::{Order, Pos};
+use crate::{Order, Pos, Walked};
 use pst_base::NoMemory;
 use std::alloc::Global;
 use std::marker::Model;
@@ -63,6 +63,22 @@ impl Order for RowOrder {
         let a = self.rank(a);
         let b = self.rank(b);
         a < b && b - a == 1
+    }
+}
+
+impl Walked for RowOrder {
+    fn next(&self, place: Pos) -> Option<Pos> {
+        let numbers = self.numbers.as_slice();
+        let behind = self.rank(place) + 1;
+        if behind < numbers.len() {
+            Some(Pos(numbers[behind]))
+        } else {
+            None
+        }
+    }
+
+    fn numbered(&self) {
+        let _places = self.numbers.len();
     }
 }
 

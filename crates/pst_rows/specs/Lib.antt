@@ -6,5 +6,6 @@ pub mod Values
 pub mod Rows
 pub mod Changes
 pub mod Steps
+pub mod Parts
 pub mod Laws
 pub mod Median

@@ -4,11 +4,13 @@ ghost use Rattle.std.specs.Prelude.{◌≡◌, ℕ, ◌+◌, ◌-◌, ◌^◌, �
 ghost use Rattle.pst_order.specs.Places.{rank, IsIn};
 ghost use Rattle.pst_order.specs.Search.{IsFewMore};
 ghost use Rattle.pst_rows.specs.Values.{before_slot};
-ghost use Rattle.pst_rows.specs.Rows.{stamps_of, width_of, content_at, row_edge, stamped_count, stamped_in, spare_of, IsRow, IsRowIn, IsInLife};
+ghost use Rattle.pst_rows.specs.Parts.{value_of};
+ghost use Rattle.pst_rows.specs.Rows.{stamps_of, width_of, base_of, content_at, row_edge, stamped_count, stamped_in, spare_of, shown, IsRow, IsRowIn, IsInLife};
 ghost use Rattle.pst_rows.specs.Changes.{slot_count, first_content, IsNewRow, IsSegmentAround, IsSameRow, IsRowSet, IsRowCut, IsRowReplaced, IsRowSplit, IsSplitStamp, HasMore, needed, missing};
 ghost use Rattle.pst_rows.specs.Steps.{AreBounds, HasParts, IsLocated, IsStampAt, IsGap, IsInserted, IsRowPut, IsPutUnlessStamped, IsRowRestored, IsRowBegun, AreSlotsAt, AreFirstSlots};
 
 use crate::content::{Content, Held, Slot, Stamp};
+use crate::parts::slots_of;
 use crate::stamps::{
     Bounds, Located, Slots, StampPlaces, Stamps, count_slots, middle_from, raise_starts, recount,
     stamps_after, stamps_before, write_base,
@@ -47,6 +49,27 @@ impl Row {
         })
     }
 
+    /// A row of its parts: the life from `lo` to `hi`, without `hi`, what each slot holds at first, and fewer than `2 ^ 32`
+    /// stamped values. Where each slot's own begin is counted; that they stand in the order of slot and then place is for the
+    /// caller to know. `NoMemory` where there is no memory for it. It takes a time that grows with the count of both.
+    pub fn of_parts(
+        alloc: Global,
+        lo: Pos,
+        hi: Pos,
+        bases: &[Content],
+        stamps: &[Stamp],
+    ) -> Result<Row, NoMemory>
+        requires { length stamps.now < 2 ^ 32 }
+        ensures { IfOk result (λ row. shown row ≡ value_of lo hi bases.now stamps.now) }
+    {
+        Ok(Row {
+            lo,
+            hi,
+            slots: slots_of(alloc, bases, stamps)?,
+            stamps: Stamps::of_slice(alloc, stamps)?,
+        })
+    }
+
     /// Where the life begins.
     pub fn lo(&self) -> Pos
         ensures { result ≡ self.now.lo }
@@ -66,6 +89,22 @@ impl Row {
         ensures { result ≡ width_of self.now }
     {
         self.slots.len()
+    }
+
+    /// What a slot holds from the begin of the life on, up to its first stamped value.
+    pub fn base(&self, slot: SlotNo) -> Content
+        requires { slot.0 < width_of self.now }
+        ensures { result ≡ base_of self.now slot.0 }
+    {
+        let slots = self.slots.as_slice();
+        slots[usize::from(slot.0)].content()
+    }
+
+    /// The stamped values, in the order of slot and then place.
+    pub fn stamps(&self) -> &[Stamp]
+        ensures { result.now ≡ self.now.stamps.items }
+    {
+        self.stamps.as_slice()
     }
 
     /// How many stamped values there are.

@@ -49,6 +49,18 @@ impl Stamps {
         }
     }
 
+    /// A copy of these stamps. `NoMemory` where there is no memory for it.
+    pub fn of_slice(alloc: Global, stamps: &[Stamp]) -> Result<Stamps, NoMemory>
+        ensures { IfOk result (λ copy. copy.items ≡ stamps.now) }
+    {
+        let mut copy = Stamps::new(alloc);
+        copy.reserve(stamps.len())?;
+        for stamp in stamps {
+            copy.push(*stamp)?;
+        }
+        Ok(copy)
+    }
+
     /// How many there are.
     #[inline(always)]
     pub fn len(&self) -> usize

@@ -1,7 +1,8 @@
-use Rattle.std.proofs.Common.{◌≡◌, ℕ, ◌+◌, ◌^◌, ◌<◌, ◌≤◌, ◌++◌, ◌∷◌, ◌%◌, ◌/◌, length, get_or, List, [], arith, ap, ap₂, sym, ◌∙◌, subst}
+use Rattle.std.proofs.Common.{◌≡◌, ℕ, ◌+◌, ◌^◌, ◌<◌, ◌≤◌, ◌++◌, ◌∷◌, ◌%◌, ◌/◌, length, get_or, List, [], arith, refl, ap, ap₂, sym, ◌∙◌, subst}
 use Rattle.std.proofs.lemmas.List.{get_or_read, with_items_is}
-use Rattle.pst_labels.specs.Labels.{circle, label_of, reach, walk, with_room, gap}
-use Rattle.pst_labels.proofs.StepLemmas.{in_range, seen, few_is, found_is, IsMade, IsAllDone, all_done}
+use Rattle.std.specs.Prelude.{vec_len, vec_capacity}
+use Rattle.pst_labels.specs.Labels.{Labelled, room_for, circle, label_of, reach, walk, with_room, gap}
+use Rattle.pst_labels.proofs.StepLemmas.{in_range, seen, few_is, found_is, IsMade, IsAllDone, all_done, IsFound, found_there}
 use Rattle.pst_labels.proofs.LabelOrderOrder.insert_after.Goals as goal
 
 pub overflow_cast-fresh : goal.overflow_cast-fresh
@@ -106,4 +107,20 @@ returns c =
     let pn : c.push-2.new.self.items ≡ next ++ c.index-behind.result.now ∷ [] = c.in_ok-push-2.ensures.items ∙ ap (λ (t : List ℕ). t ++ c.index-behind.result.now ∷ []) n in
     let pl : c.push.new.self.items ≡ c.make_room-label.new.labels ++ c.make_room-label.result ∷ [] = c.in_ok-push.ensures.items ∙ ap (λ (t : List ℕ). t ++ c.make_room-label.result ∷ []) (with_items_is c.reserve-2.new.self c.make_room-label.new.labels k) in
     let all : IsAllDone c.args.self.now c.args.place.0 _ _ c.len-fresh.result = all_done next labels c.args.self.now c.args.place.0 c.index-behind.result.now c.len-fresh.result c.make_room-label.result c.make_room-label.new.labels c.push-2.new.self.items c.push.new.self.items c.self.view_is c.self.invariant c.requires.in_list c.requires.few made pn pl in
-    record { ok = all.places; labels = all.labels; found = all.found; gap = all.gap; err = tt }
+    let there : IsFound c.args.self.now c.args.place.0 = found_there next labels c.args.self.now c.args.place.0 c.self.view_is c.self.invariant c.requires.in_list c.requires.few in
+    let was : room_for (vec_capacity c.self.inside.next) (vec_len c.self.inside.next) (vec_capacity c.self.inside.labels) (vec_len c.self.inside.labels) ≡ c.args.self.now.spare = ap (λ (t : Labelled). t.spare) c.self.view_is in
+    let spare : c.args.self.now.spare ≤ room_for (vec_capacity c.push-2.new.self) (vec_len c.push-2.new.self) (vec_capacity c.push.new.self) (vec_len c.push.new.self) + 1 =
+    omega (arith, was, c.in_ok-reserve.ensures.len, c.in_ok-reserve.ensures.capacity, c.in_ok-reserve-2.ensures.len, c.in_ok-reserve-2.ensures.capacity, c.in_ok-push.ensures.len, c.in_ok-push.ensures.capacity, c.in_ok-push-2.ensures.len, c.in_ok-push-2.ensures.capacity) in
+    record { ok = all.places; labels = all.labels; found = there.found; gap = there.gap; spare = spare; succeeds = λ _. refl; err = tt }
+
+pub returns-in_err-reserve-clause-found : goal.returns-in_err-reserve-clause-found
+returns-in_err-reserve-clause-found c = (found_there c.self.inside.next.items c.self.inside.labels.items c.args.self.now c.args.place.0 c.self.view_is c.self.invariant c.requires.in_list c.requires.few).found
+
+pub returns-in_err-reserve-clause-gap : goal.returns-in_err-reserve-clause-gap
+returns-in_err-reserve-clause-gap c = (found_there c.self.inside.next.items c.self.inside.labels.items c.args.self.now c.args.place.0 c.self.view_is c.self.invariant c.requires.in_list c.requires.few).gap
+
+pub returns-in_err-reserve-2-clause-found : goal.returns-in_err-reserve-2-clause-found
+returns-in_err-reserve-2-clause-found c = (found_there c.self.inside.next.items c.self.inside.labels.items c.args.self.now c.args.place.0 c.self.view_is c.self.invariant c.requires.in_list c.requires.few).found
+
+pub returns-in_err-reserve-2-clause-gap : goal.returns-in_err-reserve-2-clause-gap
+returns-in_err-reserve-2-clause-gap c = (found_there c.self.inside.next.items c.self.inside.labels.items c.args.self.now c.args.place.0 c.self.view_is c.self.invariant c.requires.in_list c.requires.few).gap

@@ -1,0 +1,22 @@
+use Rattle.std.proofs.Common.{◌≡◌, ℕ, ◌<◌, ◌≤◌, sym, subst, ⊎_elim, arith}
+use Rattle.std.specs.Prelude.{unwrap_or, slice_get}
+use Rattle.std.proofs.lemmas.Bool.{cases_eq}
+use Rattle.pst_base.specs.declared.shape.TypeShape.{TypeShape}
+use Rattle.pst_base.specs.Shape.{type_at, no_type, root_type, element_count}
+use Rattle.pst_mirror.specs.Potential.{capacity, CapacityIsFew}
+
+-- what a limit and a number of elements give
+few : (t : TypeShape) → 1 ≤ t.limit → t.limit ≤ 16 → element_count t ≤ 64 → (2 ≤ capacity t) × (capacity t ≤ 160)
+few t one most elements = (omega arith, omega arith)
+
+pub capacity_few : CapacityIsFew
+capacity_few shape ty valid there =
+    ⊎_elim
+    (λ (root : ty.0 ≡ 0).
+    let limit : (type_at shape root_type).limit ≡ 1 = valid.root_limit in
+    let fields : element_count (type_at shape root_type) ≤ 32 = valid.root_fields in
+    subst (λ (n : ℕ). let t : TypeShape = unwrap_or (slice_get shape n) no_type in (2 ≤ capacity t) × (capacity t ≤ 160)) (sym root) (few (type_at shape root_type) (omega arith) (omega arith) (omega arith)))
+    (λ (other : ty.0 ≡ 0 → ⊥).
+    let some : 0 < ty.0 = omega (arith, other) in
+    few (type_at shape ty) (valid.limits ty some there).0 (valid.limits ty some there).1 (valid.elements ty some there))
+    (cases_eq ty.0 0)
