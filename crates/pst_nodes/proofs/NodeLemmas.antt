@@ -20,7 +20,8 @@ use Rattle.pst_nodes.specs.declared.node.Node.{Node}
 use Rattle.pst_base.specs.declared.shape.TypeShape.{TypeShape}
 use Rattle.pst_base.specs.declared.names.TypeNo.{TypeNo}
 use Rattle.pst_base.specs.Shape.{type_at}
-use Rattle.pst_nodes.specs.Changes.{IsTouched, AreSameNodes, IsReplacedOver, IsCutInTwo, added}
+use Rattle.pst_nodes.specs.Changes.{IsTouched, AreSameNodes, IsReplacedOver, IsSegmentReplaced, IsCutInTwo, added}
+use Rattle.pst_nodes.proofs.ReplaceLemmas.{IsAround, around}
 use Rattle.pst_mirror.specs.Lives.{IsSplitLife, IsIn, IsLive}
 
 pub AllRows-at : (r : ℕ → ℕ) (places : ℕ) (rows : List RowValue) (i : ℕ) (d : RowValue) → i < length rows → AllRows r places rows → IsValue r places (get_or rows i d)
@@ -189,11 +190,21 @@ module _ (qs : List ℕ) (ns : List Node) (x : ℕ) (node : Node) (there : x < l
       (row_cut_law (rank qs) (values_of ns) x (shown node.row) (shown new.row) slot n c (in_values ns x node there read) (subst (λ (w : RowValue). IsValueCut (rank qs) w (shown new.row) slot n c) (sym (the_value ns x node there read (shown node.row))) h)
       (e ∙ ap (λ (w : RowValue). content_in (rank qs) w slot n) (sym (the_value ns x node there read (shown node.row)))))
 
-  pub slot_replaced : IsRowReplaced (rank qs) node.row new.row slot n c → (e : ℕ) → IsSegmentOf (chart qs ns) x slot n e → IsReplacedOver (chart qs ns) (chart qs (set ns x new)) x slot n e c
-  slot_replaced h e s =
-      charts_set ns x node there read new qs (λ rows. IsReplacedOver (chart qs ns) (chart_of (rank qs) rows) x slot n e c)
-      (let w = row_replace_law (rank qs) (values_of ns) x (shown node.row) (shown new.row) slot n e c (in_values ns x node there read) (subst (λ (w : RowValue). IsValueReplaced (rank qs) w (shown new.row) slot n c) (sym (the_value ns x node there read (shown node.row))) h) s in
-      record { holds = w.0; edges = w.1 })
+  pub slot_replaced : IsRowReplaced (rank qs) node.row new.row slot n c → IsSegmentReplaced qs ns (set ns x new) x slot n c
+  slot_replaced h =
+      let w : IsAround (rank qs) (shown node.row) (shown new.row) slot n c = around (rank qs) (shown node.row) (shown new.row) slot n c h in
+      let edge : (m : ℕ) → (chart qs ns).edge x slot m ≡ edge_in (rank qs) (shown node.row) slot m = λ m. rows_edge-at (rank qs) (values_of ns) x (shown node.row) (in_values ns x node there read) slot m ∙ ap (λ v. edge_in (rank qs) v slot m) (the_value ns x node there read (shown node.row)) in
+      let seg : IsSegmentOf (chart qs ns) x slot w.low w.high = record { begins = edge w.low ∙ w.begins; ends = edge w.high ∙ w.ends; some = omega (arith, w.begun, w.not_over); whole = λ m p q. edge m ∙ w.whole m p q } in
+      record {
+        low = w.low;
+        high = w.high;
+        segment = seg;
+        begun = w.begun;
+        not_over = w.not_over;
+        replaced = charts_set ns x node there read new qs (λ rows. IsReplacedOver (chart qs ns) (chart_of (rank qs) rows) x slot w.low w.high c)
+            (let v = row_replace_law (rank qs) (values_of ns) x (shown node.row) (shown new.row) slot w.low w.high c (in_values ns x node there read) (subst (λ (w' : RowValue). IsValueReplaced (rank qs) w' (shown new.row) slot w.low c) (sym (the_value ns x node there read (shown node.row))) w.replaced) seg in
+            record { holds = v.0; edges = v.1 });
+      }
 
 pub lo_is : (ns : List Node) (i : ℕ) (d : Row) → i < length ns → (row_at ns i d).lo.0 ≡ lo_at ns i
 lo_is [] i d l = absurd (omega arith)

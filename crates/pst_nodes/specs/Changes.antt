@@ -55,9 +55,14 @@ pub record IsReplacedOver (old new : Chart) (x slot a e : ℕ) (c : Content) : T
   pub holds : (i g m : ℕ) → new.holds i g m ≡ (if (i == x && g == slot) && (nat_le a m && nat_lt m e) then c else old.holds i g m)
   pub edges : (i g m : ℕ) → new.edge i g m ≡ old.edge i g m
 
--- the segment of a slot that begins at a position holds another content
-abbrev pub IsSegmentReplaced : List ℕ → List Node → List Node → ℕ → ℕ → ℕ → Content → Type 0
-IsSegmentReplaced qs old new x slot n c = (e : ℕ) → IsSegmentOf (chart qs old) x slot n e → IsReplacedOver (chart qs old) (chart qs new) x slot n e c
+-- The segment of a slot that covers a position holds another content over its whole length, wherever in it the position is.
+pub record IsSegmentReplaced (qs : List ℕ) (old new : List Node) (x slot n : ℕ) (c : Content) : Type 0 where
+  pub low : ℕ
+  pub high : ℕ
+  pub segment : IsSegmentOf (chart qs old) x slot low high
+  pub begun : low ≤ n
+  pub not_over : n < high
+  pub replaced : IsReplacedOver (chart qs old) (chart qs new) x slot low high c
 
 -- The row of the node to which a field leads has room for two values, or for four where it is the row of the field too.
 abbrev pub HasRoomForEntry : List ℕ → List Node → ℕ → ℕ → ℕ → Type 0

@@ -62,10 +62,14 @@ impl Nodes {
         self.list.capacity() - self.list.len()
     }
 
-    /// Makes room for so many more nodes. A refusal changes nothing.
+    /// Makes room for so many more nodes. A refusal changes nothing, the spare room included; there is none where the room
+    /// is there already.
     pub fn reserve(&mut self, n: usize) -> Result<(), NoMemory>
         ensures items { self.new.list.items ≡ self.old.list.items }
         ensures room { OnOk result (n ≤ spare_nodes self.new) }
+        ensures as_well { spare_nodes self.old ≤ spare_nodes self.new }
+        ensures err { OnErr result (spare_nodes self.new ≡ spare_nodes self.old) }
+        ensures full { OnErr result (spare_nodes self.old < n) }
     {
         self.list.reserve(n)
     }
@@ -78,14 +82,25 @@ impl Nodes {
         ensures err { OnErr result (self.new.list.items ≡ self.old.list.items) }
         ensures succeeds { 1 ≤ spare_nodes self.old → IsOk result }
     {
-        let id = NodeId(self.list.len() as u64);
-        self.list.push(Node {
+        self.push(Node {
             name,
             ty,
             row,
             later: None,
             link: Link::Out,
-        })?;
+        })
+    }
+
+    /// Adds a node as it is, with its next node and its link, which gets the next number. It is not refused where there is
+    /// spare room for one. A refusal changes nothing.
+    pub fn push(&mut self, node: Node) -> Result<NodeId, NoMemory>
+        ensures id { IfOk result (λ id. id.0 ≡ length self.old.list.items) }
+        ensures added { OnOk result (self.new.list.items ≡ self.old.list.items ++ node ∷ []) }
+        ensures err { OnErr result (self.new.list.items ≡ self.old.list.items) }
+        ensures succeeds { 1 ≤ spare_nodes self.old → IsOk result }
+    {
+        let id = NodeId(self.list.len() as u64);
+        self.list.push(node)?;
         Ok(id)
     }
 
@@ -149,6 +164,7 @@ impl Nodes {
         ensures same { AreSameNodes self.old.list.items self.new.list.items }
         ensures room { OnOk result ((d : Row) → HasRoom (row_at self.new.list.items id.0 d) n) }
         ensures spare { spare_nodes self.new ≡ spare_nodes self.old }
+        ensures err { OnErr result (self.new.list.items ≡ self.old.list.items) }
     {
         let node = &mut self.list[id.0 as usize];
         node.row.reserve(n)
@@ -193,7 +209,7 @@ impl Nodes {
         node.row.cut(order, slot, at, content);
     }
 
-    /// Sets the content of the segment that begins at a place.
+    /// Sets the content of the segment that covers a place, over its whole length.
     pub fn replace<O: Order>(
         &mut self,
         order: &O,

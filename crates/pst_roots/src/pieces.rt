@@ -75,6 +75,15 @@ impl Pieces {
         self.pieces[piece].get(index - self.starts[piece])
     }
 
+    /// Where the piece starts that an index falls into.
+    #[inline]
+    pub fn start_of(&self, index: usize) -> usize
+        requires { index < length self.now.nodes }
+        ensures { result ≤ index }
+    {
+        self.starts[piece_at(&self.starts, index)]
+    }
+
     /// Makes room for so many nodes more, wherever they come. A refusal changes nothing.
     pub fn reserve(&mut self, n: usize) -> Result<(), NoMemory>
         ensures nodes { self.new.nodes ≡ self.old.nodes }

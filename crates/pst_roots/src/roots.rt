@@ -1,6 +1,6 @@
 //! The nodes of the root record in pieces.
 
-ghost use Rattle.std.specs.Prelude.{◌≡◌, ℕ, ◌+◌, ◌<◌, ◌≤◌, ◌^◌, [], ◌∷◌, length, get_or, IfOk, OnOk, OnErr, IsTrue};
+ghost use Rattle.std.specs.Prelude.{◌≡◌, ℕ, ◌+◌, ◌-◌, ◌*◌, ◌<◌, ◌≤◌, ◌^◌, [], ◌∷◌, length, get_or, IfOk, OnOk, OnErr, IsTrue};
 ghost use Rattle.pst_order.specs.Places.{IsIn};
 ghost use Rattle.pst_order.specs.Search.{IsFewMore};
 ghost use Rattle.pst_nodes.specs.Arena.{lo_at};
@@ -9,7 +9,7 @@ ghost use Rattle.pst_roots.specs.Roots.{held_of, spare_of, begins_of, AreRoots, 
 use crate::pieces::Pieces;
 use pst_base::{NoMemory, NodeId};
 use pst_nodes::node::Nodes;
-use pst_order::{Compare, Counting, Order, PlaceList, Pos, partition};
+use pst_order::{Compare, Counting, Order, Pos};
 use std::alloc::Global;
 
 /// The nodes of the root record that are known, in the order of where they begin. The first one is always among them.
@@ -18,22 +18,6 @@ pub struct RootIndex {
     pieces: Pieces,
     // The index behind which `add` put a node last. The next one mostly comes near it.
     recent: usize,
-}
-
-// Where the held nodes begin.
-#[derive(Drop)]
-struct Begins<'a> {
-    roots: &'a RootIndex,
-    nodes: &'a Nodes,
-}
-
-impl<'a> PlaceList for Begins<'a> {
-    ghost numbers = { λ s. begins_of s.nodes.now.list.items (held_of s.roots.now) };
-
-    #[inline]
-    fn place(&self, index: usize) -> Pos {
-        self.roots.begin_at(self.nodes, index)
-    }
 }
 
 // Where a node begins: place 0 for one that is not there, which is never asked for.
@@ -144,7 +128,9 @@ impl RootIndex {
         begin_of(nodes, self.held_at(index))
     }
 
-    // The index of the last held node that does not begin after a place.
+    // The index of the last held node that does not begin after a place. Before each comparison it is decided how many of the
+    // nodes may be left after it, half as many as before, so that a power of two more than all of them bounds the comparisons;
+    // within that, the comparison is made where a piece starts.
     fn last_before<P: Compare>(&self, compare: &mut P, nodes: &Nodes, place: Pos) -> usize
         requires roots { AreRoots (P.list compare.old) nodes.now.list.items (held_of self.now) place.0 }
         requires place { IsIn (P.list compare.old) place.0 }
@@ -153,10 +139,40 @@ impl RootIndex {
         ensures list { P.list compare.new ≡ P.list compare.old }
         ensures calls { IsFewMore (length (held_of self.now)) (P.calls compare.old) (P.calls compare.new) }
     {
-        let count = self.count();
-        let begins = Begins { roots: self, nodes };
-        let after = partition(compare, &begins, 0, count, place);
-        after - 1
+        let mut low = 0;
+        let mut high = self.count();
+        let mut left = high.ilog2() + 1;
+        while high - low > 1 {
+            left -= 1;
+            let middle = self.between(low, high, 1 << left);
+            if compare.before(place, self.begin_at(nodes, middle)) {
+                high = middle;
+            } else {
+                low = middle;
+            }
+        }
+        low
+    }
+
+    // An index between two others with at most so many up to the second one, and from the first one on: one at which a piece
+    // starts, where there is one near their middle, since what stands there is looked at by most searches.
+    #[inline]
+    fn between(&self, low: usize, high: usize, most: usize) -> usize
+        requires some { low + 1 < high }
+        requires within { high ≤ length (held_of self.now) }
+        requires most { high - low ≤ 2 * most }
+        ensures after { low < result }
+        ensures before { result < high }
+        ensures first { result - low ≤ most }
+        ensures second { high - result ≤ most }
+    {
+        let middle = low + (high - low) / 2;
+        let start = self.pieces.start_of(middle);
+        if low < start && high - start <= most {
+            start
+        } else {
+            middle
+        }
     }
 
     // How many nodes are held.

@@ -17,7 +17,7 @@ use Rattle.pst_mirror.proofs.SplitBodyLemmas.{named, partner_names, start_law}
 use Rattle.pst_mirror.proofs.SegmentLemmas.{segments_from_positions}
 use Rattle.pst_nodes.specs.declared.node.Node.{Node}
 use Rattle.pst_nodes.specs.Arena.{row_at, lo_at, hi_at, AreRows, chart, IsSlot, IsAlive, IsSegmentAt}
-use Rattle.pst_nodes.specs.Changes.{IsTouched, IsReplacedOver}
+use Rattle.pst_nodes.specs.Changes.{IsTouched, IsReplacedOver, IsSegmentReplaced}
 use Rattle.pst_nodes.proofs.NodeLemmas.{lo_is, hi_is, some_row, row_in, edges_in}
 use Rattle.pst_rows.proofs.TimelineLemmas.{edge_here}
 use Rattle.pst_nodes.proofs.PairLemmas.{held_slot, target_slot, named_slot}
@@ -170,6 +170,22 @@ partner_segment w z s a e i g st mir seg p =
     p
 
 -- one segment done
+-- a segment that is replaced and covers the begin of a segment is that segment
+pub replaced_from : (qs : List ℕ) (old new : List Node) (i g a : ℕ) (c : Content) → IsSegmentReplaced qs old new i g a c → (e : ℕ) → IsSegmentOf (chart qs old) i g a e → IsReplacedOver (chart qs old) (chart qs new) i g a e c
+replaced_from qs old new i g a c h e s =
+    let low : h.low ≡ a = ⊎_elim
+    (λ (l : h.low < a). absurd (false≢true (sym (h.segment.whole a l h.not_over) ∙ s.begins)))
+    (λ (l : a ≤ h.low). omega (arith, h.begun))
+    (cases_lt h.low a) in
+    let high : h.high ≡ e = ⊎_elim
+    (λ (l : h.high < e). absurd (false≢true (sym (s.whole h.high h.not_over l) ∙ h.segment.ends)))
+    (λ (l : e ≤ h.high). ⊎_elim
+    (λ (m : e < h.high). absurd (false≢true (sym (h.segment.whole e (omega (arith, low, s.some)) m) ∙ s.ends)))
+    (λ (m : h.high ≤ e). omega arith)
+    (cases_lt e h.high))
+    (cases_lt h.high e) in
+    subst (λ (n : ℕ). IsReplacedOver (chart qs old) (chart qs new) i g n e c) low (subst (λ (n : ℕ). IsReplacedOver (chart qs old) (chart qs new) i g h.low n c) high h.replaced)
+
 pub segment_done : (old new : Chart) (x z n s a e i g : ℕ) (c : Content) → IsRenamable old x z n → IsSegmentOf old z s a e → IsPartner (finished old x z n) z s i g a → c ≡ (finished old x z n).holds i g a →
     ((e : ℕ) → IsSegmentOf old i g a e → IsReplacedOver old new i g a e c) →
     IsHalfway old (finished old x z n) new z (one_more (λ _ _. false) s a e) × ((j t m : ℕ) → new.edge j t m ≡ old.edge j t m)
