@@ -1,6 +1,7 @@
 -- What changes of the nodes and of the places do to the root index and to the queue.
 use Rattle.std.proofs.Common.{◌≡◌, ℕ, ◌<◌, ◌≤◌, List, [], ◌∷◌, ◌++◌, length, get_or, refl, sym, ap, ◌∙◌, subst, inl, inr, arith}
 use Rattle.std.specs.Prelude.{slice_get, Contains}
+use Rattle.std.proofs.lemmas.Bool.{cases_lt}
 use Rattle.std.proofs.lemmas.Option.{slice_get-get_or}
 use Rattle.pst_base.specs.declared.shape.TypeShape.{TypeShape}
 use Rattle.pst_base.specs.Name.{root_name}
@@ -10,11 +11,11 @@ use Rattle.pst_mirror.specs.Fork.{IsInsertedAfter}
 use Rattle.pst_mirror.proofs.ForkLemmas.{shift_cases, rank_law}
 use Rattle.pst_meaning.specs.Arena.{Arena}
 use Rattle.pst_meaning.specs.Changes.{HasSameNodes, IsCleared, IsInserted}
-use Rattle.pst_meaning.specs.Store.{Node, Noted, AreHeld}
+use Rattle.pst_meaning.specs.Store.{Node, Noted, AreAllHeld, AreHeld, of_node}
 use Rattle.pst_meaning.specs.Steps.{IsNewPlace}
 use Rattle.pst_meaning.proofs.Concrete.{arena_inserted, rows, rows_apart}
 use Rattle.pst_meaning.proofs.Places.{slice_get-push, slice_get-kept, length-push}
-use Rattle.pst_meaning.proofs.Stepping.{of_node-old}
+use Rattle.pst_meaning.proofs.Stepping.{of_node-new, of_node-old}
 use Rattle.pst_arena.specs.Calls.{AreWaiting, KeepsRoots, arena_at}
 
 -- ---- the root index
@@ -74,6 +75,16 @@ order_pushed places nodes n = record {
 
 pub held_pushed : (places : List ℕ) (nodes : List Node) (n : Node) (a : Noted) → AreHeld (arena_at places nodes) a → AreHeld (arena_at places (nodes ++ n ∷ [])) a
 held_pushed places nodes n a h = held_kept (arena_at places nodes) (arena_at places (nodes ++ n ∷ [])) a a (roots_same a) (order_pushed places nodes n) h
+
+-- where all nodes of the root record are held, so they are when a node of another record comes in
+pub all_held_pushed : (places : List ℕ) (nodes : List Node) (n : Node) (a : Noted) → (n.head.name ≡ root_name → ⊥) → AreAllHeld (arena_at places nodes) a → AreAllHeld (arena_at places (nodes ++ n ∷ [])) a
+all_held_pushed places nodes n a other all i l e = elim (cases_lt i (length nodes)) [
+  | inl lt ↦ all i lt (sym (of_node-old (λ n. n.head.name) root_name nodes n i lt) ∙ e)
+  | inr le ↦ absurd (other (sym (of_node-new (λ n. n.head.name) root_name nodes n) ∙ subst (λ (j : ℕ). of_node (λ n. n.head.name) root_name (nodes ++ n ∷ []) j ≡ root_name) (last le) e))
+]
+  where
+    last : length nodes ≤ i → i ≡ length nodes
+    last le = omega (arith, le, l, length-push nodes n)
 
 -- a place comes in
 order_inserted : (old new : Arena) (k : ℕ) → IsInserted old new k → KeepsOrder old new

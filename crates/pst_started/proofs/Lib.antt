@@ -6,3 +6,4 @@ pub mod Answered
 pub mod Starts
 pub mod Numbers
 pub mod Around
+pub mod Stamping

@@ -1,29 +1,33 @@
 -- What a record leaves that is made, and a pointer that is written.
-use Rattle.std.proofs.Common.{◌≡◌, ℕ, ◌+◌, ◌-◌, List, [], ◌∷◌, ◌++◌, length, Option, Some, None, refl, sym, ap, ◌∙◌, subst, arith}
+use Rattle.std.proofs.Common.{◌≡◌, ℕ, ◌+◌, ◌-◌, List, [], ◌∷◌, ◌++◌, length, Option, Some, None, inl, refl, sym, ap, ◌∙◌, subst, arith}
 use Rattle.std.specs.Prelude.{◌↔◌}
 use Rattle.std.specs.Option.{option_map}
+use Rattle.std.specs.FinMap.{get}
 use Rattle.std.proofs.lemmas.Bool.{false≢true}
 use Rattle.pst_base.specs.declared.names.TypeNo.{TypeNo}
 use Rattle.pst_base.specs.declared.names.NodeId.{NodeId}
 use Rattle.pst_base.specs.declared.names.Name.{Name}
 use Rattle.pst_base.specs.declared.names.Kind.{Kind}
 use Rattle.pst_base.specs.declared.names.Kind.TheVariants.{Int, Pointer}
-use Rattle.pst_base.specs.Shape.{type_at, field_kind, element_count}
+use Rattle.pst_base.specs.Name.{root_name}
+use Rattle.pst_base.specs.Shape.{type_at, root_type, field_kind, element_count}
 use Rattle.pst_base.specs.Heap.{kind_in, type_in, IsPointer, FitsField, IsFull}
+use Rattle.pst_base.proofs.WellFormed.{type-from_none}
 use Rattle.pst_places.specs.State.{HasRoom, PointerStored, Allocated, WritesStay, IsNewType, IsFresh}
 use Rattle.pst_order.specs.Places.{rank}
 use Rattle.pst_meaning.specs.declared.place.Place.{Place}
 use Rattle.pst_mirror.specs.Degree.{is_other_entry}
 use Rattle.pst_meaning.specs.Arena.{IsIn}
-use Rattle.pst_meaning.specs.Store.{Node, Noted, Stored, arena, begin_of, end_of, AreHeld, state_of, IsStore}
+use Rattle.pst_meaning.specs.Store.{Node, Noted, Stored, arena, begin_of, end_of, AreAllHeld, AreHeld, state_of, IsStore}
 use Rattle.pst_meaning.specs.Steps.{with_nodes, one_record, one_pointer}
 use Rattle.pst_meaning.proofs.Concrete.{drawn}
+use Rattle.pst_meaning.proofs.Places.{store_is_sound}
 use Rattle.pst_meaning.proofs.Reading.{kind_law}
 use Rattle.pst_meaning.proofs.Sound.{full_law}
 use Rattle.pst_meaning.proofs.Stepping.{allocate_law, null_law, link_law}
 use Rattle.pst_arena.specs.Calls.{AreOthers, AreWaiting, IsNodeAdded, IsNullWritten, IsOpenTo, IsPointerWritten, IsWritten, arena_at}
-use Rattle.pst_started.specs.Calls.{HasNoRoom, IsKept, kind_at}
-use Rattle.pst_started.proofs.Held.{held_kept, held_pushed, order_after, order_cleared, order_same, waiting_pushed}
+use Rattle.pst_started.specs.Calls.{HasNoRoom, HoldsRoots, IsKept, kind_at}
+use Rattle.pst_started.proofs.Held.{all_held_pushed, held_kept, held_pushed, order_after, order_cleared, order_same, waiting_pushed}
 use Rattle.pst_started.proofs.Stores.{at_s, counted_pointer, counted_record}
 
 -- ---- a record is made
@@ -50,6 +54,19 @@ module _ (s g : Stored) (nodes : List Node) (noted : Noted) (at : Place) (id : �
       subst (λ (g : Stored). Allocated (state_of g) at ty q (record { 0 = id }) (state_of (holding nodes))) e
       (subst (λ (ns : List Node). Allocated (state_of s) at ty q (record { 0 = id }) (state_of (holding ns))) (sym a.list)
       (subst (λ (n : ℕ). Allocated (state_of s) at ty q (record { 0 = n }) (state_of (holding (s.nodes ++ a.node ∷ [])))) (sym a.number) made.1))
+
+  -- the new record is not the root record, which is in each heap
+  not_root : a.node.head.name ≡ root_name → ⊥
+  not_root is =
+      let none : get ((state_of s).heap s.start) root_name ≡ None = subst (λ (n : Name). get ((state_of s).heap s.start) n ≡ None) (sym a.made.name ∙ is) ((at_s s g (λ (s : Stored). IsFresh (state_of s) q) e fresh).fresh s.start (inl refl)) in
+      let there : type_in ((state_of s).heap s.start) root_name ≡ Some root_type = ((store_is_sound s k.store).well_formed s.start (inl refl)).root in
+      let no_type : None ≡ Some root_type = sym (type-from_none ((state_of s).heap s.start) root_name none) ∙ there in
+      absurd (cc)
+
+  pub make_held : HoldsRoots g → HoldsRoots (holding nodes)
+  make_held all = subst (λ (ns : List Node). HoldsRoots (holding ns)) (sym a.list)
+      (subst (λ (q : Noted). AreAllHeld (arena_at s.places (s.nodes ++ a.node ∷ [])) q) (sym same)
+      (all_held_pushed s.places s.nodes a.node s.noted not_root (at_s s g HoldsRoots e all)))
 
 -- ---- a node that was found
 

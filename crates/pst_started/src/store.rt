@@ -316,6 +316,7 @@ impl<O: Order + Drop, N: FatNodes> Started<O, N> {
         requires fresh { IsFresh (state_of self.old) name }
         requires room { HasRoom (state_of self.old) }
         ensures noted { self.new.noted ≡ self.old.noted }
+        ensures held { HoldsRoots self.old → IfOk result (λ _. HoldsRoots self.new) }
         ensures ok { IfOk result (λ r. Allocated (state_of self.old) at ty name r (state_of self.new)) }
         ensures err { OnErr result (Same self.old self.new) }
     {

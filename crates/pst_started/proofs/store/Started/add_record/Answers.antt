@@ -1,4 +1,4 @@
-use Rattle.pst_started.proofs.Links.{make_kept, make_allocated}
+use Rattle.pst_started.proofs.Links.{make_kept, make_allocated, make_held}
 use Rattle.pst_started.proofs.Stores.{failed_kept, failed_same, on_err}
 use Rattle.pst_started.proofs.store.Started.add_record.Goals as goal
 
@@ -17,3 +17,7 @@ invariant_of-self-2 g c =
 pub returns-clause-ok : goal.returns-clause-ok
 returns-clause-ok g c =
     make_allocated _ _ _ _ c.args.at _ c.args.ty c.args.name c.self.view_is c.self.invariant c.requires.writable c.requires.known_type c.requires.fresh c.in_ok-id.ensures.ok c.in_ok-id.ensures.noted c.requires.room
+
+pub returns-clause-held : goal.returns-clause-held
+returns-clause-held g c =
+    make_held _ _ _ _ c.args.at _ c.args.ty c.args.name c.self.view_is c.self.invariant c.requires.writable c.requires.known_type c.requires.fresh c.in_ok-id.ensures.ok c.in_ok-id.ensures.noted c.requires.room

@@ -3,6 +3,7 @@ use Rattle.pst_meaning.specs.Store.{Stored}
 use Rattle.pst_meaning.proofs.Around.{unchanged_after}
 use Rattle.pst_started.proofs.Around.{may_still, link_around, linked_around, refused_around}
 use Rattle.pst_started.proofs.Stores.{on_err}
+use Rattle.pst_started.proofs.Stamping.{only_split}
 use Rattle.pst_started.proofs.store.Started.link.Goals as goal
 
 pub stamp_target-requires : goal.stamp_target-requires
@@ -27,3 +28,6 @@ returns-in_err-repair-2-clause-err g c =
 pub returns-clause-written : goal.returns-clause-written
 returns-clause-written g c =
     λ u. linked_around c.args.self.now c.repair.new.self c.args.at c.args.r c.args.q c.args.field.0 c.repair.ensures.same c.repair.ensures.stays c.requires c.stamp_target.new.self c.repair-2.new.self (c.in_ok-done.ensures.written c.if-not-done.false) c.repair-2.ensures.same c.repair-2.ensures.stays
+
+pub returns-in_err-repair-clause-stamps : goal.returns-in_err-repair-clause-stamps
+returns-in_err-repair-clause-stamps g c = only_split 6 c.args.self.now c.repair.new.self c.repair.ensures.splits

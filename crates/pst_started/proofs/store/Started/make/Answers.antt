@@ -28,3 +28,6 @@ returns-clause-ok g c = made_after c.args.self.now c.repair.new.self c.add_recor
 
 pub returns-clause-err : goal.returns-clause-err
 returns-clause-err g c = refused_after c.args.self.now c.repair.new.self c.add_record.new.self c.add_record.result c.repair.ensures.same c.add_record.ensures.err
+
+pub returns-clause-held : goal.returns-clause-held
+returns-clause-held g c = c.add_record.ensures.held c.in_ok-repair.ensures.held

@@ -3,6 +3,7 @@ use Rattle.pst_meaning.specs.Arena.{IsIn}
 use Rattle.pst_meaning.specs.Store.{Stored, arena, begin_of}
 use Rattle.pst_started.proofs.Links.{found, link_kind, link_full, link_slot, link_room, link_kept, link_stored, link_writes}
 use Rattle.pst_started.proofs.Stores.{behind, failed_kept, failed_same, live_at, nodes_of, on_err}
+use Rattle.pst_started.proofs.Stamping.{stamped_failed, stamped_nothing}
 use Rattle.pst_started.proofs.store.Started.stamp_target.Goals as goal
 
 pub cover-x-requires-clause-nodes : goal.cover-x-requires-clause-nodes
@@ -79,3 +80,9 @@ returns-in_ok-set_target-in-Some-clause-written g c =
     let w = found _ _ c.args.at c.args.r c.cover-x.result.0 c.self.view_is c.self.invariant c.requires.live c.cover-x.ensures.inside c.cover-x.ensures.same in
     let v = found _ _ c.args.at c.args.q c.cover-y.result.0 c.self.view_is c.self.invariant c.requires.target_live c.cover-y.ensures.inside c.cover-y.ensures.same in
     λ u. (link_stored _ _ c.args.at c.args.r c.args.q c.cover-x.result.0 c.cover-y.result.0 c.args.field.0 w v c.requires.fits _ _ c.in-Some.slot.0 c.requires.writable c.in_ok-set_target-in-Some.ensures.set c.in_ok-set_target-in-Some.ensures.kept c.requires.room, link_writes _ _ c.args.at c.args.r c.args.q c.cover-x.result.0 c.cover-y.result.0 c.args.field.0 w v c.requires.fits _ _ c.in-Some.slot.0 c.requires.writable c.in_ok-set_target-in-Some.ensures.set c.in_ok-set_target-in-Some.ensures.kept c.requires.room, link_room _ _ c.args.at c.args.r c.args.q c.cover-x.result.0 c.cover-y.result.0 c.args.field.0 w v c.requires.fits c.in-Some.slot.0 c.in-Some.ensures.some)
+
+pub returns-in_err-set_target-in-Some-clause-stamped : goal.returns-in_err-set_target-in-Some-clause-stamped
+returns-in_err-set_target-in-Some-clause-stamped g c = stamped_failed 6 _ _ _ _ c.self.view_is c.in_err-set_target-in-Some.ensures.err.0
+
+pub returns-in-None-clause-stamped : goal.returns-in-None-clause-stamped
+returns-in-None-clause-stamped g c = stamped_nothing 6 c.args.self.now

@@ -3,6 +3,7 @@ use Rattle.pst_base.specs.Heap.{IsPointer}
 use Rattle.pst_meaning.proofs.Around.{unchanged_after}
 use Rattle.pst_started.proofs.Around.{kind_kept, room_kept, target_around, writes_around}
 use Rattle.pst_started.proofs.Stores.{on_err, on_ok_both}
+use Rattle.pst_started.proofs.Stamping.{only_split}
 use Rattle.pst_started.proofs.store.Started.write_null.Goals as goal
 
 pub stamp_null-requires-clause-writable : goal.stamp_null-requires-clause-writable
@@ -32,3 +33,6 @@ returns-clause-ok g c =
 pub returns-clause-err : goal.returns-clause-err
 returns-clause-err g c =
     on_err _ _ (inr (target_around c.args.self.now c.repair.new.self c.stamp_null.new.self c.repair-2.new.self c.args.at c.args.r c.args.field.0 None c.requires.live c.repair.ensures.same c.in_ok-stamp_null.ensures.ok.0 c.repair-2.ensures.same))
+
+pub returns-in_err-repair-clause-stamps : goal.returns-in_err-repair-clause-stamps
+returns-in_err-repair-clause-stamps g c = only_split 6 c.args.self.now c.repair.new.self c.repair.ensures.splits

@@ -3,6 +3,7 @@ use Rattle.std.proofs.lemmas.Int.{to_z-of_z}
 use Rattle.pst_meaning.proofs.Around.{unchanged_after}
 use Rattle.pst_started.proofs.Around.{kind_kept, number_around, room_kept, writes_around}
 use Rattle.pst_started.proofs.Stores.{on_err, on_ok_both}
+use Rattle.pst_started.proofs.Stamping.{only_split}
 use Rattle.pst_started.proofs.store.Started.write_number.Goals as goal
 
 pub stamp_number-requires-clause-writable : goal.stamp_number-requires-clause-writable
@@ -34,3 +35,6 @@ pub returns-clause-err : goal.returns-clause-err
 returns-clause-err g c =
     let fits = c.ranges.n in
     on_err _ _ (inr (number_around c.args.self.now c.repair.new.self c.stamp_number.new.self c.repair-2.new.self c.args.at c.args.r c.args.field.0 c.args.n c.requires.live c.repair.ensures.same (simp to_z-of_z at c.in_ok-stamp_number.ensures.ok).0 c.repair-2.ensures.same))
+
+pub returns-in_err-repair-clause-stamps : goal.returns-in_err-repair-clause-stamps
+returns-in_err-repair-clause-stamps g c = only_split 2 c.args.self.now c.repair.new.self c.repair.ensures.splits
