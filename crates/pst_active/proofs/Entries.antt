@@ -26,6 +26,7 @@ use Rattle.pst_active.specs.Stands.{StandsFor, IsRunAt, MayCall}
 use Rattle.pst_active.specs.Refused.{is_run, entry_of, version_by, runs_by, open_by, run_by, calls_by, refusal_by}
 use Rattle.pst_active.proofs.Parts.{entry-run}
 use Rattle.pst_active.proofs.Slicing.{run-is}
+use Rattle.pst_history.specs.declared.history.TheConstants.{RUNS, OPEN_RUNS, CALLS}
 
 -- ---- the first element that passes
 
@@ -167,16 +168,16 @@ module _ {H P R : Type 0} (m : Meaning) (x : Runs P R (Activation H R P)) (s : S
           let w = found-at active run at e in
           let o = entry-is run at w in
           let is : is_open_run (run_at h run.0) ≡ true = ap is_open_run o.there ∙ o.is_so in
-          ap calls_by (entry-found run at w e) ∙ ap (λ k. when (nat_le 1024 k) because.Calls) o.calls ∙ ap (λ r. when (is_full_run r) because.Calls) (sym o.there) ∙ ap (λ b. first (when (not b) because.Run) (calls_refusal h run)) (sym is)
+          ap calls_by (entry-found run at w e) ∙ ap (λ k. when (nat_le CALLS k) because.Calls) o.calls ∙ ap (λ r. when (is_full_run r) because.Calls) (sym o.there) ∙ ap (λ b. first (when (not b) because.Run) (calls_refusal h run)) (sym is)
 
   version-same : (version : VersionNo) → version_by s version ≡ version_refusal h version
   version-same version = ap (λ n. when (nat_le n version.0) because.Version) stand.versions.many
 
   runs-same : runs_by next ≡ runs_refusal h
-  runs-same = ap (λ n. when (nat_lt 1048576 n) because.Runs) stand.same_next
+  runs-same = ap (λ n. when (nat_lt RUNS n) because.Runs) stand.same_next
 
   open-same : open_by active ≡ open_refusal h
-  open-same = ap (λ n. when (nat_le 64 n) because.RunsOpen) stand.many
+  open-same = ap (λ n. when (nat_le OPEN_RUNS n) because.RunsOpen) stand.many
 
   -- what is refused by engine and heap is refused by the history
   pub refusal-is : (c : Command) → refusal_by m s active next c ≡ refusal m h c

@@ -23,6 +23,7 @@ use Rattle.pst_runs.specs.Runs.{Runs, IsWaiting, MayAdd, RanOn, StandingWaits, S
 use Rattle.pst_active.specs.Stands.{HoldsVersions, IsEntry, StandsFor, VersionsStay, IsRunAt, MayCall}
 use Rattle.pst_active.proofs.Parts.{other_heap, not_version, entry-run, entry-writable}
 use Rattle.pst_active.proofs.Moving.{IsMove, move-keeps}
+use Rattle.pst_history.specs.declared.history.TheConstants.{CALLS}
 
 -- ---- versions that stay
 
@@ -144,7 +145,7 @@ module _ {H P R : Type 0} (m : Meaning) (x : Runs P R (Activation H R P)) (law :
       waits = added (work_of e.run.0 the_run) the_run.granted (heap_of m h the_run.parent.0) (run_counts m h e.run.0 the_run) (may-add c may);
     }
 
-    pub few-calls : (c : NamedCall) → MayCall m h e.run.0 c → e.calls < 1024
+    pub few-calls : (c : NamedCall) → MayCall m h e.run.0 c → e.calls < CALLS
     few-calls c may = let had = mine.calls in let less = may.room the_run the_run-found in omega arith
 
     module _ (t : State P R) (still : SurvivesOthers x s t) where

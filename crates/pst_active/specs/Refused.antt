@@ -11,6 +11,7 @@ use Rattle.pst_script.specs.declared.reply.Refusal.TheVariants as because
 use Rattle.pst_history.specs.Meaning.{Meaning, when, kinds_refusal}
 use Rattle.pst_history.specs.History.{first}
 use Rattle.pst_active.specs.declared.entry.OpenEntry.{OpenEntry}
+use Rattle.pst_history.specs.declared.history.TheConstants.{RUNS, OPEN_RUNS, CALLS}
 
 -- whether an entry is that of a run
 abbrev pub is_run : {H P R : Type 0} → RunNo → OpenEntry H R P → Bool
@@ -27,10 +28,10 @@ abbrev pub call_by : {P R : Type 0} → State P R → Option Refusal → Version
 call_by s procedure version = first procedure (version_by s version)
 
 abbrev pub runs_by : (next : ℕ) → Option Refusal
-runs_by next = when (nat_lt 1048576 next) because.Runs
+runs_by next = when (nat_lt RUNS next) because.Runs
 
 abbrev pub open_by : {H P R : Type 0} → List (OpenEntry H R P) → Option Refusal
-open_by active = when (nat_le 64 (length active)) because.RunsOpen
+open_by active = when (nat_le OPEN_RUNS (length active)) because.RunsOpen
 
 abbrev pub run_by : {H P R : Type 0} → Option (OpenEntry H R P) → Option Refusal
 run_by None = Some because.Run
@@ -39,7 +40,7 @@ run_by (Some e) = None
 -- a run that is to have one call more
 abbrev pub calls_by : {H P R : Type 0} → Option (OpenEntry H R P) → Option Refusal
 calls_by None = Some because.Run
-calls_by (Some e) = when (nat_le 1024 e.calls) because.Calls
+calls_by (Some e) = when (nat_le CALLS e.calls) because.Calls
 
 abbrev pub refusal_by : {H P R : Type 0} → Meaning → State P R → List (OpenEntry H R P) → (next : ℕ) → Command → Option Refusal
 refusal_by m s active next (command.Run call) = first (call_by s (kinds_refusal (m.proc call.procedure) call.arguments) call.version) (runs_by next)

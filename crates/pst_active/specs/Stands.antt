@@ -16,6 +16,7 @@ use Rattle.pst_history.specs.History.{History, run_at, is_open, work_of, heap_of
 use Rattle.pst_history.specs.Sound.{IsSoundHistory}
 use Rattle.pst_active.specs.declared.entry.OpenEntry.{OpenEntry}
 use Rattle.pst_runs.specs.Runs.{Runs, runs_of}
+use Rattle.pst_history.specs.declared.history.TheConstants.{CALLS}
 
 -- ---- the heap
 
@@ -126,5 +127,5 @@ pub record StandForSome {H P R : Type 0} (m : Meaning) (parts : Parts) (active :
 
 -- a call that an open run can be given
 pub record MayCall (m : Meaning) (h : History) (n : ℕ) (c : NamedCall) : Type 0 where
-  pub room : (r : Run) → run_at h n ≡ Some r → length r.calls < 1024
+  pub room : (r : Run) → run_at h n ≡ Some r → length r.calls < CALLS
   pub fits : IsTrue (fits_one (m.proc c.procedure) c.arguments)

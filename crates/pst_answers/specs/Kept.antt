@@ -1,7 +1,7 @@
 -- What is held in the end beside the input and the output.
 use Rattle.std.specs.Prelude.{◌≡◌, ℕ, ⊤, List}
 use Rattle.pst_history.specs.Meaning.{Meaning}
-use Rattle.pst_history.specs.History.{History, opening, begun}
+use Rattle.pst_history.specs.History.{History, begun}
 use Rattle.pst_answers.specs.Pieces.{state_after, BreaksIn}
 use Rattle.pst_answers.specs.Script.{Rules, script_of}
 
@@ -26,19 +26,19 @@ together k n = record {
   untouched = k.untouched × n.untouched;
 }
 
--- the history before a script, with the opening in which version 0 is alone
-abbrev pub first_history : Meaning → History
-first_history m = begun (opening m.shape)
+-- the history before a script, with the opening with which it begins
+abbrev pub first_history : Rules → Meaning → History
+first_history rules m = begun (rules.first m)
 
 -- the history that lines make of it
 abbrev pub history_after : Rules → Meaning → (lines : List (List ℕ)) → History
-history_after rules m lines = state_after (script_of rules m) (first_history m) lines
+history_after rules m lines = state_after (script_of rules m) (first_history rules m) lines
 
 -- What a session leaves, by what it leaves in a history and after want of memory in a history. Where none was begun, what is
 -- held is as it was handed in.
 abbrev pub kept_by : {T : Type 0} → Rules → (leaves breaks : Meaning → T → History → Type 0) → (old new : T) → Kept
 kept_by rules leaves breaks old new = record {
   leaves = λ m lines. leaves m new (history_after rules m lines);
-  breaks = λ m lines. BreaksIn (script_of rules m) (first_history m) (breaks m new) lines;
+  breaks = λ m lines. BreaksIn (script_of rules m) (first_history rules m) (breaks m new) lines;
   untouched = new ≡ old;
 }

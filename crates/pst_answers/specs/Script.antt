@@ -10,17 +10,22 @@ use Rattle.pst_script.specs.declared.reply.Refusal.TheVariants as because
 use Rattle.pst_script.specs.Commands.{reading}
 use Rattle.pst_script.specs.Texts.{text_of}
 use Rattle.pst_history.specs.Meaning.{Meaning}
-use Rattle.pst_history.specs.History.{History, reply, after}
+use Rattle.pst_history.specs.History.{Opening, History, opening, reply, after}
 use Rattle.pst_answers.specs.Pieces.{Answering}
 
--- How commands are answered: the reply on a history, and the history after the command.
+-- How a script is answered: the opening with which it begins, the reply to a command on a history, and the history after it.
 pub record Rules : Type 0 where
+  pub first : Meaning → Opening
   pub reply : Meaning → History → Command → Reply
   pub after : Meaning → History → Command → History
 
--- any version may be written: the versions form a tree
+-- any version may be written: the versions form a tree, which begins with this opening
+abbrev pub by_tree_from : (Meaning → Opening) → Rules
+by_tree_from first = record { first = first; reply = reply; after = after }
+
+-- and which begins with version 0 alone
 abbrev pub by_tree : Rules
-by_tree = record { reply = reply; after = after }
+by_tree = by_tree_from (λ m. opening m.shape)
 
 -- the reply, if there is one
 abbrev pub answer_of : Rules → Meaning → History → Result (Option Command) LineFault → Option Reply

@@ -22,7 +22,7 @@ pub trait Session: Drop {
     /// What is held beside it, and handed in at each call.
     type Held;
 
-    /// How it answers commands.
+    /// How it answers commands, and the opening with which it begins.
     ghost rules: { Rules };
 
     /// The program whose commands it answers.
@@ -40,12 +40,12 @@ pub trait Session: Drop {
     /// The same after want of memory in the command before or behind this history.
     ghost breaks: { Meaning → Self.Held → History → Type 0 };
 
-    /// A session that stands for the history of its program before the first command. After `NoMemory` what is held is as
+    /// A session that stands for the history of its program before the first command, with the opening of its rules. After `NoMemory` what is held is as
     /// before.
     fn begin(alloc: Global, program: Program, held: &mut Self::Held) -> Result<Self, NoMemory>
         requires typed { IsTyped (routines_of program) }
         requires fresh { fresh held.old }
-        ensures stands { IfOk result (λ session. stands session held.new (meaning_of program) (first_history (meaning_of program))) }
+        ensures stands { IfOk result (λ session. stands session held.new (meaning_of program) (first_history rules (meaning_of program))) }
         ensures about { IfOk result (λ session. about session ≡ program) }
         ensures err { OnErr result (held.new ≡ held.old) };
 

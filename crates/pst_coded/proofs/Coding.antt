@@ -22,7 +22,7 @@ use Rattle.pst_history.specs.Direct.{direct, task_of, direct_call, procedure_num
 use Rattle.pst_history.proofs.DirectLemmas.{direct_is_lawful, direct_reads_only}
 use Rattle.pst_coded.specs.Coded.{code_number, code_call, code_parameters, IsMeaningOf, CompiledCodeMeansTheProgram}
 
-fits-length : (kinds : List Kind) (xs : List ℤ) → fits kinds xs ≡ true → length xs ≡ length kinds
+pub fits-length : (kinds : List Kind) (xs : List ℤ) → fits kinds xs ≡ true → length xs ≡ length kinds
 fits-length [] [] e = refl
 fits-length [] (x ∷ xs) e = absurd (cc)
 fits-length (Int ∷ kinds) [] e = absurd (cc)

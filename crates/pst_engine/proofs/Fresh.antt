@@ -28,6 +28,8 @@ use Rattle.pst_runs.specs.Runs.{Runs}
 use Rattle.pst_active.specs.Stands.{StandsFor}
 use Rattle.pst_engine.specs.Stands.{IsOpeningHeap, opening_of, row_of, IsStartedHeap}
 use Rattle.pst_engine.proofs.Commands.{get-drop}
+use Rattle.pst_script.specs.declared.numerals.TheConstants.{MOST_CHARGES}
+use Rattle.pst_history.specs.declared.history.TheConstants.{BUDGET, RUNS}
 
 -- the root record is the only one in the heap that a script begins with
 get-initial : (shape : List TypeShape) (q : Name) → q ≢ root_name → get (initial_heap shape) q ≡ None
@@ -51,7 +53,7 @@ drop_one : {X : Type 0} (xs : List X) → 0 < length xs → length (drop 1 xs) +
 drop_one [] less = absurd (omega arith)
 drop_one (x ∷ xs) less = omega arith
 
-module _ {P R : Type 0} (m : Meaning) (law : IsLawful m) (s : State P R) (sound : IsSound s) (known : IsVersioned s) (next budget : ℕ) (is : IsOpeningHeap m s next) (low : 0 < next) (high : next ≤ 1048577) (some : 0 < budget) (most : budget ≤ 1000000000) where
+module _ {P R : Type 0} (m : Meaning) (law : IsLawful m) (s : State P R) (sound : IsSound s) (known : IsVersioned s) (next budget : ℕ) (is : IsOpeningHeap m s next) (low : 0 < next) (high : next ≤ RUNS + 1) (some : 0 < budget) (most : budget ≤ MOST_CHARGES) where
   pub opening-is : IsOpening m (opening_of s next budget)
   opening-is =
       let all : length (map (λ (row : VersionRow P). s.heap row.place) s.versions) ≡ length s.versions = length-map s.versions (λ (row : VersionRow P). s.heap row.place) in
@@ -71,6 +73,14 @@ module _ {P R : Type 0} (m : Meaning) (law : IsLawful m) (s : State P R) (sound 
             let there : slice_get s.versions (i + 1) ≡ Some w.0 = sym (get-drop s.versions i) ∙ w.1 in
             let Q : Descent → Type 0 = λ x. x.parent.0 ≤ i in
             subst Q w.2 (sound.parents i w.0 there);
+        runs = λ i v q.
+            let w = mapped row_of (drop 1 s.versions) i v q in
+            let Q : Descent → Type 0 = λ x. (0 < x.run.0) × (x.run.0 < next) in
+            subst Q w.2 (is.runs i w.0 (sym (get-drop s.versions i) ∙ w.1));
+        apart = λ i j v w p q same.
+            let a = mapped row_of (drop 1 s.versions) i v p in
+            let b = mapped row_of (drop 1 s.versions) j w q in
+            is.apart i j a.0 b.0 (sym (get-drop s.versions i) ∙ a.1) (sym (get-drop s.versions j) ∙ b.1) (ap (λ x. x.run) a.2 ∙ same ∙ ap (λ x. x.run) (sym b.2));
         heaps = λ k heap q.
             let w = mapped (λ (row : VersionRow P). s.heap row.place) s.versions k heap q in
             let has = (known.places k w.0 w.1).has in
@@ -118,12 +128,21 @@ module _ {P R : Type 0} (m : Meaning) (law : IsLawful m) (s : State P R) (sound 
 
 -- ---- a heap as it is started
 
+-- it has no version after 0
+none_behind : {P R : Type 0} (m : Meaning) (s : State P R) → IsStartedHeap m s → (v : ℕ) (row : VersionRow P) → slice_get s.versions (v + 1) ≡ Some row → ⊥
+none_behind m s is v row e =
+    let one : length s.versions ≡ 1 = ap (λ rows. length rows) is.versions in
+    let within = slice_get_within s.versions (v + 1) row e in
+    omega arith
+
 pub started-opens : {P R : Type 0} (m : Meaning) → IsLawful m → (s : State P R) → IsStartedHeap m s → IsOpeningHeap m s 1
 started-opens {P = P} m law s is = record {
   shape = is.shape;
   older = λ p has. let Q : Heap → Type 0 = λ y. IsOlder y 1 in subst Q (sym is.heap ∙ ap s.heap (sym (is.only p has))) (initial-before m law).older;
   rooted = λ q zero other. record { fresh = λ p has. ap (λ (z : P). get (s.heap z) q) (is.only p has) ∙ ap (λ y. get y q) is.heap ∙ get-initial m.shape q other };
   some = let one : length s.versions ≡ 1 = ap (λ rows. length rows) is.versions in omega arith;
+  runs = λ v row e. absurd (none_behind m s is v row e);
+  apart = λ v w a b e f same. absurd (none_behind m s is v a e);
   calls = let none = is.calls in let unspent = is.spent in omega arith;
   counts =
       let r : s.counts.records ≡ 1 = ap (λ c. c.records) is.counts in
@@ -132,8 +151,8 @@ started-opens {P = P} m law s is = record {
       record { records = omega arith; pointer_writes = omega arith; value_writes = omega arith };
 }
 
-pub started-opening : {P R : Type 0} (m : Meaning) (s : State P R) → IsStartedHeap m s → opening_of s 1 1000000 ≡ opening m.shape
+pub started-opening : {P R : Type 0} (m : Meaning) (s : State P R) → IsStartedHeap m s → opening_of s 1 BUDGET ≡ opening m.shape
 started-opening {P = P} m s is =
-    let one : opening_of s 1 1000000 ≡ record { versions = []; heaps = s.heap is.place ∷ []; next_run = 1; budget = 1000000; counts = s.counts } =
-    ap (λ (rows : List (VersionRow P)). record { versions = map row_of (drop 1 rows); heaps = map (λ (row : VersionRow P). s.heap row.place) rows; next_run = 1; budget = 1000000; counts = s.counts }) is.versions in
-    one ∙ ap (λ y. record { versions = []; heaps = y ∷ []; next_run = 1; budget = 1000000; counts = s.counts }) is.heap ∙ ap (λ c. record (opening m.shape) { counts = c }) is.counts
+    let one : opening_of s 1 BUDGET ≡ record { versions = []; heaps = s.heap is.place ∷ []; next_run = 1; budget = BUDGET; counts = s.counts } =
+    ap (λ (rows : List (VersionRow P)). record { versions = map row_of (drop 1 rows); heaps = map (λ (row : VersionRow P). s.heap row.place) rows; next_run = 1; budget = BUDGET; counts = s.counts }) is.versions in
+    one ∙ ap (λ y. record { versions = []; heaps = y ∷ []; next_run = 1; budget = BUDGET; counts = s.counts }) is.heap ∙ ap (λ c. record (opening m.shape) { counts = c }) is.counts

@@ -1,5 +1,5 @@
 -- What an engine and a heap stand for: a history, of which neither keeps anything but what is here.
-use Rattle.std.specs.Prelude.{◌≡◌, ◌≢◌, ℕ, ◌+◌, ◌<◌, ◌^◌, List, ℤ, [], ◌∷◌, map, drop, None, IfSome, true, length, slice_get}
+use Rattle.std.specs.Prelude.{◌≡◌, ◌≢◌, ℕ, ◌+◌, ◌<◌, ◌^◌, List, ℤ, [], ◌∷◌, map, drop, None, Some, IfSome, true, length, slice_get}
 use Rattle.pst_base.specs.declared.names.RunNo.{RunNo}
 use Rattle.pst_base.specs.declared.names.Name.{Name}
 use Rattle.pst_base.specs.Name.{root_name}
@@ -78,12 +78,15 @@ pub record Wants {H P R : Type 0} (m : Meaning) (parts : Parts) (old : Engine H 
 -- ---- how an engine and a heap begin
 
 -- A heap with which an engine over this next run number stands for the opening that has the heap's versions, heaps and
--- counts: it has a version, no record has a run number from the next one on, and fewer forks were asked for.
+-- counts: it has a version, each further one has a run of its own, no record has a run number from the next one on, and fewer
+-- forks were asked for.
 pub record IsOpeningHeap {P R : Type 0} (m : Meaning) (s : State P R) (next : ℕ) : Type 0 where
   pub shape : s.shape ≡ m.shape
   pub older : (p : P) → s.has p → IsOlder (s.heap p) next
   pub rooted : (n : Name) → n.run.0 ≡ 0 → n ≢ root_name → IsFresh s n
   pub some : 0 < length s.versions
+  pub runs : (v : ℕ) (row : VersionRow P) → slice_get s.versions (v + 1) ≡ Some row → (0 < row.run.0) × (row.run.0 < next)
+  pub apart : (v w : ℕ) (a b : VersionRow P) → slice_get s.versions (v + 1) ≡ Some a → slice_get s.versions (w + 1) ≡ Some b → a.run ≡ b.run → v ≡ w
   pub calls : s.fork_calls + s.spent < next
   pub counts : CountsWithin s.counts (2 ^ 50)
 

@@ -1,11 +1,12 @@
 //! The session engine.
 
-ghost use Rattle.std.specs.Prelude.{◌≡◌, ◌<◌, ◌≤◌, [], false, true, IfOk, IsErr, OnErr};
+ghost use Rattle.std.specs.Prelude.{◌≡◌, ◌+◌, ◌<◌, ◌≤◌, [], false, true, IfOk, IsErr, OnErr};
 ghost use Rattle.pst_script.specs.Commands.{in_range};
 ghost use Rattle.pst_script.specs.declared.reply.Reply.TheVariants as answer;
 ghost use Rattle.pst_script.specs.declared.reply.Refusal.{Refusal};
 ghost use Rattle.pst_history.specs.Sound.{IsBudget};
 ghost use Rattle.pst_engine.specs.Stands.{Answers, MayApply, Wants};
+ghost use Rattle.pst_history.specs.declared.history.TheConstants.{BUDGET, RUNS};
 
 use crate::answer::answer;
 use pst_active::{Activations, refused};
@@ -36,7 +37,7 @@ impl<H: VersionedHeap> Engine<H> {
     /// no memory.
     pub fn new(alloc: Global) -> Engine<H>
         ensures failed { result.failed ≡ false }
-        ensures budget { result.budget ≡ 1000000 }
+        ensures budget { result.budget ≡ BUDGET }
         ensures next_run { result.next_run ≡ record { 0 = 1 } }
         ensures active { result.active.items.items ≡ [] }
     {
@@ -45,7 +46,7 @@ impl<H: VersionedHeap> Engine<H> {
 
     /// An engine with no open run, for an opening with this next run number and budget. It takes no memory.
     pub fn over(alloc: Global, next_run: RunNo, budget: u32) -> Engine<H>
-        requires next_run { (0 < next_run.0) × (next_run.0 ≤ 1048577) }
+        requires next_run { (0 < next_run.0) × (next_run.0 ≤ RUNS + 1) }
         requires budget { IsBudget budget }
         ensures failed { result.failed ≡ false }
         ensures budget { result.budget ≡ budget }

@@ -1,20 +1,22 @@
 //! How an engine and a heap begin, as laws.
 
-ghost use Rattle.std.specs.Prelude.{◌≡◌, ◌<◌, ◌≤◌, []};
+ghost use Rattle.std.specs.Prelude.{◌≡◌, ◌+◌, ◌<◌, ◌≤◌, []};
 ghost use Rattle.pst_history.specs.History.{begun, opening};
 ghost use Rattle.pst_history.specs.Sound.{IsBudget};
 ghost use Rattle.pst_engine.specs.Stands.{EngineStands, IsOpeningHeap, IsStartedHeap, opening_of};
+ghost use Rattle.pst_history.specs.declared.history.TheConstants.{BUDGET, RUNS};
 
 use crate::engine::Engine;
 use pst_coded::Meant;
 use pst_places::VersionedHeap;
 use pst_runs::known;
 
-/// An engine without open runs and a heap, in which no record has a run number from the engine's next one on, stand for the
-/// opening that has the heap's versions, heaps and counts, with no run since.
+/// An engine without open runs and a heap, whose versions have runs of their own below the engine's next run number and in which
+/// no record has a run number from that one on, stand for the opening that has the heap's versions, heaps and counts, with no run
+/// since.
 pub fn an_opening_stands<H: VersionedHeap, C: Meant>(code: &C, heap: &H, engine: &Engine<H>)
     requires idle { engine.now.active.items.items ≡ [] }
-    requires next_run { (0 < engine.now.next_run.0) × (engine.now.next_run.0 ≤ 1048577) }
+    requires next_run { (0 < engine.now.next_run.0) × (engine.now.next_run.0 ≤ RUNS + 1) }
     requires budget { IsBudget engine.now.budget }
     requires heap { IsOpeningHeap (C.meaning code.now) (H.state heap.now) engine.now.next_run.0 }
     ensures { EngineStands (C.meaning code.now) (C.parts code.now) engine.now (H.state heap.now) (begun (opening_of (H.state heap.now) engine.now.next_run.0 engine.now.budget)) }
@@ -26,7 +28,7 @@ pub fn an_opening_stands<H: VersionedHeap, C: Meant>(code: &C, heap: &H, engine:
 
 /// A new engine and a heap as it is started stand for the opening of `run`.
 pub fn a_new_engine_stands<H: VersionedHeap, C: Meant>(code: &C, heap: &H, engine: &Engine<H>)
-    requires new { (engine.now.active.items.items ≡ []) × (engine.now.next_run.0 ≡ 1) × (engine.now.budget ≡ 1000000) }
+    requires new { (engine.now.active.items.items ≡ []) × (engine.now.next_run.0 ≡ 1) × (engine.now.budget ≡ BUDGET) }
     requires heap { IsStartedHeap (C.meaning code.now) (H.state heap.now) }
     ensures { EngineStands (C.meaning code.now) (C.parts code.now) engine.now (H.state heap.now) (begun (opening (C.meaning code.now).shape)) }
 {

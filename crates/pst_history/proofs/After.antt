@@ -28,10 +28,12 @@ use Rattle.std.proofs.Common.{append-nil}
 use Rattle.pst_history.proofs.Lists.{slice_get-before, slice_get-of_append}
 use Rattle.pst_history.proofs.Heaps.{heap_of-more}
 use Rattle.pst_history.proofs.Sums.{unit_of}
-use Rattle.pst_history.proofs.Steps.{IsRestated, restated, restated-sound, heap_of-restated, counts_of-restated, opened-sound, heap_of-opened, counts_of-opened, IsPublishable, published, published-sound, counts_of-published, run-sound}
+use Rattle.pst_history.proofs.Steps.{IsRestated, restated, restated-sound, heap_of-restated, counts_of-restated, opened-sound, heap_of-opened, counts_of-opened, IsPublishable, published, published-sound, counts_of-published, run-sound, not_open}
 use Rattle.pst_history.proofs.Numbered.{numbered-same, numbered-length, numbered-count, numbered-last}
 use Rattle.pst_history.proofs.Sound.{run-ready}
 use Rattle.pst_history.proofs.Refusals.{first-none, accepted, accepted_kinds, there, has_room, has_calls, accepted_run, IsOpenRun}
+use Rattle.pst_script.specs.declared.numerals.TheConstants.{MOST_CHARGES}
+use Rattle.pst_history.specs.declared.history.TheConstants.{RUNS, CALLS}
 
 -- what any change keeps: the versions' heaps, and no count falls
 pub record Extends (m : Meaning) (old new : History) : Type 0 where
@@ -62,7 +64,7 @@ extends-trans m a b c p q =
 pub extends-refl : (m : Meaning) (h : History) → IsSoundHistory m h → Extends m h h
 extends-refl m h sound = record { sound = sound; versions = omega arith; rows = λ i v e. e; heaps = λ k le. refl; counts = counts_same (counts_of m h) (counts_of m h) refl }
 
-pub opened-extends : (m : Meaning) (h : History) (version : VersionNo) (calls : List NamedCall) → IsSoundHistory m h → next_run h < 1048577 → version.0 < version_count h → length calls ≤ 1024 → AllFit m.proc calls → Extends m h (opened h version calls)
+pub opened-extends : (m : Meaning) (h : History) (version : VersionNo) (calls : List NamedCall) → IsSoundHistory m h → next_run h < RUNS + 1 → version.0 < version_count h → length calls ≤ CALLS → AllFit m.proc calls → Extends m h (opened h version calls)
 opened-extends m h version calls sound room there few fits =
     let n = run_counts m h (next_run h) (new_run h version calls) in
     let e : counts_of m (opened h version calls) ≡ counts_plus (counts_of m h) n = counts_of-opened m h version calls sound in
@@ -157,7 +159,7 @@ same_calls m h n old new sound found is_so parent calls budget granted more =
       more = more;
       added = [];
       calls = calls ∙ sym (append-nil old.calls);
-      few = let P : List NamedCall → Type 0 = λ x. length x ≤ 1024 in subst P (sym calls) mine.few;
+      few = let P : List NamedCall → Type 0 = λ x. length x ≤ CALLS in subst P (sym calls) mine.few;
       fits = let P : List NamedCall → Type 0 = λ x. AllFit m.proc x in subst P (sym calls) mine.fits;
     }
 
@@ -175,7 +177,7 @@ granting m h n r charges sound e t =
     let le = run-granted m h n r sound e in
     same_calls m h n r (granted_more charges r) sound e t refl refl refl (min-le_right (r.granted + charges) r.budget) (omega arith)
 
-pub calling : (m : Meaning) (h : History) (n : ℕ) (r : Run) (c : NamedCall) → IsSoundHistory m h → run_at h n ≡ Some r → is_open r ≡ true → length r.calls < 1024 → IsTrue (fits_one (m.proc c.procedure) c.arguments) → IsRestated m h n r (called_more c r)
+pub calling : (m : Meaning) (h : History) (n : ℕ) (r : Run) (c : NamedCall) → IsSoundHistory m h → run_at h n ≡ Some r → is_open r ≡ true → length r.calls < CALLS → IsTrue (fits_one (m.proc c.procedure) c.arguments) → IsRestated m h n r (called_more c r)
 calling m h n r c sound e t room fits =
     let mine = run-sound m h sound n r e in
     let one : length (r.calls ++ c ∷ []) ≡ length r.calls + 1 = length-append r.calls (c ∷ []) in
@@ -200,7 +202,7 @@ closed-publishable m h n r sound e t =
     let one : unit_of (is_open r) ≡ 1 = ap unit_of t in
     let count : count_by is_open runs + unit_of (is_open r) ≡ count_by is_open h.runs + 0 = numbered-count first h.runs is_open n r (closed_run r) e in
     let few = sound.few_versions in
-    record { found = numbered-same first h.runs n r (closed_run r) e; closed = refl; room = omega arith }
+    record { found = numbered-same first h.runs n r (closed_run r) e; closed = refl; room = omega arith; new = not_open m h n r sound e t }
 
 pub closed-extends : (m : Meaning) → IsLawful m → (h : History) (n : ℕ) (r : Run) → IsSoundHistory m h → run_at h n ≡ Some r → is_open r ≡ true → Extends m h (closed m h n)
 closed-extends m law h n r sound e t =
@@ -260,9 +262,9 @@ both false b e = absurd (cc)
 
 is_budget : (charges : ℕ) → fits_charges charges ≡ true → IsBudget charges
 is_budget charges e =
-    let two = both (nat_le 1 charges) (nat_le charges 1000000000) e in
+    let two = both (nat_le 1 charges) (nat_le charges MOST_CHARGES) e in
     let least : 1 ≤ charges = leb-true 1 charges two.0 in
-    (omega arith, leb-true charges 1000000000 two.1)
+    (omega arith, leb-true charges MOST_CHARGES two.1)
 
 in_range-budget : (c : Command) → in_range c ≡ true → SetsBudget c
 in_range-budget (command.Run call) e = tt
@@ -313,7 +315,7 @@ extends-with m law h (command.DropRun run) given sound e =
 extends-with m law h (command.Budget charges) given sound e =
     let kept = budget-keeps m h charges in
     record {
-      sound = record { start = sound.start; budget = given; few = sound.few; few_versions = sound.few_versions; runs = sound.runs; versions = sound.versions };
+      sound = record { start = sound.start; budget = given; few = sound.few; few_versions = sound.few_versions; runs = sound.runs; versions = sound.versions; apart = sound.apart };
       versions = omega arith;
       rows = kept.rows;
       heaps = kept.heaps;
@@ -361,7 +363,7 @@ pub begun-sound : (m : Meaning) (o : Opening) → IsOpening m o → IsSoundHisto
 begun-sound m o is =
     let few = is.few in
     let versions = is.few_versions in
-    record { start = is; budget = is.budget; few = omega arith; few_versions = omega arith; runs = λ i r e. absurd (cc); versions = λ i v e. absurd (cc) }
+    record { start = is; budget = is.budget; few = omega arith; few_versions = omega arith; runs = λ i r e. absurd (cc); versions = λ i v e. absurd (cc); apart = λ i j v w e f same. absurd (cc) }
 
 after_all-sound : (m : Meaning) → IsLawful m → (h : History) (commands : List Command) → All (λ c. in_range c ≡ true) commands → IsSoundHistory m h → IsSoundHistory m (after_all m h commands)
 after_all-sound m law h [] given sound = sound

@@ -25,6 +25,7 @@ use Rattle.pst_history.proofs.Sound.{heap-before, next-before, get_or-is, openin
 use Rattle.pst_history.proofs.After.{after-sound, after-keeps, history-sound, begun-sound}
 use Rattle.pst_history.proofs.Room.{counts-few}
 use Rattle.pst_history.proofs.Apart.{few-open, apart-after}
+use Rattle.pst_history.specs.declared.history.TheConstants.{RUNS, OPEN_RUNS}
 
 -- ---- refusals
 
@@ -117,10 +118,10 @@ call-other : (h : History) (kinds : Option (List Kind)) (call : Call) → IsOthe
 call-other h kinds call = first-other (kinds_refusal kinds call.arguments) (version_refusal h call.version) (kinds-other kinds call.arguments) (version-other h call.version)
 
 runs-other : (h : History) → IsOther (runs_refusal h)
-runs-other h = when-other (nat_lt 1048576 (next_run h)) because.Runs ((λ e. cc), (λ e. cc))
+runs-other h = when-other (nat_lt RUNS (next_run h)) because.Runs ((λ e. cc), (λ e. cc))
 
 open-other : (h : History) → IsOther (open_refusal h)
-open-other h = when-other (nat_le 64 (count_by is_open h.runs)) because.RunsOpen ((λ e. cc), (λ e. cc))
+open-other h = when-other (nat_le OPEN_RUNS (count_by is_open h.runs)) because.RunsOpen ((λ e. cc), (λ e. cc))
 
 run-other : (h : History) (run : RunNo) → IsOther (run_refusal h run)
 run-other h run = when-other (not (is_open_run (run_at h run.0))) because.Run ((λ e. cc), (λ e. cc))

@@ -8,6 +8,7 @@ pub mod Refusals
 pub mod After
 pub mod Room
 pub mod Apart
+pub mod OwnRuns
 pub mod Accepting
 pub mod LawLemmas
 pub mod DirectLemmas

@@ -7,6 +7,7 @@ use Rattle.pst_history.specs.History.{work_of, heap_of, total_counts, run_counts
 use Rattle.pst_history.specs.Laws.{CountsAreFew}
 use Rattle.pst_history.proofs.Numbered.{numbered-is}
 use Rattle.pst_history.proofs.Sound.{run-ready}
+use Rattle.pst_script.specs.declared.numerals.TheConstants.{MOST_CHARGES}
 
 few-counted : (f : ℕ → Run → Counts) (b n : ℕ) (runs : List Run) → ((i : ℕ) (r : Run) → slice_get runs i ≡ Some r → CountsWithin (f (n + i) r) b) → CountsWithin (total_counts f n runs) (length runs * b)
 few-counted f b n [] few = record { records = omega arith; pointer_writes = omega arith; value_writes = omega arith }
@@ -20,7 +21,7 @@ pub counts-few : CountsAreFew
 unfolding counts_of
 counts-few m law h sound =
     let first = h.start.next_run in
-    let all : CountsWithin (total_counts (run_counts m h) first h.runs) (length h.runs * 1000000000) = few-counted (run_counts m h) 1000000000 first h.runs (λ i r e.
+    let all : CountsWithin (total_counts (run_counts m h) first h.runs) (length h.runs * MOST_CHARGES) = few-counted (run_counts m h) MOST_CHARGES first h.runs (λ i r e.
     let most = (sound.runs i r e).budget.1 in
     let few = law.few (work_of (first + i) r) r.granted (heap_of m h r.parent.0) (run-ready m law h sound (first + i) r (numbered-is first h.runs i ∙ e)) in
     record { records = omega (arith, few.records, most); pointer_writes = omega (arith, few.pointer_writes, most); value_writes = omega (arith, few.value_writes, most) }) in

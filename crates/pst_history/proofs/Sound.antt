@@ -115,6 +115,8 @@ opening-sound m law = record {
   same = refl;
   few_versions = omega arith;
   parents = λ i v e. absurd (cc);
+  runs = λ i v e. absurd (cc);
+  apart = λ i j v w e f same. absurd (cc);
   heaps = λ k heap e. only k heap e;
 }
   where

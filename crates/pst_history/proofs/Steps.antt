@@ -17,6 +17,7 @@ use Rattle.pst_history.proofs.Heaps.{heap_of-same, heap_of-more}
 use Rattle.pst_base.proofs.CountLemmas.{counts_plus-assoc}
 use Rattle.pst_history.proofs.Sums.{counted-append, counted-same, count_by-more, unit_of}
 use Rattle.pst_history.proofs.Numbered.{at-number, numbered-within, numbered-before, numbered-append, numbered-other, numbered-length, numbered-of, numbered-count, numbered-sum, numbered-is, index-below}
+use Rattle.pst_history.specs.declared.history.TheConstants.{RUNS, CALLS}
 
 -- ---- makers
 
@@ -52,7 +53,7 @@ heap_of-opened m h version calls k sound =
     let s = sound.versions i v e in
     ap (λ o. made_by m v.run.0 o x) (numbered-before h.start.next_run h.runs (new_run h version calls) v.run.0 s.run s.found ∙ sym s.found))
 
-pub opened-sound : (m : Meaning) (h : History) (version : VersionNo) (calls : List NamedCall) → IsSoundHistory m h → next_run h < 1048577 → version.0 < version_count h → length calls ≤ 1024 → AllFit m.proc calls → IsSoundHistory m (opened h version calls)
+pub opened-sound : (m : Meaning) (h : History) (version : VersionNo) (calls : List NamedCall) → IsSoundHistory m h → next_run h < RUNS + 1 → version.0 < version_count h → length calls ≤ CALLS → AllFit m.proc calls → IsSoundHistory m (opened h version calls)
 opened-sound m h version calls sound room there few fits =
     let x = new_run h version calls in
     let one : length (h.runs ++ x ∷ []) ≡ length h.runs + 1 = length-append h.runs (x ∷ []) in
@@ -68,6 +69,7 @@ opened-sound m h version calls sound room there few fits =
         | inr q ↦ let P : Run → Type 0 = λ r. IsSoundRun m h.start h.versions (h.start.next_run + i) r in subst P (sym q.1) (let below = made_below-next m h sound version.0 in record { budget = sound.budget; granted = omega arith; version = there; older = omega (arith, q.0, below); few = few; fits = fits })
       ];
       versions = λ i v e. let s = sound.versions i v e in record { parent = s.parent; run = s.run; found = numbered-before h.start.next_run h.runs x v.run.0 s.run s.found; same = s.same; closed = s.closed };
+      apart = sound.apart;
     }
 
 pub counts_of-opened : (m : Meaning) (h : History) (version : VersionNo) (calls : List NamedCall) → IsSoundHistory m h → counts_of m (opened h version calls) ≡ counts_plus (counts_of m h) (run_counts m h (next_run h) (new_run h version calls))
@@ -92,7 +94,7 @@ pub record IsRestated (m : Meaning) (h : History) (n : ℕ) (old new : Run) : Ty
   pub more : old.granted ≤ new.granted
   pub added : List NamedCall
   pub calls : new.calls ≡ old.calls ++ added
-  pub few : length new.calls ≤ 1024
+  pub few : length new.calls ≤ CALLS
   pub fits : AllFit m.proc new.calls
 
 abbrev pub restated : History → ℕ → Run → History
@@ -141,6 +143,7 @@ restated-sound m h n old new sound step =
             })
       ];
       versions = λ i v e. let s = sound.versions i v e in record { parent = s.parent; run = s.run; found = numbered-other first h.runs n v.run.0 new (not_open m h n old sound step.found step.was_open i v e) ∙ s.found; same = s.same; closed = s.closed };
+      apart = sound.apart;
     }
 
 pub counts_of-restated : (m : Meaning) (h : History) (n : ℕ) (old new : Run) → IsSoundHistory m h → IsRestated m h n old new → counts_plus (counts_of m (restated h n new)) (run_counts m h n old) ≡ counts_plus (counts_of m h) (run_counts m h n new)
@@ -163,6 +166,7 @@ pub record IsPublishable (h : History) (n : ℕ) (r : Run) : Type 0 where
   pub found : run_at h n ≡ Some r
   pub closed : r.state ≡ Closed
   pub room : version_count h + count_by is_open h.runs < next_run h
+  pub new : (i : ℕ) (v : Descent) → slice_get h.versions i ≡ Some v → v.run.0 ≢ n
 
 pub run-sound : (m : Meaning) (h : History) → IsSoundHistory m h → (n : ℕ) (r : Run) → run_at h n ≡ Some r → IsSoundRun m h.start h.versions n r
 run-sound m h sound n r e =
@@ -193,6 +197,16 @@ published-sound m h n r sound step =
       versions = λ i x e. elim (slice_get-of_append h.versions v x i e) as (λ _. IsSoundVersion h.start h.runs (length h.start.heaps + i) x) [
         | inl q ↦ sound.versions i x q
         | inr q ↦ let P : Descent → Type 0 = λ y. IsSoundVersion h.start h.runs (length h.start.heaps + i) y in subst P (sym q.1) (let there = mine.version in record { parent = omega (arith, q.0, there); run = r; found = step.found; same = refl; closed = step.closed })
+      ];
+      apart = λ i j x y e f same. elim (slice_get-of_append h.versions v x i e) as (λ _. i ≡ j) [
+        | inl p ↦ elim (slice_get-of_append h.versions v y j f) as (λ _. i ≡ j) [
+          | inl q ↦ sound.apart i j x y p q same
+          | inr q ↦ absurd (step.new i x p (ap (λ z. z.0) same ∙ ap (λ z. z.run.0) q.1))
+        ]
+        | inr p ↦ elim (slice_get-of_append h.versions v y j f) as (λ _. i ≡ j) [
+          | inl q ↦ absurd (step.new j y q (ap (λ z. z.0) (sym same) ∙ ap (λ z. z.run.0) p.1))
+          | inr q ↦ p.0 ∙ sym q.0
+        ]
       ];
     }
 

@@ -29,6 +29,7 @@ use Rattle.pst_history.specs.declared.history.Since.{Since}
 use Rattle.pst_program.specs.Outcome.{Outcome, no_counts}
 use Rattle.pst_base.specs.Counts.{counts_plus}
 use Rattle.pst_history.specs.Meaning.{Meaning, Work, when, kinds_refusal}
+use Rattle.pst_history.specs.declared.history.TheConstants.{BUDGET, RUNS, OPEN_RUNS, CALLS}
 
 -- ---- openings
 
@@ -43,7 +44,7 @@ pub record Opening : Type 0 where
 
 -- that of `run` and `replay`: version 0 alone with the root record, which is counted
 abbrev pub opening : (shape : List TypeShape) → Opening
-opening shape = record { versions = []; heaps = initial_heap shape ∷ []; next_run = 1; budget = 1000000; counts = record { records = 1; pointer_writes = 0; value_writes = 0 } }
+opening shape = record { versions = []; heaps = initial_heap shape ∷ []; next_run = 1; budget = BUDGET; counts = record { records = 1; pointer_writes = 0; value_writes = 0 } }
 
 -- an opening, with the budget that stands and the runs and versions since
 pub record History : Type 0 where
@@ -160,11 +161,11 @@ call_refusal h kinds call = first (kinds_refusal kinds call.arguments) (version_
 
 -- as many run numbers are taken as there are
 abbrev pub runs_refusal : History → Option Refusal
-runs_refusal h = when (nat_lt 1048576 (next_run h)) because.Runs
+runs_refusal h = when (nat_lt RUNS (next_run h)) because.Runs
 
 -- as many runs are open as may be
 abbrev pub open_refusal : History → Option Refusal
-open_refusal h = when (nat_le 64 (count_by is_open h.runs)) because.RunsOpen
+open_refusal h = when (nat_le OPEN_RUNS (count_by is_open h.runs)) because.RunsOpen
 
 -- no open run has the number
 abbrev pub run_refusal : History → RunNo → Option Refusal
@@ -173,7 +174,7 @@ run_refusal h run = when (not (is_open_run (run_at h run.0))) because.Run
 -- the run has as many calls as may be
 abbrev pub is_full_run : Option Run → Bool
 is_full_run None = false
-is_full_run (Some r) = nat_le 1024 (length r.calls)
+is_full_run (Some r) = nat_le CALLS (length r.calls)
 
 abbrev pub calls_refusal : History → RunNo → Option Refusal
 calls_refusal h run = when (is_full_run (run_at h run.0)) because.Calls

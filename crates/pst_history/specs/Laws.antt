@@ -1,5 +1,5 @@
 -- What holds of every history, of any program.
-use Rattle.std.specs.Prelude.{◌≡◌, ◌≢◌, ℕ, ◌+◌, ◌<◌, ◌≤◌, ◌^◌, length, Option, Some, None, count_by, slice_get, true}
+use Rattle.std.specs.Prelude.{◌≡◌, ◌≢◌, ℕ, ◌+◌, ◌<◌, ◌≤◌, ◌^◌, ◌++◌, length, Option, Some, None, count_by, slice_get, true}
 use Rattle.pst_base.specs.declared.names.RunNo.{RunNo}
 use Rattle.pst_base.specs.Heap.{Heap}
 use Rattle.pst_script.specs.declared.command.Call.{Call}
@@ -18,7 +18,8 @@ use Rattle.pst_base.specs.Shape.{IsValid}
 use Rattle.pst_program.specs.Syntax.{Routines}
 use Rattle.pst_program.specs.Typed.{IsTyped}
 use Rattle.pst_history.specs.Direct.{direct}
-use Rattle.pst_history.specs.Sound.{IsOpening, IsSoundHistory, IsBefore, made_below}
+use Rattle.pst_history.specs.Sound.{IsOpening, IsSoundHistory, IsBefore, HaveOwnRuns, HaveRunsBelow, made_below}
+use Rattle.pst_history.specs.declared.history.TheConstants.{OPEN_RUNS}
 
 -- a refused command is answered by its refusal and changes nothing
 abbrev pub RefusedChangesNothing : Type 0
@@ -54,7 +55,7 @@ SoundHistoriesGoOn = (m : Meaning) → IsLawful m → ((o : Opening) → IsOpeni
 
 -- at most 64 runs are open
 abbrev pub FewRunsAreOpen : Type 0
-FewRunsAreOpen = (m : Meaning) (o : Opening) (h : History) → IsHistory m o h → count_by is_open h.runs ≤ 64
+FewRunsAreOpen = (m : Meaning) (o : Opening) (h : History) → IsHistory m o h → count_by is_open h.runs ≤ OPEN_RUNS
 
 -- the open run that a command names
 abbrev pub named_run : Command → Option RunNo
@@ -105,6 +106,14 @@ pub record VersionsAreMade (m : Meaning) (h : History) : Type 0 where
 
 abbrev pub VersionIsMadeByItsRun : Type 0
 VersionIsMadeByItsRun = (m : Meaning) (h : History) → IsSoundHistory m h → VersionsAreMade m h
+
+-- all versions after 0, those of the opening among them: each has a run of its own, which took its number
+pub record OwnRuns (h : History) : Type 0 where
+  pub below : HaveRunsBelow (h.start.versions ++ h.versions) (next_run h)
+  pub apart : HaveOwnRuns (h.start.versions ++ h.versions)
+
+abbrev pub VersionsHaveOwnRuns : Type 0
+VersionsHaveOwnRuns = (m : Meaning) (h : History) → IsSoundHistory m h → OwnRuns h
 
 -- the heap of each version is well formed, and none of its records is of a later run than the version's own
 pub record IsAged (m : Meaning) (h : History) (k : ℕ) : Type 0 where

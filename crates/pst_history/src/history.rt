@@ -73,7 +73,7 @@ pub struct Since {
 impl Since {
     /// Nothing since the opening of `run`. It takes no memory.
     pub fn nothing(alloc: Global) -> Since
-        ensures budget { result.budget ≡ 1000000 }
+        ensures budget { result.budget ≡ BUDGET }
         ensures runs { result.runs ≡ [] }
         ensures versions { result.versions ≡ [] }
     {

@@ -1,7 +1,18 @@
 //! What holds of every history, whatever the program. These functions have no code: each is a fact for those who build on
 //! the definitions. That a command has one reply, and a history one heap of each version, is because both are functions.
 
-ghost use Rattle.pst_history.specs.Laws.{RefusedChangesNothing, OnlyRefusedAreRefused, ReadersChangeNothing, RefusalsAreOfCommands, HistoriesAreSound, HistoriesGoOn, OpeningIsSound, SoundHistoriesGoOn, FewRunsAreOpen, RunsKeepApart, OldVersionsKeepTheirHeaps, CountsNeverFall, CountsAreFew, VersionIsMadeByItsRun, HeapsAreWellFormed, DirectIsLawful, DirectReadsOnly};
+ghost use Rattle.pst_history.specs.Laws.{RefusedChangesNothing, OnlyRefusedAreRefused, ReadersChangeNothing, RefusalsAreOfCommands, HistoriesAreSound, HistoriesGoOn, OpeningIsSound, SoundHistoriesGoOn, FewRunsAreOpen, RunsKeepApart, OldVersionsKeepTheirHeaps, CountsNeverFall, CountsAreFew, VersionIsMadeByItsRun, VersionsHaveOwnRuns, HeapsAreWellFormed, DirectIsLawful, DirectReadsOnly};
+ghost use Rattle.pst_history.specs.declared.history.TheConstants.{BUDGET, RUNS, OPEN_RUNS, CALLS};
+ghost use Rattle.std.specs.Prelude.{◌≡◌};
+
+/// The limits of a history in digits: the budget that stands at first, the most run numbers, the most open runs, and the most
+/// calls of a run.
+pub fn limits_in_digits()
+    ensures budget { BUDGET ≡ 1000000 }
+    ensures runs { RUNS ≡ 1048576 }
+    ensures open { OPEN_RUNS ≡ 64 }
+    ensures calls { CALLS ≡ 1024 }
+{}
 
 /// A refused command is answered by its refusal, and changes nothing.
 pub fn refused_changes_nothing()
@@ -68,6 +79,11 @@ pub fn counts_are_few()
 /// The heaps of the opening are given, and the heap of each further version is what its own run makes of its parent's.
 pub fn version_is_made_by_its_run()
     ensures { VersionIsMadeByItsRun }
+{}
+
+/// Each version after 0, also of the opening, was made by a run of its own, with a number from 1 to below the next.
+pub fn versions_have_own_runs()
+    ensures { VersionsHaveOwnRuns }
 {}
 
 /// The heap of each version is well formed, and none of its records bears the number of a later run than its own.

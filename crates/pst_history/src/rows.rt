@@ -5,6 +5,7 @@
 ghost use Rattle.std.specs.Prelude.{◌≡◌, ◌<◌, ◌≤◌, ◌-◌, ◌+◌, ◌∷◌, ◌++◌, [], length, map, min, IsSome, IfOk, OnOk, slice_get};
 ghost use Rattle.pst_history.specs.History.{numbered, called_more, granted_more, closed_run, dropped_run, call_of};
 ghost use Rattle.pst_history.specs.Since.{Opens, Changes};
+ghost use Rattle.pst_history.specs.declared.history.TheConstants.{RUNS};
 
 use crate::history::{Descent, NamedCall, NamedCalls, Run, RunState, Since};
 use pst_base::{NoMemory, Numbers, RunNo, Text, VersionNo};
@@ -39,7 +40,7 @@ pub fn run_of(history: &Since, number: RunNo) -> &Run
 
 /// The next run number, from 1 to 1,048,577. A query is given it too, but does not take it.
 pub fn next_number(history: &Since) -> RunNo
-    requires { length history.now.runs ≤ 1048576 }
+    requires { length history.now.runs ≤ RUNS }
     ensures { result.0 ≡ 1 + length history.now.runs }
 {
     RunNo(history.runs.items.len() as u32 + 1)
@@ -141,7 +142,7 @@ pub fn give_up(history: &mut Since, number: RunNo)
 /// Makes a version of a run that is done, on the heap of this parent, and gives its number, from 1 to 1,048,577. It errs only where
 /// no memory is left.
 pub fn publish(history: &mut Since, run: RunNo, parent: VersionNo) -> Result<VersionNo, NoMemory>
-    requires { length history.old.versions ≤ 1048576 }
+    requires { length history.old.versions ≤ RUNS }
     ensures number { IfOk result (λ version. version.0 ≡ 1 + length history.old.versions) }
     ensures made { OnOk result (history.new ≡ record history.old { versions = history.old.versions ++ record { run = run; parent = parent } ∷ [] }) }
 {

@@ -19,12 +19,13 @@ use Rattle.pst_active.specs.Refused.{runs_by}
 use Rattle.pst_linerun.specs.Linear.{old_refusal, line_refusal, line_answered, line_reply, line_after}
 use Rattle.pst_linerun.specs.Standing.{LineStands}
 use Rattle.pst_linerun.specs.Carried.{line_refusal_by}
+use Rattle.pst_history.specs.declared.history.TheConstants.{RUNS}
 
 pub told : (m : Meaning) (budget next : ℕ) (s : State LinePlace NodeId) (stored : Stored) (h : History) → LineStands m budget next s stored h → (c : Command) → line_refusal_by m s next c ≡ line_refusal m h c
 told m budget next s stored h stand (command.Run call) =
     let kinds = kinds_refusal (m.proc call.procedure) call.arguments in
     ap (λ n. first (first kinds (when (nat_le n call.version.0) because.Version)) (first (when (not (nat_eq (call.version.0 + 1) n)) because.Old) (runs_by next))) stand.versions.many
-    ∙ ap (λ n. first (call_refusal h (m.proc call.procedure) call) (first (old_refusal h call.version) (when (nat_lt 1048576 n) because.Runs))) stand.same_next
+    ∙ ap (λ n. first (call_refusal h (m.proc call.procedure) call) (first (old_refusal h call.version) (when (nat_lt RUNS n) because.Runs))) stand.same_next
 told m budget next s stored h stand (command.Query call) = ap (λ n. first (kinds_refusal (m.query call.procedure) call.arguments) (when (nat_le n call.version.0) because.Version)) stand.versions.many
 told m budget next s stored h stand (command.OpenRun call) = refl
 told m budget next s stored h stand (command.OpenEmpty version) = refl

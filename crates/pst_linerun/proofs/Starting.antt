@@ -14,6 +14,7 @@ use Rattle.pst_history.proofs.Sound.{opening-sound}
 use Rattle.pst_line.specs.declared.place.LinePlace.{LinePlace}
 use Rattle.pst_line.specs.Store.{Stored, IsChain, IsStarted, Means}
 use Rattle.pst_linerun.specs.Standing.{LineStands}
+use Rattle.pst_history.specs.declared.history.TheConstants.{BUDGET}
 
 first-heap : (m : Meaning) → heap_of m (begun (opening m.shape)) 0 ≡ initial_heap m.shape
 unfolding heaps_of
@@ -28,7 +29,7 @@ the-one : {X : Type 0} (x y : X) (k : ℕ) → slice_get (x ∷ []) k ≡ Some y
 the-one x y zero e = (refl, same_Some x y e)
 the-one x y (suc k) e = absurd (cc)
 
-pub started-stands : (m : Meaning) → IsLawful m → (s : State LinePlace NodeId) (stored : Stored) → Means s stored → IsChain s → IsStarted m.shape stored → LineStands m 1000000 1 s stored (begun (opening m.shape))
+pub started-stands : (m : Meaning) → IsLawful m → (s : State LinePlace NodeId) (stored : Stored) → Means s stored → IsChain s → IsStarted m.shape stored → LineStands m BUDGET 1 s stored (begun (opening m.shape))
 started-stands m law s stored means chain is =
     let row0 : VersionRow LinePlace = record { parent = record { 0 = 0 }; run = record { 0 = 0 }; place = record { stamp = 0 } } in
     let rows : s.versions ≡ row0 ∷ [] = means.versions ∙ is.rows in

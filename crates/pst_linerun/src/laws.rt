@@ -4,6 +4,7 @@ ghost use Rattle.std.specs.Prelude.{◌≡◌, false};
 ghost use Rattle.pst_history.specs.History.{begun, opening};
 ghost use Rattle.pst_line.specs.Store.{IsStarted};
 ghost use Rattle.pst_linerun.specs.Standing.{SessionStands};
+ghost use Rattle.pst_history.specs.declared.history.TheConstants.{BUDGET};
 
 use crate::session::LineSession;
 use pst_coded::Meant;
@@ -11,7 +12,7 @@ use pst_line::calls::LineCalls;
 
 /// A new session and a store as it is started stand for the opening of a script.
 pub fn a_new_session_stands<S: LineCalls, C: Meant>(code: &C, store: &S, session: &LineSession)
-    requires new { session.now ≡ record { failed = false; budget = 1000000; next_run = record { 0 = 1 } } }
+    requires new { session.now ≡ record { failed = false; budget = BUDGET; next_run = record { 0 = 1 } } }
     requires store { IsStarted (C.meaning code.now).shape (S.stored store.now) }
     ensures { SessionStands (C.meaning code.now) session.now (S.state store.now) (S.stored store.now) (begun (opening (C.meaning code.now).shape)) }
 {

@@ -5,6 +5,7 @@ ghost use Rattle.pst_script.specs.Commands.{in_range};
 ghost use Rattle.pst_script.specs.declared.reply.Reply.TheVariants as answer;
 ghost use Rattle.pst_script.specs.declared.reply.Refusal.{Refusal};
 ghost use Rattle.pst_linerun.specs.Carried.{Answers, MayApply, Wants};
+ghost use Rattle.pst_history.specs.declared.history.TheConstants.{BUDGET};
 
 use crate::answer::answer;
 use crate::refusal::refused;
@@ -29,7 +30,7 @@ pub struct LineSession {
 impl LineSession {
     /// A session for the opening of a script: the next run is 1, and 1,000,000 charges stand as budget. It takes no memory.
     pub fn new() -> LineSession
-        ensures { result ≡ record { failed = false; budget = 1000000; next_run = record { 0 = 1 } } }
+        ensures { result ≡ record { failed = false; budget = BUDGET; next_run = record { 0 = 1 } } }
     {
         LineSession {
             failed: false,

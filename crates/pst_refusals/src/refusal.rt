@@ -8,6 +8,7 @@ ghost use Rattle.pst_history.specs.Meaning.{when};
 ghost use Rattle.pst_history.specs.History.{call_refusal, first, is_full_run, is_open, is_open_run, numbered, refusal};
 ghost use Rattle.pst_history.specs.Direct.{meaning_of};
 ghost use Rattle.pst_history.specs.Since.{history_for};
+ghost use Rattle.pst_history.specs.declared.history.TheConstants.{OPEN_RUNS, RUNS};
 
 use crate::arguments::{proc_refused, query_refused};
 use pst_base::{RunNo, VersionNo};
@@ -49,7 +50,7 @@ fn is_open(run: &Run) -> bool
 
 /// Whether all run numbers are taken.
 fn runs_refused(history: &Since) -> Option<Refusal>
-    ensures { result ≡ when (nat_lt 1048576 (1 + length history.now.runs)) because.Runs }
+    ensures { result ≡ when (nat_lt RUNS (1 + length history.now.runs)) because.Runs }
 {
     if history.runs.items.len() >= RUNS {
         return Some(Refusal::Runs);
@@ -59,7 +60,7 @@ fn runs_refused(history: &Since) -> Option<Refusal>
 
 /// Whether as many runs are open as may be.
 fn open_refused(open_runs: usize) -> Option<Refusal>
-    ensures { result ≡ when (nat_le 64 open_runs) because.RunsOpen }
+    ensures { result ≡ when (nat_le OPEN_RUNS open_runs) because.RunsOpen }
 {
     if open_runs >= OPEN_RUNS {
         return Some(Refusal::RunsOpen);
@@ -98,7 +99,7 @@ fn call_refused(program: &Program, history: &Since, call: &Call) -> Option<Refus
 
 /// Whether a run can't be opened: its number, then how many runs are open.
 fn opening_refused(history: &Since, open_runs: usize) -> Option<Refusal>
-    ensures { result ≡ first (when (nat_lt 1048576 (1 + length history.now.runs)) because.Runs) (when (nat_le 64 open_runs) because.RunsOpen) }
+    ensures { result ≡ first (when (nat_lt RUNS (1 + length history.now.runs)) because.Runs) (when (nat_le OPEN_RUNS open_runs) because.RunsOpen) }
 {
     first_of(runs_refused(history), open_refused(open_runs))
 }

@@ -11,6 +11,7 @@ use Rattle.pst_history.proofs.Apart.{open_count, open_count-opened, open_count-c
 use Rattle.pst_history.specs.declared.history.Run.{Run}
 use Rattle.pst_history.specs.Sound.{IsSoundHistory}
 use Rattle.pst_replay.specs.Replay.{open_after}
+use Rattle.pst_history.specs.declared.history.TheConstants.{RUNS}
 
 -- a change of an open run that leaves it open
 still : (h : History) (n : ℕ) (f : Run → Run) (o : IsOpenRun h n) → is_open (f o.run) ≡ true → open_count h ≡ open_count (with_run h n f (run_at h n))
@@ -47,7 +48,7 @@ counted-after m h command.Versions e = refl
 counted-after m h command.Stats e = refl
 
 -- there are no more open runs than run numbers
-pub few-open_runs : (m : Meaning) (h : History) (open_runs : ℕ) → IsSoundHistory m h → open_runs ≡ open_count h → open_runs ≤ 1048577
+pub few-open_runs : (m : Meaning) (h : History) (open_runs : ℕ) → IsSoundHistory m h → open_runs ≡ open_count h → open_runs ≤ RUNS + 1
 few-open_runs m h open_runs sound e =
     let few = sound.few in
     let versions = sound.few_versions in

@@ -10,12 +10,13 @@ use Rattle.pst_history.specs.declared.history.Since.{Since}
 use Rattle.pst_history.specs.History.{History, begun, opening, refusal, answered, reply, since, unless_refused}
 use Rattle.pst_history.specs.Meaning.{Meaning}
 use Rattle.pst_history.proofs.LawLemmas.{only_refused_are_refused}
+use Rattle.pst_history.specs.declared.history.TheConstants.{BUDGET}
 
 -- nothing has happened
-pub begun_so : (s : Since) → s.budget ≡ 1000000 → s.runs ≡ [] → s.versions ≡ [] → (shape : List TypeShape) → since (opening shape) s ≡ begun (opening shape)
+pub begun_so : (s : Since) → s.budget ≡ BUDGET → s.runs ≡ [] → s.versions ≡ [] → (shape : List TypeShape) → since (opening shape) s ≡ begun (opening shape)
 begun_so s budget runs versions shape =
     let of : ℕ → List Run → List Descent → History = λ b rs vs. record { start = opening shape; budget = b; runs = rs; versions = vs } in
-    ap (λ b. of b s.runs s.versions) budget ∙ ap (λ rs. of 1000000 rs s.versions) runs ∙ ap (of 1000000 []) versions
+    ap (λ b. of b s.runs s.versions) budget ∙ ap (λ rs. of BUDGET rs s.versions) runs ∙ ap (of BUDGET []) versions
 
 -- what is not refused is not answered by a refusal
 pub accepted-other : (m : Meaning) (h : History) (c : Command) → refusal m h c ≡ None → (why : Refusal) → answered m h c ≡ answer.Refused why → ⊥

@@ -6,6 +6,7 @@ ghost use Rattle.pst_program.specs.Typed.{IsTyped};
 ghost use Rattle.pst_history.specs.History.{called_more, numbered};
 ghost use Rattle.pst_history.specs.Since.{Changes, Opens};
 ghost use Rattle.pst_replay.specs.Replay.{IsNumbered};
+ghost use Rattle.pst_history.specs.declared.history.TheConstants.{BUDGET};
 
 use crate::program::{numbered_call, numbered_calls};
 use pst_base::{Items, NoMemory, RunNo, VersionNo};
@@ -27,7 +28,7 @@ pub struct NumberedHistory {
 impl NumberedHistory {
     /// Nothing since the opening. It takes no memory.
     pub(crate) fn nothing(alloc: Global) -> NumberedHistory
-        ensures budget { result.since.budget ≡ 1000000 }
+        ensures budget { result.since.budget ≡ BUDGET }
         ensures runs { result.since.runs ≡ [] }
         ensures versions { result.since.versions ≡ [] }
         ensures calls { result.calls ≡ [] }

@@ -12,6 +12,7 @@ ghost use Rattle.pst_history.specs.History.{History, begun, opening, refusal, ch
 ghost use Rattle.pst_history.specs.Meaning.{Meaning};
 ghost use Rattle.pst_history.specs.Direct.{meaning_of};
 ghost use Rattle.pst_replay.specs.Replay.{Answers, MayApply, kept, kept_for, open_after};
+ghost use Rattle.pst_history.specs.declared.history.TheConstants.{RUNS};
 
 use crate::answer::answer;
 use crate::history::NumberedHistory;
@@ -35,7 +36,7 @@ pub struct Replayer {
 
 /// How many runs are open after a command that is not refused.
 fn open_after(open_runs: usize, line: &Command) -> usize
-    requires { open_runs ≤ 1048577 }
+    requires { open_runs ≤ RUNS + 1 }
     ensures { result ≡ open_after open_runs line.now }
 {
     match line {

@@ -11,6 +11,7 @@ ghost use Rattle.pst_history.specs.Sound.{IsSoundHistory};
 ghost use Rattle.pst_history.specs.Direct.{meaning_of};
 ghost use Rattle.pst_history.specs.Since.{Opens};
 ghost use Rattle.pst_replay.specs.Replay.{IsNumbered, TellsProgress, kept_for};
+ghost use Rattle.pst_history.specs.declared.history.TheConstants.{RUNS};
 
 use crate::history::NumberedHistory;
 use crate::path::outcome_under;
@@ -33,7 +34,7 @@ pub(crate) fn begin(
 ) -> Result<Reply, NoMemory>
     requires typed { IsTyped (routines_of program.now) }
     requires numbered { IsNumbered program.now history.old }
-    requires few { length history.old.since.runs ≤ 1048576 }
+    requires few { length history.old.since.runs ≤ RUNS }
     ensures number { IfOk result (λ r. r ≡ answer.Opened (record { 0 = 1 + length history.old.since.runs })) }
     ensures opens { OnOk result (Opens version calls history.old.since history.new.since) }
     ensures numbered { OnOk result (IsNumbered program.now history.new) }
@@ -111,7 +112,7 @@ fn finish(
     parent: VersionNo,
     outcome: Outcome,
 ) -> Result<Reply, NoMemory>
-    requires { length history.old.versions ≤ 1048576 }
+    requires { length history.old.versions ≤ RUNS }
     ensures reply { IfOk result (λ r. r ≡ ended (1 + length history.old.versions) outcome.printed outcome.ended) }
     ensures version { OnOk result ((shape : List TypeShape) → since (opening shape) history.new ≡ with_version (since (opening shape) history.old) number.0 parent outcome.ended) }
 {

@@ -4,6 +4,7 @@ use Rattle.std.specs.Option.{option_map}
 use Rattle.std.specs.Char.{is_ascii_digit}
 use Rattle.std.specs.List.{list_all}
 use Rattle.std.specs.Str.Parse.{digits_value}
+use Rattle.pst_script.specs.declared.numerals.TheConstants.{MOST_CHARGES}
 
 -- 0 alone, or a digit from 1 to 9 and then digits
 abbrev pub is_numeral : List ℕ → Bool
@@ -41,4 +42,4 @@ fits_32_bits n = nat_lt n (2 ^ 32)
 
 -- a number of charges
 abbrev pub fits_charges : ℕ → Bool
-fits_charges n = nat_le 1 n && nat_le n 1000000000
+fits_charges n = nat_le 1 n && nat_le n MOST_CHARGES

@@ -20,7 +20,8 @@ mod verb;
 mod words;
 
 pub use command::{Call, Command, LineFault};
-pub use laws::written_one_way;
+pub use laws::{most_charges_in_digits, written_one_way};
+pub use numerals::MOST_CHARGES;
 pub use read::read_line;
 pub use reply::{Parents, Refusal, Reply};
 pub use text::reply_text;

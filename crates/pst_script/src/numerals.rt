@@ -7,7 +7,7 @@ ghost use Rattle.pst_script.specs.Numerals.{is_numeral, number_of, argument_of, 
 use std::str;
 
 /// The most charges that a line can grant, or set as the budget.
-const MOST_CHARGES: u32 = 1_000_000_000;
+pub const MOST_CHARGES: u32 = 1_000_000_000;
 
 fn are_digits(bytes: &[u8]) -> bool
     ensures { result ≡ list_all is_ascii_digit bytes.now }

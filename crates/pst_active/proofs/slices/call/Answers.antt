@@ -7,6 +7,7 @@ use Rattle.pst_active.proofs.Slicing.{room, run-is, entry-at, may-add, few-calls
 use Rattle.pst_active.proofs.slices.call.Given.{Over}
 use Rattle.pst_active.proofs.slices.call.Goals.{After-index_mut-entry, After-advance}
 use Rattle.pst_active.proofs.slices.call.Goals as goal
+use Rattle.pst_history.specs.declared.history.TheConstants.{CALLS}
 
 found : (g : Over) (c : After-index_mut-entry g) → slice_get c.args.active.now.items c.args.at ≡ Some c.index_mut-entry.result.now
 found g c = entry-at c.args.active.now.items c.args.at c.index_mut-entry.result.now c.requires.at c.index_mut-entry.ensures.value
@@ -48,7 +49,7 @@ overflow_add-entry g c =
     let some = c.requires.stands in
     let e = c.index_mut-entry.result.now in
     let w = (goal.at.overflow_add-entry g c).After-index_mut-entry in
-    let few : e.calls < 1024 = few-calls (g.C.Meant.meaning c.args.code.now) (machine_runs (g.C.Meant.parts c.args.code.now)) c.known-2.ensures.lawful (g.H.HeapAt.state c.args.heap.now) (c.known-2.ensures.waits c.args.heap.now) c.known_versions.ensures c.known.ensures.written
+    let few : e.calls < CALLS = few-calls (g.C.Meant.meaning c.args.code.now) (machine_runs (g.C.Meant.parts c.args.code.now)) c.known-2.ensures.lawful (g.H.HeapAt.state c.args.heap.now) (c.known-2.ensures.waits c.args.heap.now) c.known_versions.ensures c.known.ensures.written
     c.args.active.now.items some.budget some.next some.history some.stands c.args.at e (found g w) (record { procedure = c.args.procedure.now; arguments = c.args.arguments.now }) (may-call g w some.history some.may) in
     let fits : e.calls + 1 < 2 ^ 32 = omega arith in
     search
