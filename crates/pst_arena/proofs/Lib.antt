@@ -9,3 +9,4 @@ pub mod WriteDone
 pub mod WriteSound
 pub mod NearLemmas
 pub mod NextLemmas
+pub mod ListedLemmas

@@ -1,10 +1,8 @@
 -- The nodes whose links are in the queue.
-use Rattle.pst_base.specs.declared.names.NodeId.{NodeId}
-use Rattle.pst_queue.proofs.QueueLemmas.{out_waits, waits_is, link_of_waiting}
+use Rattle.pst_queue.proofs.QueueLemmas.{waits_is, link_of_waiting}
 use Rattle.pst_queue.specs.Queue.{numbered, head_of, waits, last_from, ends_at}
-use Rattle.pst_split.specs.Load.{IsOver}
-use Rattle.std.proofs.Common.{Some, Bool, IsTrue, false, not, true, ◌↔◌, ◌≡◌, ◌≢◌, ℕ, zero, suc, ◌+◌, List, [], ◌∷◌, ◌++◌, length, None, eqb, refl, sym, ap, ◌∙◌, subst, ⊎_elim, ◌⊎◌, inl, inr, arith}
-use Rattle.std.proofs.lemmas.Bool.{cases_Bool, false≢true, or_left, eq-eqb}
+use Rattle.std.proofs.Common.{Bool, IsTrue, false, not, true, ◌↔◌, ◌≡◌, ◌≢◌, ℕ, zero, suc, ◌+◌, List, [], ◌∷◌, ◌++◌, length, None, eqb, refl, sym, ap, ◌∙◌, subst, ⊎_elim, ◌⊎◌, inl, inr, arith}
+use Rattle.std.proofs.lemmas.Bool.{false≢true, or_left, eq-eqb}
 use Rattle.std.specs.List.{Contains}
 use Rattle.std.proofs.lemmas.Option.{none-some}
 use Rattle.pst_base.specs.declared.shape.TypeShape.{TypeShape}

@@ -27,7 +27,7 @@ use Rattle.pst_mirror.proofs.MirrorLemmas.{target_node, there_at}
 use Rattle.pst_mirror.proofs.WriteLemmas.{put_cases, put_first}
 use Rattle.pst_nodes.specs.declared.node.Node.{Node}
 use Rattle.pst_nodes.specs.Arena.{HasRoom, row_at, chart, lives, type_no, type_of, IsSlot, AreRows}
-use Rattle.pst_nodes.specs.Changes.{IsTouched, AreTouched, IsFieldUnlinked, HasRoomForEntry, added}
+use Rattle.pst_nodes.specs.Changes.{IsTouched, AreTouched, IsFieldUnlinked, added}
 use Rattle.pst_nodes.proofs.NodeLemmas.{some_row, alive_of, typed_slot}
 use Rattle.pst_nodes.proofs.PairLemmas.{entry_at}
 use Rattle.pst_split.specs.Load.{IsSound, half_at, stamped_at, stamped_in_all}

@@ -2,9 +2,10 @@
 
 use crate::adding::new_node;
 use crate::fat_nodes::FatNodes;
+use crate::listed::Listed;
 use crate::near::{cover, root_beside};
 use crate::potential::potential_of;
-use crate::repairing::repair_and_hold;
+use crate::repairing::{hold_new, repair_and_hold};
 use crate::writes;
 use pst_base::{Name, NoMemory, NodeId, ROOT, Shape, SlotNo, TypeNo};
 use pst_meaning::place::Place;
@@ -223,5 +224,28 @@ impl FatNodes for Arena {
             &mut self.roots,
             &mut self.looked_at,
         )
+    }
+}
+
+impl Listed for Arena {
+    fn list(&self) -> &Nodes {
+        &self.nodes
+    }
+
+    fn of_list<O: Order>(
+        alloc: Global,
+        _shape: &Shape,
+        order: &O,
+        list: Nodes,
+    ) -> Result<Self, NoMemory> {
+        let mut roots = RootIndex::new(alloc, NodeId(0))?;
+        let mut looked_at = 1;
+        hold_new(order, &list, &mut roots, &mut looked_at)?;
+        Ok(Arena {
+            nodes: list,
+            queue: Queue::new(),
+            roots,
+            looked_at,
+        })
     }
 }

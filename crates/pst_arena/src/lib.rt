@@ -3,7 +3,7 @@
 //! Model: the list of nodes as a store sees them, and what is noted beside them: which wait to be split, which nodes of the root
 //! record are held.
 //!
-//! Contract: `FatNodes`, which `Arena` meets. Each call is exact by the arena at the places of the order that is handed in; a
+//! Contract: `FatNodes`, which `Arena` meets, and `Listed`, by which it is read whole and made of a list. Each call is exact by the arena at the places of the order that is handed in; a
 //! write takes all its memory first; the nodes over their capacity wait, and no others.
 //!
 //!     let node = arena.cover(&shape, &order, id, at);
@@ -14,6 +14,7 @@
 mod adding;
 mod arena;
 mod fat_nodes;
+mod listed;
 mod near;
 mod potential;
 mod repairing;
@@ -21,3 +22,4 @@ mod writes;
 
 pub use arena::Arena;
 pub use fat_nodes::FatNodes;
+pub use listed::Listed;

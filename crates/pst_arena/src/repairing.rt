@@ -42,9 +42,9 @@ pub fn repair_and_hold<O: Order>(
     hold_new(order, nodes, roots, looked_at)
 }
 
-// Lets the root index hold the root record's nodes among those that were not looked at yet. After a refusal the nodes before
-// the one that could not be held are looked at.
-fn hold_new<O: Order>(
+/// Lets the root index hold the root record's nodes among those that were not looked at yet. After a refusal the nodes before
+/// the one that could not be held are looked at.
+pub fn hold_new<O: Order>(
     order: &O,
     nodes: &Nodes,
     roots: &mut RootIndex,
