@@ -8,6 +8,7 @@ use Rattle.pst_mirror.specs.Potential.{capacity, potential}
 use Rattle.pst_places.specs.State.{State}
 use Rattle.pst_meaning.specs.declared.place.Place.{Place}
 use Rattle.pst_meaning.specs.Store.{Node, Stored, bound, load_of, state_of}
+use Rattle.pst_started.specs.Calls.{StampsAtMost}
 
 abbrev pub state_in : Option Stored → State Place NodeId
 state_in None = record {
@@ -33,6 +34,12 @@ nodes_in (Some s) = s.nodes
 abbrev pub queue_in : Option Stored → List ℕ
 queue_in None = []
 queue_in (Some s) = s.noted.queue
+
+-- a write of so many stamped values at most, and the splits around it; a store that is not started has none
+abbrev pub Stamps : ℕ → (old new : Option Stored) → Type 0
+Stamps k None new = new ≡ None
+Stamps k (Some old) None = ⊥
+Stamps k (Some old) (Some new) = StampsAtMost k old new
 
 -- by how many stamped values in all the nodes exceed half their capacity
 abbrev pub potential_in : Option Stored → ℕ

@@ -10,8 +10,9 @@ use std::marker::Model;
 
 /// A fully persistent heap of fat nodes: empty, or started with version 0. It is a heap at many places that are forked and
 /// published (`HeapAt`, `VersionedHeap`). Each call that writes first splits the nodes that wait, then writes, and then splits
-/// the nodes that are over their capacity. A pointer write stamps at most six values, and a number write two; all splits
-/// together add no more nodes than that pays for (`whole`).
+/// the nodes that are over their capacity. A pointer write stamps at most six values, and a number write two (`stamps` of
+/// both calls); all splits together add no more nodes than that pays for (`whole`). After a write that succeeds the root index
+/// holds all nodes of the root record (`held`).
 #[derive(Drop)]
 pub struct StoreOf<O: Order + Drop, N: FatNodes = Arena> {
     pub(crate) started: Option<Started<O, N>>,
@@ -42,7 +43,7 @@ impl<O: Order + Drop, N: FatNodes> StoreOf<O, N> {
     ghost use Rattle.pst_mirror.specs.Potential.{capacity};
     ghost use Rattle.pst_places.specs.State.{Unchanged, WritesStay};
     ghost use Rattle.pst_meaning.specs.Store.{IsStore};
-    ghost use Rattle.pst_started.specs.Calls.{IsStarted};
+    ghost use Rattle.pst_started.specs.Calls.{IsKept, IsStarted};
     ghost use Rattle.pst_store.specs.Whole.{IsBounded, IsSmall, nodes_in, potential_in, queue_in, state_in};
 
     /// A store with no version and no node. It takes no memory.
@@ -115,11 +116,12 @@ impl<O: Order + Drop, N: FatNodes> StoreOf<O, N> {
         }
     }
 
-    /// What is known of every store, also after want of memory: what a store keeps; that no more nodes and potential are there
-    /// than one for each record that was made, six for each pointer that was written and two for each number; and that no node
-    /// is over its capacity where nothing waits.
+    /// What is known of every store, also after want of memory: what a store keeps; that the nodes over their capacity wait
+    /// and no others; that no more nodes and potential are there than one for each record that was made, six for each pointer
+    /// that was written and two for each number; and that no node is over its capacity where nothing waits.
     pub fn whole(&self)
         ensures store { IfSome self.now IsStore }
+        ensures kept { IfSome self.now IsKept }
         ensures bounded { IsBounded self.now }
         ensures small { queue_in self.now ≡ [] → IsSmall self.now }
     {

@@ -19,8 +19,8 @@ impl<O: Order + Drop, N: FatNodes> HeapAt for StoreOf<O, N> {
     ghost use Rattle.pst_places.specs.Store.{MayStorePointer, PointerOutcome};
     ghost use Rattle.pst_meaning.specs.Arena.{IsIn};
     ghost use Rattle.pst_meaning.specs.Store.{arena, begin_of};
-    ghost use Rattle.pst_started.specs.Calls.{RestsAfter};
-    ghost use Rattle.pst_store.specs.Whole.{queue_in, state_in};
+    ghost use Rattle.pst_started.specs.Calls.{HoldsAfter, HoldsRoots, RestsAfter};
+    ghost use Rattle.pst_store.specs.Whole.{Stamps, queue_in, state_in};
 
     ghost state = { state_in };
 
@@ -94,6 +94,7 @@ impl<O: Order + Drop, N: FatNodes> HeapAt for StoreOf<O, N> {
         ensures ok { IfOk result (λ r. Allocated (state_in self.old) at ty name r (state_in self.new)) }
         ensures err { OnErr result (Unchanged (state_in self.old) (state_in self.new)) }
         ensures rested { IfOk result (λ _. queue_in self.new ≡ []) }
+        ensures held { IfOk result (λ _. IfSome self.new HoldsRoots) }
     {
         match &mut self.started {
             None => Err(NoMemory),
@@ -109,6 +110,8 @@ impl<O: Order + Drop, N: FatNodes> HeapAt for StoreOf<O, N> {
         ensures ok { OnOk result (ValueStored (state_in self.old) at ((state_in self.old).name r) field.0 n (state_in self.new) × WritesStay (state_in self.old) (state_in self.new)) }
         ensures err { OnErr result (Unchanged (state_in self.old) (state_in self.new) ⊎ ValueStored (state_in self.old) at ((state_in self.old).name r) field.0 n (state_in self.new)) }
         ensures rested { OnOk result (queue_in self.new ≡ []) }
+        ensures held { OnOk result (IfSome self.new HoldsRoots) }
+        ensures stamps { Stamps 2 self.old self.new }
     {
         match &mut self.started {
             None => Err(NoMemory),
@@ -126,6 +129,8 @@ impl<O: Order + Drop, N: FatNodes> HeapAt for StoreOf<O, N> {
         requires { MayStorePointer (state_in self.old) at r field.0 target }
         ensures outcome { PointerOutcome (state_in self.old) at r field.0 target result (state_in self.new) }
         ensures rested { RestsAfter result (queue_in self.new) }
+        ensures held { IfSome self.new (HoldsAfter result) }
+        ensures stamps { Stamps 6 self.old self.new }
     {
         match &mut self.started {
             None => Err(StoreFault::Memory),
