@@ -1,6 +1,6 @@
 //! The top call.
 
-ghost use Rattle.std.specs.Prelude.{◌≡◌, ◌↔◌, ◌≤◌, Some, None, IfSome};
+ghost use Rattle.std.specs.Prelude.{◌≡◌, ◌↔◌, ◌≤◌, Some, None, IfSome, false};
 ghost use Rattle.pst_io.specs.Causes.{Rose};
 ghost use Rattle.pst_io.specs.Lines.{not_begun};
 ghost use Rattle.pst_jobs.specs.declared.job.Job.{Job};
@@ -11,6 +11,7 @@ ghost use Rattle.pst_samples.specs.declared.TheConstants.{RING};
 ghost use Rattle.pst_line.specs.Store.{IsEmpty};
 ghost use Rattle.pst_serving.specs.Rows.{HasRow, Row, NoFault, IsServable, IsComplete};
 ghost use Rattle.pst_serving.specs.Held.{kept_in};
+ghost use Rattle.pst_cli.specs.Endings.{works_over_store, MayEnd};
 ghost use Rattle.pst_cli.specs.Held.{both_in};
 ghost use Rattle.pst_answers.specs.Sessions.{HasTaken};
 
@@ -67,8 +68,9 @@ pub fn persist<S: Source, K: Sink, O: Order + Drop, N: FatNodes, L: LineCalls>(
     // What a question has read and written, and what the store is left in: as after `run`, and the answer about it.
     ensures asked { OnQuestion words.now (λ question path. HasRow S.left source.old source.new K.taken sink.old sink.new (AskRow result (kept_in store.old store.new Job.Run) question path)) }
 
-    // The word `line` works over the line store, and every other one leaves it as it was handed in.
-    ensures tree { task_in words.now ≡ Some (Task.Input Job.Line) → store.new ≡ store.old }
+    // Only `run`, the bench and the questions work over the store, and only `line` over the line store: every other word leaves them
+    // as they were handed in, whatever the source tells.
+    ensures tree { works_over_store (task_in words.now) ≡ false → store.new ≡ store.old }
     ensures line { (task_in words.now ≡ Some (Task.Input Job.Line) → ⊥) → line.new ≡ line.old }
 
     // When each status comes.
@@ -76,6 +78,7 @@ pub fn persist<S: Source, K: Sink, O: Order + Drop, N: FatNodes, L: LineCalls>(
     ensures write { result ≡ Status.WriteFault → Rose (K.faults sink.old) (K.faults sink.new) }
     ensures usage { (result ≡ Status.Usage) ↔ (task_in words.now ≡ None) }
     ensures complete { IfSome (S.left source.old) (λ input. IsServable (task_in words.now) input → NoFault S.faults source.old source.new → NoFault K.faults sink.old sink.new → IsComplete result) }
+    ensures answered { NoFault S.faults source.old source.new → NoFault K.faults sink.old sink.new → MayEnd (task_in words.now) result }
     ensures later { (S.faults source.old ≤ S.faults source.new) × (K.faults sink.old ≤ K.faults sink.new) }
 
     // Nothing is read or written.
@@ -106,7 +109,7 @@ fn carry_out<S: Source, K: Sink, O: Order + Drop, N: FatNodes, L: LineCalls>(
     requires empty { store.old ≡ None }
     requires empty_line { IsEmpty (L.stored line.old) }
     ensures table { HasRow S.left source.old source.new K.taken sink.old sink.new (Row result (both_in L.state L.stored store.old store.new line.old line.new job) job) }
-    ensures tree { job ≡ Job.Line → store.new ≡ store.old }
+    ensures tree { works_over_store (Some (Task.Input job)) ≡ false → store.new ≡ store.old }
     ensures line { (job ≡ Job.Line → ⊥) → line.new ≡ line.old }
     ensures read { result ≡ Status.ReadFault → Rose (S.faults source.old) (S.faults source.new) }
     ensures write { result ≡ Status.WriteFault → Rose (K.faults sink.old) (K.faults sink.new) }
