@@ -20,10 +20,11 @@ use Rattle.pst_order.specs.Places.{rank}
 use Rattle.pst_rows.specs.Values.{base_in, stamp_at, stamps_in, content_in}
 use Rattle.pst_mirror.specs.Charts.{is_alive}
 use Rattle.pst_meaning.specs.declared.place.Place.{Place}
+use Rattle.pst_meaning.specs.declared.place.Fork.{Fork}
 use Rattle.pst_meaning.specs.Arena.{IsIn, IsArena, heap_at, record_at, record_of, denoted, number}
 use Rattle.pst_mirror.specs.Kinds.{HasKind}
 use Rattle.pst_meaning.specs.Changes.{default_content}
-use Rattle.pst_meaning.specs.Store.{Node, Stored, arena, IsStore, IsRested, width}
+use Rattle.pst_meaning.specs.Store.{Node, Stored, arena, IsPlace, IsStore, IsRested, width}
 use Rattle.pst_mirror.specs.Potential.{capacity}
 use Rattle.pst_meaning.specs.Steps.{IsNewNode, started, StartLaw}
 use Rattle.pst_meaning.proofs.HeapLaws.{true-is_in}
@@ -37,6 +38,14 @@ none_in (y ∷ ys) k x n e = absurd (cc)
 
 pub none_there : {A : Type 0} (k : ℕ) (x : A) → slice_get [] k ≡ Some x → ⊥
 none_there k x e = none_in [] k x refl e
+
+-- a store with neither forks nor relics has the place of version 0 alone
+pub only_start : (s : Stored) (p : Place) → s.forks ≡ [] → s.relics ≡ [] → IsPlace s p → p ≡ s.start
+only_start s p no_forks no_relics is = elim is [
+  | inl e ↦ e
+  | inr (inl f) ↦ absurd (none_there f.index f.fork (ap (λ (forks : List Fork). slice_get forks f.index) (sym no_forks) ∙ f.at))
+  | inr (inr r) ↦ absurd (none_there r.index p (ap (λ (relics : List Place). slice_get relics r.index) (sym no_relics) ∙ r.at))
+]
 
 one_there : {A : Type 0} (x y : A) (k : ℕ) → slice_get (x ∷ []) k ≡ Some y → (k ≡ 0) × (x ≡ y)
 one_there x y zero e = (refl, cc)

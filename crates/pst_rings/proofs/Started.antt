@@ -14,7 +14,7 @@ use Rattle.pst_places.specs.State.{IsFresh, IsPublished}
 use Rattle.pst_meaning.specs.declared.place.Place.{Place}
 use Rattle.pst_meaning.specs.declared.place.Fork.{Fork}
 use Rattle.pst_meaning.specs.Store.{Stored}
-use Rattle.pst_meaning.proofs.Starting.{none_there}
+use Rattle.pst_meaning.proofs.Starting.{none_there, only_start}
 use Rattle.pst_started.specs.Calls.{IsStarted}
 use Rattle.pst_store.specs.Whole.{state_in}
 
@@ -34,10 +34,7 @@ one_place (Some s) shape p h e =
     record {
       shape_is = h.shape_is;
       published = record { has = inl start; closed = λ w. none_there w.forked.index w.forked.fork (ap (λ (forks : List Fork). slice_get forks w.forked.index) (sym h.forks) ∙ w.forked.at) };
-      alone = λ q i. elim i [
-        | inl e ↦ e ∙ sym start
-        | inr f ↦ absurd (none_there f.index f.fork (ap (λ (forks : List Fork). slice_get forks f.index) (sym h.forks) ∙ f.at))
-      ];
+      alone = λ q i. only_start s q h.forks h.relics i ∙ sym start;
       heap = ap (state_in (Some s)).heap start ∙ h.heap;
       calls = h.calls;
       counts = h.counts;

@@ -1,5 +1,5 @@
 -- How a session over a store begins, and where the versions are that it dumps.
-use Rattle.std.proofs.Common.{◌≡◌, refl, sym, ◌∙◌, subst, ap, ⊎_elim, List, [], Option, Some, None, map, slice_get, ℕ}
+use Rattle.std.proofs.Common.{◌≡◌, refl, sym, ◌∙◌, subst, ap, List, Option, Some, None, map, slice_get, ℕ}
 use Rattle.std.specs.Prelude.{IsSomeAnd}
 use Rattle.std.specs.Option.{option_map}
 use Rattle.pst_base.specs.declared.shape.TypeShape.{TypeShape}
@@ -10,9 +10,8 @@ use Rattle.pst_history.specs.Direct.{direct}
 use Rattle.pst_versions.specs.declared.rows.VersionRow.{VersionRow}
 use Rattle.pst_places.specs.State.{State, IsVersioned}
 use Rattle.pst_engine.specs.Stands.{IsStartedHeap}
-use Rattle.pst_meaning.specs.declared.place.Place.{Place}
-use Rattle.pst_meaning.specs.declared.place.Fork.{Fork}
-use Rattle.pst_meaning.specs.Store.{Stored, IsForked, IsPlace, as_fork}
+use Rattle.pst_meaning.specs.Store.{Stored, as_fork}
+use Rattle.pst_meaning.proofs.Starting.{only_start}
 use Rattle.pst_started.specs.Calls.{IsStarted}
 use Rattle.pst_store.specs.Whole.{state_in}
 
@@ -21,13 +20,6 @@ pub meaning_shape : (r : Routines) → (direct r).shape ≡ r.shape
 unfolding direct
 meaning_shape r = refl
 
--- a store without a fork has one place
-one_place : (s : Stored) (p : Place) → s.forks ≡ [] → IsPlace s p → p ≡ s.start
-one_place s p none is = ⊎_elim (λ (e : p ≡ s.start). e) (λ (f : IsForked s.forks p). absurd (not_forked (subst (λ (fs : List Fork). IsForked fs p) none f))) is
-  where
-    not_forked : IsForked [] p → ⊥
-    not_forked f = let no : None ≡ Some f.fork = f.at in cc
-
 -- a store as it is started is a heap as it is started
 pub started_store : (m : Meaning) (shape : List TypeShape) (o : Option Stored) → m.shape ≡ shape → IsSomeAnd o (IsStarted shape) → IsStartedHeap m (state_in o)
 started_store m shape None e h = absurd h
@@ -35,10 +27,11 @@ started_store m shape (Some s) e h = record {
   shape = h.shape_is ∙ sym e;
   place = s.start;
   versions = h.versions;
-  only = λ p is. one_place s p h.forks is;
+  only = λ p is. only_start s p h.forks h.relics is;
   heap = h.heap ∙ ap initial_heap (sym e);
   counts = h.counts;
   calls = h.calls;
+  spent = h.spent;
   forks = ap (map as_fork) h.forks;
 }
 
