@@ -3,8 +3,9 @@
 //! Model: the list of nodes as a store sees them, and what is noted beside them: which wait to be split, which nodes of the root
 //! record are held.
 //!
-//! Contract: `FatNodes`, which `Arena` meets, and `Listed`, by which it is read whole and made of a list. Each call is exact by the arena at the places of the order that is handed in; a
-//! write takes all its memory first; the nodes over their capacity wait, and no others.
+//! Contract: `FatNodes`, which `Arena` meets, and `Listed`, by which it is read whole and made of a list. Each call is exact by
+//! the arena at the places of the order that is handed in; a write takes all its memory first; the nodes over their capacity wait,
+//! and no others.
 //!
 //!     let node = arena.cover(&shape, &order, id, at);
 //!     arena.set_number(&shape, &order, node, field, place, 7)?;

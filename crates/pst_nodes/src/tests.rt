@@ -3,6 +3,7 @@
 use crate::node::{Node, Nodes};
 use pst_base::{Name, NoMemory, NodeId, RunNo, Targets, TypeNo, TypeShape};
 use pst_order::Pos;
+use pst_queue::links::Link;
 use pst_rows::Row;
 use std::alloc::Global;
 use std::mem::size_of;
@@ -36,6 +37,15 @@ fn nodes_are_numbered_from_0(rt: HostRuntime) -> Result<(), NoMemory> {
     assert!(rt; nodes.row(NodeId(1)).spare() >= 9);
     assert_eq!(rt; nodes.row(NodeId(1)).width(), ITEM_SLOTS);
     assert_eq!(rt; nodes.later(NodeId(1)), None);
+    let part = Node {
+        later: Some(NodeId(0)),
+        name,
+        row: row_of_item(alloc)?,
+        ty: TypeNo(1),
+        link: Link::Out,
+    };
+    assert_eq!(rt; nodes.push(part)?, NodeId(2));
+    assert_eq!(rt; nodes.later(NodeId(2)), Some(NodeId(0)));
     Ok(())
 }
 
