@@ -1,9 +1,8 @@
 -- What writes stamp.
-use Rattle.std.proofs.Common.{◌≡◌, ℕ, ◌≤◌, List, [], ◌∷◌, map, refl, sym, subst, arith}
-use Rattle.pst_base.specs.declared.shape.TypeShape.{TypeShape}
+use Rattle.std.proofs.Common.{◌≡◌, ℕ, List, [], ◌∷◌, map, refl, sym, subst, arith}
 use Rattle.pst_mirror.specs.Potential.{Load, HasGrown}
 use Rattle.pst_meaning.specs.Store.{Node, Noted, Stored, load_of}
-use Rattle.pst_meaning.specs.Steps.{HasGrownBy, with_nodes}
+use Rattle.pst_meaning.specs.Steps.{with_nodes}
 use Rattle.pst_started.specs.Calls.{IsSplitUp, IsStamped, StampsAtMost}
 
 same_loads : (xs : List Load) → HasGrown xs xs

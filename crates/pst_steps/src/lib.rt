@@ -20,9 +20,7 @@ mod register;
 mod standing;
 
 pub use calls::{call, fill, leave, let_go};
-pub use fields::{
-    Element, load, load_element, make, renew, root, set_root, store, store_element,
-};
+pub use fields::{Element, load, load_element, make, renew, root, set_root, store, store_element};
 pub use frame::{held, operand, set};
 pub use plain::{apply, bound, check, copy, jump, jump_at_most, jump_less, negate, take_charge};
 pub use register::{Register, same};

@@ -1,4 +1,4 @@
-use Rattle.std.proofs.Common.{List, ap, sym, ◌≡◌, ◌∙◌, map}
+use Rattle.std.proofs.Common.{ap, sym, ◌≡◌, ◌∙◌, map}
 use Rattle.std.proofs.Math.Seq.{map-set_same}
 use Rattle.pst_base.specs.declared.names.Name.{Name}
 use Rattle.pst_program.specs.declared.meaning.Value.TheVariants.{Record}
