@@ -3,7 +3,7 @@ use Rattle.std.specs.Prelude.{◌≡◌, ◌+◌, ◌≤◌, None}
 use Rattle.pst_base.specs.declared.names.NodeId.{NodeId}
 use Rattle.pst_program.specs.declared.program.Program.{Program}
 use Rattle.pst_history.specs.Meaning.{Meaning}
-use Rattle.pst_history.specs.History.{History, counts_of}
+use Rattle.pst_history.specs.History.{History, counts_of, opening}
 use Rattle.pst_history.specs.Direct.{meaning_of}
 use Rattle.pst_places.specs.State.{State}
 use Rattle.pst_active.specs.Stands.{HoldsVersions}
@@ -15,9 +15,9 @@ use Rattle.pst_linerun.specs.Standing.{SessionStands}
 use Rattle.pst_linerun.specs.Linear.{line_reply, line_after}
 use Rattle.pst_answers.specs.Script.{Rules}
 
--- only the newest version may be written: the versions form a line
+-- only the newest version may be written: the versions form a line, which begins with version 0 alone
 abbrev pub by_line : Rules
-by_line = record { reply = line_reply; after = line_after }
+by_line = record { first = λ m. opening m.shape; reply = line_reply; after = line_after }
 
 -- The nodes, and the stamped values of newest nodes, which pay for copies to come, are at most one for each record that was made
 -- and one for each field that was written.

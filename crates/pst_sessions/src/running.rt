@@ -20,11 +20,12 @@ pub struct Running<O: Order + Drop, N: FatNodes> {
 }
 
 impl<O: Order + Drop, N: FatNodes> Running<O, N> {
-    ghost use Rattle.std.specs.Prelude.{◌≡◌, ◌<◌, ◌≤◌, [], IfOk};
+    ghost use Rattle.std.specs.Prelude.{◌≡◌, ◌+◌, ◌<◌, ◌≤◌, [], IfOk};
     ghost use Rattle.pst_program.specs.View.{routines_of};
     ghost use Rattle.pst_program.specs.Typed.{IsTyped};
     ghost use Rattle.pst_history.specs.History.{begun};
     ghost use Rattle.pst_history.specs.Sound.{IsBudget};
+    ghost use Rattle.pst_history.specs.declared.history.TheConstants.{RUNS};
     ghost use Rattle.pst_history.specs.Direct.{meaning_of};
     ghost use Rattle.pst_engine.specs.Stands.{IsOpeningHeap, opening_of};
     ghost use Rattle.pst_store.specs.Whole.{queue_in, state_in};
@@ -39,7 +40,7 @@ impl<O: Order + Drop, N: FatNodes> Running<O, N> {
         budget: u32,
     ) -> Result<Running<O, N>, NoMemory>
         requires typed { IsTyped (routines_of program) }
-        requires next { (0 < next_run.0) × (next_run.0 ≤ 1048577) }
+        requires next { (0 < next_run.0) × (next_run.0 ≤ RUNS + 1) }
         requires budget { IsBudget budget }
         requires heap { IsOpeningHeap (meaning_of program) (state_in store.now) next_run.0 }
         requires rested { queue_in store.now ≡ [] }
