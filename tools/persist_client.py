@@ -517,7 +517,8 @@ class History:
 # The process.
 
 def program_path() -> str:
-    """The program to run: what PERSIST names, or else the script of the repository in which this file lies."""
+    """The program to run: what PERSIST names, or else the script of the repository in which this file lies. That script proves and
+    builds the program first where it is not built yet, which may take an hour; it says so on standard error."""
     named = os.environ.get('PERSIST')
     return named or os.path.join(os.path.dirname(os.path.dirname(os.path.abspath(__file__))), 'persist')
 

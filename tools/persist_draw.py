@@ -217,11 +217,9 @@ path { fill: none; stroke: #667 } .back { stroke: #b04a4a; stroke-dasharray: 5 3
 #tip { fill: #667; stroke: none } #back-tip { fill: #b04a4a; stroke: none }
 </style>
 '''
-TIPS = '''<defs>
-<marker id="arrow" viewBox="0 0 8 8" refX="8" refY="4" markerWidth="8" markerHeight="8" orient="auto"><path id="tip" d="M0,0 L8,4 L0,8 z"/></marker>
-<marker id="back-arrow" viewBox="0 0 8 8" refX="8" refY="4" markerWidth="8" markerHeight="8" orient="auto"><path id="back-tip" d="M0,0 L8,4 L0,8 z"/></marker>
-</defs>
-'''
+TIPS = '<defs>\n' + ''.join(
+    f'<marker id="{kind}arrow" viewBox="0 0 8 8" refX="8" refY="4" markerWidth="8" markerHeight="8" orient="auto">'
+    f'<path id="{kind}tip" d="M0,0 L8,4 L0,8 z"/></marker>\n' for kind in ('', 'back-')) + '</defs>\n'
 
 
 def svg(width: float, height: float, parts: Iterable[str], extra: str = '') -> str:
@@ -528,12 +526,17 @@ def main(words: Sequence[str]) -> int:
     if asked not in (['text'], ['tree']) and not (len(asked) == 2 and asked[0] == 'records' and re.fullmatch('[0-9]+', asked[1])):
         print(__doc__, file=sys.stderr)
         return 2
-    text = sys.stdin.buffer.read().decode('utf-8', 'surrogateescape')
     try:
-        drawing = draw_records(text, int(asked[1]), form) if asked[0] == 'records' else draw_tree(text, 'text' if asked == ['text'] else form)
+        text = sys.stdin.buffer.read().decode('utf-8', 'surrogateescape')
+        if asked[0] == 'records':
+            drawing = draw_records(text, int(asked[1]), form)
+        else:
+            drawing = draw_tree(text, 'text' if asked == ['text'] else form)
     except (PersistError, OSError) as fault:
         print(f'persist_draw: {fault}', file=sys.stderr)
         return 1
+    except KeyboardInterrupt:
+        return 130
     if isinstance(drawing, Refused):
         print(f'persist_draw: there is no version {asked[1]}', file=sys.stderr)
         return 1

@@ -417,6 +417,8 @@ def main(words: Sequence[str]) -> int:
     except (PersistError, OSError) as fault:
         print(f'persist_shell: {fault}', file=sys.stderr)
         return 1
+    except KeyboardInterrupt:
+        return 130
     keep = edit_lines(shell) if live else lambda: None
     try:
         if live:

@@ -1,6 +1,8 @@
-"""What stands beside the tools: the syntax for vim, the host in Rust, and that the sources are those of python3.8."""
+"""What stands beside the tools: the syntax for vim, the host in Rust, the examples of the pages, and that the sources are python3.8."""
 import ast
+import contextlib
 import glob
+import io
 import os
 import re
 import shutil
@@ -9,6 +11,7 @@ import tempfile
 import unittest
 
 from persist_client import program_path, read_text
+from persist_shell import Shell
 from tests.samples import TOOLS, TOP
 
 SAMPLE = '''language 2
@@ -76,6 +79,56 @@ class Host(unittest.TestCase):
             self.assertIn(b'refused unknown at 1', done.stderr)
 
 
+class Pages(unittest.TestCase):
+    """The examples of the pages: a block marked `python` or `typed` has a block marked `shown` behind it."""
+
+    def blocks(self, name):
+        """The marks and texts of the blocks of a page."""
+        return re.findall(r'^```([\w. ]+)\n(.*?)^```$', read_text(os.path.join(TOP, name)), re.S | re.M)
+
+    def test_what_is_typed_is_answered_so(self):
+        blocks = self.blocks('tools/README.md')
+        told = 0
+        for (kind, given), (_, shown) in zip(blocks, blocks[1:]):
+            if kind == 'typed':
+                out = io.StringIO()
+                shell = Shell(out)
+                shell.attempt(shell.do_load, os.path.join(TOP, 'examples', 'editor.persist'))
+                out.truncate(out.seek(0))
+                for line in given.splitlines():
+                    shell.line(line)
+                shell.end()
+                self.assertEqual(out.getvalue(), shown)
+                told += 1
+        self.assertEqual(told, 1)
+
+    def test_examples_in_python_print_so(self):
+        here = os.getcwd()
+        self.addCleanup(os.chdir, here)
+        os.chdir(TOP)
+        told = 0
+        for page in ('tools/README.md', 'docs/NOTATION.md', 'README.md'):
+            blocks = self.blocks(page)
+            for (kind, given), (_, shown) in zip(blocks, blocks[1:]):
+                if kind == 'python':
+                    out = io.StringIO()
+                    with contextlib.redirect_stdout(out):
+                        exec(compile(given, page, 'exec'), {})
+                    self.assertEqual(out.getvalue(), shown, page)
+                    told += 1
+        self.assertGreater(told, 0)
+
+    def test_examples_in_rust_stand_in_the_host(self):
+        for page in ('tools/README.md', 'docs/NOTATION.md', 'README.md'):
+            for kind, given in self.blocks(page):
+                if kind == 'rust':
+                    self.assertIn(given, read_text(os.path.join(TOOLS, 'host.rs')), page)
+
+    def test_links_of_the_page_of_the_tools(self):
+        for target in re.findall(r'\]\(([^)\s]+)\)', read_text(os.path.join(TOOLS, 'README.md'))):
+            self.assertTrue(os.path.exists(os.path.join(TOOLS, target)), target)
+
+
 class Sources(unittest.TestCase):
     def test_they_are_those_of_python_3_8_and_say_that_they_are_not_proved(self):
         paths = glob.glob(os.path.join(TOOLS, '*.py')) + glob.glob(os.path.join(TOOLS, 'tests', '*.py'))
@@ -83,7 +136,8 @@ class Sources(unittest.TestCase):
         for path in paths:
             ast.parse(read_text(path), path, feature_version=(3, 8))
         for path in glob.glob(os.path.join(TOOLS, '*.*')):
-            self.assertRegex(read_text(path)[:1500], r'(?s)[Tt]ested\s\(tools/tests\).*not\s+proved|tested \(tools/tests\) and not proved', path)
+            head = ' '.join(read_text(path)[:1500].split())
+            self.assertRegex(head, r'[Tt]ested \((tools/tests|`bash \.ci/tools`)\)(,| and) not proved', path)
 
 
 if __name__ == '__main__':

@@ -1,12 +1,13 @@
 """A process that is killed, that gets too much, or whose output nobody reads; and commands that are interrupted."""
 import os
 import signal
+import subprocess
 import threading
 import time
 import unittest
 
-from persist_client import INPUT_LIMIT, CutOff, Ended, Opened, Refused, Session, Trapped, Version
-from tests.samples import LIST
+from persist_client import INPUT_LIMIT, CutOff, Ended, Opened, Refused, Session, Trapped, Version, program_path
+from tests.samples import LIST, a_program
 
 
 class Killed(unittest.TestCase):
@@ -97,6 +98,19 @@ class Interrupted(unittest.TestCase):
             self.interrupt(session, lambda: session.query(0, 'spin'))
         self.assertEqual(session.end(), -9)
         self.assertLess(time.monotonic() - began, 3)
+
+    def test_a_program_that_runs_below_a_script_ends_too(self):
+        with a_program(f'import subprocess\nsys.exit(subprocess.call([{program_path()!r}] + sys.argv[1:]))') as path:
+            with Session(LIST, path) as session:
+                self.assertEqual(session.budget(1_000_000_000).charges, 1_000_000_000)
+                self.interrupt(session, lambda: session.query(0, 'spin'))
+            self.assertEqual(session.end(), -9)
+            told = subprocess.run(['ps', '-eo', 'pgid=,stat='], stdout=subprocess.PIPE, check=True).stdout.decode()
+            left = [line for line in told.splitlines() if line.split()[0] == str(session.pid) and not line.split()[1].startswith('Z')]
+            self.assertEqual(left, [])
+            with Session(LIST, path) as session:
+                self.assertEqual(session.run(0, 'add', 1), Version(1))
+            self.assertEqual(session.end(), 0)
 
 
 if __name__ == '__main__':
