@@ -74,15 +74,25 @@ def sizes_of(parents: Parents) -> List[int]:
     return sizes
 
 
+def way_to(parents: Parents, version: int, steps: int) -> List[int]:
+    """A version, and as many of those that it was made from."""
+    way: List[int] = []
+    at: Optional[int] = version
+    while at is not None and len(way) <= steps:
+        way.append(at)
+        at = parents[at]
+    return way
+
+
 def chosen(parents: Parents, here: Optional[int], most: int) -> Set[int]:
-    """The versions that are shown, about `most` of them: all where they are so few, else version 0, the newest one, `here` and those next
-    to it, and then where branches begin, part and end, those with the most versions below them first."""
+    """The versions that are shown, about `most` of them: all where they are so few; else version 0, the newest one and `here` with those
+    just before them, what was made from `here`, and then where branches begin, part and end, the one with the most below it first."""
     if len(parents) <= most:
         return set(range(len(parents)))
     children, sizes = children_of(parents), sizes_of(parents)
-    shown = {0, len(parents) - 1}
+    shown = {0, *way_to(parents, len(parents) - 1, most // 10)}
     if here is not None:
-        shown |= {here, parents[here] or 0, *children[here][:8]}
+        shown |= {*way_to(parents, here, most // 10), *children[here][:8]}
     ends = {version for version, below in enumerate(children) if len(below) != 1}
     ends |= {child for version in ends for child in children[version]}
     for version in sorted(ends, key=lambda it: (-sizes[it], it)):

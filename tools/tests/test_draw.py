@@ -96,8 +96,9 @@ class Trees(Pictures):
         self.assertEqual(tree_text([None, 0, 0, 1, 1], here=0), ['0 *', '+- 2', '|', '1', '+- 3', '|', '4'])
 
     def test_a_long_chain_is_folded(self):
-        self.assertEqual(tree_text(chain(1000)), ['0', '.. 998 versions', '999'])
-        self.assertEqual(tree_text(chain(1000), here=500), ['0', '.. 498 versions', '499', '500 *', '501', '.. 497 versions', '999'])
+        self.assertEqual(tree_text(chain(1000)), ['0', '.. 988 versions', *map(str, range(989, 1000))])
+        self.assertEqual(tree_text(chain(1000), here=500, most=20), [
+            '0', '.. 497 versions', '498', '499', '500 *', '501', '.. 495 versions', '997', '998', '999'])
         self.assertEqual(tree_text([None, 0, *range(1, 983), 1], most=10),
                          ['0', '1', '+- 984', '|', '2', '.. 980 versions', '983'])
         self.assertEqual(tree_text(fan(1000), most=5)[-3:], ['+- .. 995 versions', '|', '999'])
@@ -145,8 +146,8 @@ class Trees(Pictures):
             'digraph versions {', '  node [shape=box, style=rounded, fontname=monospace];', '  n0 [label="0"];',
             '  n1 [label="1\\n\\"\\\\"];', '  n0 -> n1;',
             '  n2 [label="2\\n\\"\\\\", style="rounded,filled", fillcolor="#fff3c9"];', '  n0 -> n2;', '}', '']))
-        text = tree_dot(chain(1000))
-        self.assertEqual((text.count('->'), text.count('style=dashed'), text.count('label=')), (2, 1, 3))
+        text = tree_dot(chain(1000), most=20)
+        self.assertEqual((text.count('->'), text.count('style=dashed'), text.count('label=')), (4, 1, 5))
 
 
 NODES = read_outline('record Node 2 { val key: int; ptr next: Node; ptr back: Node; }\nroot first: Node;\n')
