@@ -75,6 +75,17 @@ def written(word: str, given: str) -> bytes:
     return subprocess.run([program_path(), word], input=given.encode(), stdout=subprocess.PIPE, check=True).stdout
 
 
+def alive(of: int, group: bool = False) -> List[int]:
+    """The processes that a process started, or those of a group, without those that have ended and wait to be asked for."""
+    found = []
+    for pid in filter(str.isdigit, os.listdir('/proc')):
+        with contextlib.suppress(OSError), open(f'/proc/{pid}/stat') as file:
+            state, parent, leader = file.read().rpartition(')')[2].split()[:3]
+            if state != 'Z' and of == int(leader if group else parent):
+                found.append(int(pid))
+    return found
+
+
 @contextlib.contextmanager
 def a_program(text: str) -> Iterator[str]:
     """The path of a program in Python, which is there as long as it is needed."""

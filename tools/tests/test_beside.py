@@ -38,8 +38,15 @@ COLOURS = [
 ]
 
 
+def has_colours():
+    """Whether there is a vim that colours texts."""
+    if not shutil.which('vim'):
+        return False
+    return b'+syntax' in subprocess.run(['vim', '--version'], stdin=subprocess.DEVNULL, stdout=subprocess.PIPE).stdout
+
+
 class Vim(unittest.TestCase):
-    @unittest.skipUnless(shutil.which('vim'), 'there is no vim')
+    @unittest.skipUnless(has_colours(), 'there is no vim with syntax')
     def test_each_word_has_its_colour(self):
         with tempfile.TemporaryDirectory() as folder:
             sample, told = os.path.join(folder, 'sample.persist'), os.path.join(folder, 'told')

@@ -1,13 +1,12 @@
 """A process that is killed, that gets too much, or whose output nobody reads; and commands that are interrupted."""
 import os
 import signal
-import subprocess
 import threading
 import time
 import unittest
 
 from persist_client import INPUT_LIMIT, CutOff, Ended, Opened, Refused, Session, Trapped, Version, program_path
-from tests.samples import LIST, a_program
+from tests.samples import LIST, a_program, alive
 
 
 class Killed(unittest.TestCase):
@@ -104,10 +103,9 @@ class Interrupted(unittest.TestCase):
             with Session(LIST, path) as session:
                 self.assertEqual(session.budget(1_000_000_000).charges, 1_000_000_000)
                 self.interrupt(session, lambda: session.query(0, 'spin'))
+                self.assertEqual(len(alive(session.pid, group=True)), 2)
             self.assertEqual(session.end(), -9)
-            told = subprocess.run(['ps', '-eo', 'pgid=,stat='], stdout=subprocess.PIPE, check=True).stdout.decode()
-            left = [line for line in told.splitlines() if line.split()[0] == str(session.pid) and not line.split()[1].startswith('Z')]
-            self.assertEqual(left, [])
+            self.assertEqual(alive(session.pid, group=True), [])
             with Session(LIST, path) as session:
                 self.assertEqual(session.run(0, 'add', 1), Version(1))
             self.assertEqual(session.end(), 0)

@@ -11,7 +11,7 @@ import tempfile
 import time
 import unittest
 
-from tests.samples import LIST, TOOLS
+from tests.samples import LIST, TOOLS, alive
 
 SECONDS = 20
 UP, LEFT, HOME, CTRL_C, CTRL_D, TAB, ERASE_LINE = '\x1b[A', '\x1b[D', '\x01', '\x03', '\x04', '\t', '\x15'
@@ -77,6 +77,7 @@ class Terminal:
             self.process.wait()
 
 
+@unittest.skipUnless(os.path.exists('/dev/ptmx'), 'there are no pseudo-terminals')
 class Keys(unittest.TestCase):
     def setUp(self):
         folder = tempfile.TemporaryDirectory()
@@ -173,11 +174,11 @@ class Keys(unittest.TestCase):
         terminal = self.terminal(self.path)
         terminal.type(r'\dump' + '\n')
         terminal.wait('key: 5')
-        below = subprocess.run(['ps', '-o', 'pid=', '--ppid', str(terminal.process.pid)], stdout=subprocess.PIPE).stdout.split()
+        below = alive(terminal.process.pid)
+        self.assertEqual(len(below), 1)
         terminal.type(CTRL_D)
         self.assertEqual(terminal.end(), 0)
-        for pid in below:
-            self.assertRaises(ProcessLookupError, os.kill, int(pid), 0)
+        self.assertEqual(alive(below[0], group=True), [])
 
 
 if __name__ == '__main__':
