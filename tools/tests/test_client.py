@@ -150,6 +150,7 @@ class Questions(unittest.TestCase):
         with Session(LIST) as session:
             session.run(0, 'add', 5)
             session.query(1, 'sum')
+            session.query(0, 'top')
             session.run(9, 'add', 5)
             session.open(1)
             session.call(2, 'add', 7)
