@@ -24,7 +24,7 @@ from typing import ClassVar, Dict, Iterable, List, Optional, Sequence, Tuple, Ty
 __all__ = [
     'Answer', 'Budget', 'Changed', 'Content', 'CutOff', 'Done', 'Dropped', 'Dump', 'Ended', 'Field', 'History', 'Never', 'NoAnswer',
     'NotCarriedOut', 'Opened', 'Outline', 'PersistError', 'Pointer', 'ProgramRefused', 'Record', 'Refused', 'Reply', 'Running',
-    'Session', 'Stats', 'Trapped', 'UnknownReply', 'Version', 'Versions', 'WrongText', 'must', 'program_path', 'read_answer',
+    'Session', 'Stats', 'Trapped', 'UnknownReply', 'Version', 'Versions', 'WrongText', 'answer_to', 'must', 'program_path', 'read_answer',
     'read_dump', 'read_outline', 'read_reply', 'read_text', 'read_versions', 'split_input', 'text_of', 'words_of', 'write_text',
 ]
 
@@ -33,7 +33,7 @@ INPUT_LIMIT = 67_108_864
 # A line of no form. Its reply shows the end of what was written before it.
 MARK = '.'
 MARKED = 'refused line'
-# Seconds that a process is given to end by itself when its input is closed.
+# Seconds that a process is given to end when its input is closed or it is told to.
 PATIENCE = 10
 
 STATUSES = {
@@ -523,12 +523,21 @@ def program_path() -> str:
     return named or os.path.join(os.path.dirname(os.path.dirname(os.path.abspath(__file__))), 'persist')
 
 
-def kill(process: 'subprocess.Popen[bytes]') -> None:
-    """Kills a process and those that it started, since the program may run below a script."""
+def send(process: 'subprocess.Popen[bytes]', number: int) -> None:
+    """Sends a signal to a process and those that it started, since the program may run below a script."""
     try:
-        os.killpg(process.pid, signal.SIGKILL)
+        os.killpg(process.pid, number)
     except (ProcessLookupError, PermissionError):
-        process.kill()
+        process.send_signal(number)
+
+
+def wait_for(process: 'subprocess.Popen[bytes]') -> int:
+    """Waits for the end of a process, and gives its status; where it does not come the process is killed."""
+    try:
+        return process.wait(PATIENCE)
+    except subprocess.TimeoutExpired:
+        send(process, signal.SIGKILL)
+        return process.wait()
 
 
 def answer_to(words: Sequence[str], given: str, path: str) -> str:
@@ -538,7 +547,8 @@ def answer_to(words: Sequence[str], given: str, path: str) -> str:
         try:
             written, _ = process.communicate(given.encode('utf-8', 'surrogateescape'))
         except BaseException:
-            kill(process)
+            send(process, signal.SIGTERM)
+            wait_for(process)
             raise
     if process.returncode != 0:
         raise NoAnswer(words, process.returncode)
@@ -609,30 +619,27 @@ class Session:
         return ProgramRefused(found[1], line, lines[line - 1] if 0 < line <= len(lines) else '')
 
     def end(self) -> int:
-        """Ends the process, and gives its status. Where a reply is still unread it is killed."""
+        """Ends the process, and gives its status. Where a reply is still unread it is told to end at once, by a signal."""
         if self._status is None:
             if self._cut_off:
-                kill(self._process)
+                send(self._process, signal.SIGTERM)
             self._status = self._wait()
         return self._status
 
     def _wait(self) -> int:
-        """Closes the input and waits for the end; where it does not come the process is killed."""
+        """Closes the input and waits for the end."""
         assert self._process.stdin and self._process.stdout
         try:
             self._process.stdin.close()
         except BrokenPipeError:
             pass
         try:
-            return self._process.wait(PATIENCE)
-        except subprocess.TimeoutExpired:
-            kill(self._process)
-            return self._process.wait()
+            return wait_for(self._process)
         finally:
             self._process.stdout.close()
 
     def restart(self) -> None:
-        """Kills the process, also in the middle of a command, and carries the history out again in a new one.
+        """Ends the process, also in the middle of a command, and carries the history out again in a new one.
 
         What was being carried out is given up. The versions and the open runs are there again, with their numbers; the counts of
         `stats` are those of the history.

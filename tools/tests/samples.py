@@ -6,6 +6,7 @@ import stat
 import subprocess
 import sys
 import tempfile
+import time
 from typing import Iterator, List
 
 from persist_client import program_path
@@ -84,6 +85,16 @@ def alive(of: int, group: bool = False) -> List[int]:
             if state != 'Z' and of == int(leader if group else parent):
                 found.append(int(pid))
     return found
+
+
+def all_ended(group: int, seconds: float = 10) -> bool:
+    """Whether all processes of a group end in this time."""
+    until = time.monotonic() + seconds
+    while alive(group, group=True):
+        if time.monotonic() > until:
+            return False
+        time.sleep(0.05)
+    return True
 
 
 @contextlib.contextmanager

@@ -1,14 +1,15 @@
 """The client: all forms of replies, errors, questions, and the same replies as by standard input."""
 import glob
 import os
+import signal
 import threading
 import unittest
 
 import persist_client
 from persist_client import (
     Answer, Budget, Changed, CutOff, Done, Dropped, Dump, Ended, Field, Never, NoAnswer, NotCarriedOut, Opened, Pointer,
-    ProgramRefused, Record, Refused, Running, Session, Stats, Trapped, UnknownReply, Version, Versions, WrongText, must, read_answer,
-    read_dump, read_outline, read_reply, read_text, read_versions, split_input, text_of, words_of)
+    ProgramRefused, Record, Refused, Running, Session, Stats, Trapped, UnknownReply, Version, Versions, WrongText, answer_to, must,
+    read_answer, read_dump, read_outline, read_reply, read_text, read_versions, split_input, text_of, words_of)
 from tests.samples import LIST, TOP, a_program, made_up_script, written
 
 
@@ -278,6 +279,15 @@ class BadPrograms(unittest.TestCase):
         self.addCleanup(setattr, persist_client, 'PATIENCE', patience)
         with a_program("print('refused line', flush=True)\ntime.sleep(60)") as path:
             self.assertEqual(Session('', path).end(), -9)
+        with a_program("import signal\nsignal.signal(signal.SIGTERM, signal.SIG_IGN)\ntime.sleep(60)") as path:
+            timer = threading.Timer(0.5, os.kill, (os.getpid(), signal.SIGINT))
+            timer.start()
+            self.assertRaises(KeyboardInterrupt, Session, '', path)
+            timer.join()
+            timer = threading.Timer(0.5, os.kill, (os.getpid(), signal.SIGINT))
+            timer.start()
+            self.assertRaises(KeyboardInterrupt, answer_to, ['check'], '', path)
+            timer.join()
 
 
 if __name__ == '__main__':

@@ -6,7 +6,7 @@ import time
 import unittest
 
 from persist_client import INPUT_LIMIT, CutOff, Ended, Opened, Refused, Session, Trapped, Version, program_path
-from tests.samples import LIST, a_program, alive
+from tests.samples import LIST, a_program, alive, all_ended
 
 
 class Killed(unittest.TestCase):
@@ -84,7 +84,7 @@ class Interrupted(unittest.TestCase):
             began = time.monotonic()
             self.interrupt(session, lambda: session.query(1, 'spin'))
             session.restart()
-            self.assertLess(time.monotonic() - began, 3)
+            self.assertLess(time.monotonic() - began, 6)
             self.assertEqual((session.versions(), session.stats()), before)
             self.assertEqual(session.close(2), Version(2))
             self.assertEqual(session.budget(5).charges, 5)
@@ -95,8 +95,8 @@ class Interrupted(unittest.TestCase):
         with Session(LIST) as session:
             session.budget(1_000_000_000)
             self.interrupt(session, lambda: session.query(0, 'spin'))
-        self.assertEqual(session.end(), -9)
-        self.assertLess(time.monotonic() - began, 3)
+        self.assertEqual(session.end(), -15)
+        self.assertLess(time.monotonic() - began, 6)
 
     def test_a_program_that_runs_below_a_script_ends_too(self):
         with a_program(f'import subprocess\nsys.exit(subprocess.call([{program_path()!r}] + sys.argv[1:]))') as path:
@@ -104,8 +104,8 @@ class Interrupted(unittest.TestCase):
                 self.assertEqual(session.budget(1_000_000_000).charges, 1_000_000_000)
                 self.interrupt(session, lambda: session.query(0, 'spin'))
                 self.assertEqual(len(alive(session.pid, group=True)), 2)
-            self.assertEqual(session.end(), -9)
-            self.assertEqual(alive(session.pid, group=True), [])
+            self.assertEqual(session.end(), -15)
+            self.assertTrue(all_ended(session.pid))
             with Session(LIST, path) as session:
                 self.assertEqual(session.run(0, 'add', 1), Version(1))
             self.assertEqual(session.end(), 0)

@@ -11,10 +11,10 @@ import tempfile
 import time
 import unittest
 
-from tests.samples import LIST, TOOLS, alive
+from tests.samples import LIST, TOOLS, alive, all_ended
 
 SECONDS = 20
-UP, LEFT, HOME, CTRL_C, CTRL_D, TAB, ERASE_LINE = '\x1b[A', '\x1b[D', '\x01', '\x03', '\x04', '\t', '\x15'
+UP, LEFT, CTRL_C, CTRL_D, TAB, ERASE_LINE = '\x1b[A', '\x1b[D', '\x03', '\x04', '\t', '\x15'
 # Makes its standard input the terminal whose keys send it signals.
 AT_TERMINAL = 'import fcntl, os, sys, termios; fcntl.ioctl(0, termios.TIOCSCTTY, 0); os.execv(sys.argv[1], sys.argv[1:])'
 
@@ -102,7 +102,7 @@ class Keys(unittest.TestCase):
         terminal.type(r'\at 1' + '\n')
         terminal.wait('1 of 2> ')
         terminal.type('top\n')
-        terminal.wait('| 1\n| 5\nok\n')
+        terminal.wait('| 1\n| 5\nok\n1 of 2> ')
         terminal.type('adx 8' + LEFT * 2 + '\x08d' + '\n')
         terminal.wait('version 3\n3> ')
         terminal.type(CTRL_D)
@@ -115,9 +115,9 @@ class Keys(unittest.TestCase):
         terminal.wait('version 2\n2> ')
         terminal.type('que' + TAB + '1 su' + TAB + '\n')
         terminal.wait('query 1 sum')
-        terminal.wait('| 5\nok\n')
+        terminal.wait('| 5\nok\n2> ')
         terminal.type('\\ch' + TAB + '2 fi' + TAB + '\n')
-        terminal.wait('changed 2  add 9\n')
+        terminal.wait('changed 2  add 9\n2> ')
         terminal.type('s' + TAB + TAB)
         self.assertIn('stats', terminal.wait('sum'))
         terminal.type(ERASE_LINE + r'\load ' + self.path[:-4] + TAB + '\n')
@@ -173,12 +173,12 @@ class Keys(unittest.TestCase):
     def test_the_program_ends_with_the_shell(self):
         terminal = self.terminal(self.path)
         terminal.type(r'\dump' + '\n')
-        terminal.wait('key: 5')
+        terminal.wait('key: 5, next: null\n1> ')
         below = alive(terminal.process.pid)
         self.assertEqual(len(below), 1)
         terminal.type(CTRL_D)
         self.assertEqual(terminal.end(), 0)
-        self.assertEqual(alive(below[0], group=True), [])
+        self.assertTrue(all_ended(below[0]))
 
 
 if __name__ == '__main__':
