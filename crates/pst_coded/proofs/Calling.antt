@@ -1,9 +1,7 @@
 -- What one call comes to on the machine alone.
-use Rattle.std.proofs.Common.{◌≡◌, ℕ, ◌+◌, ◌-◌, ◌<◌, ◌≤◌, List, [], length, map, Option, Some, None, refl, sym, ap, ◌∙◌, subst, arith, slice_get, ⊎_elim}
+use Rattle.std.proofs.Common.{◌≡◌, ℕ, ◌+◌, ◌-◌, ◌≤◌, List, [], length, map, Option, Some, None, refl, sym, ap, ◌∙◌, subst, arith, slice_get, ⊎_elim}
 use Rattle.std.proofs.lemmas.Bool.{cases_lt}
 use Rattle.pst_base.specs.Heap.{Heap}
-use Rattle.pst_base.specs.declared.names.Counts.{Counts}
-use Rattle.pst_base.specs.Counts.{counts_plus}
 use Rattle.pst_program.specs.declared.meaning.Value.{Value}
 use Rattle.pst_program.specs.declared.meaning.Value.TheVariants.{Number as ANumber}
 use Rattle.pst_program.specs.Meaning.{World, Ending, Normal, Returned, Trapped, Spent}
@@ -19,7 +17,7 @@ use Rattle.pst_code.specs.Calls.{CallEndsIn}
 use Rattle.pst_code.specs.SoundRuns.{IsOneOf, IsSoundRun, MoveIsSound}
 use Rattle.pst_code.specs.Spending.{spendable, PaysFor, MovePays}
 use Rattle.pst_code.specs.Falls.{total}
-use Rattle.pst_code.specs.Laws.{ComesTo, Reaches, granted, granted_end, granted_move, counted, counted_end, counted_move}
+use Rattle.pst_code.specs.Laws.{ComesTo, granted, granted_end, granted_move, counted, counted_end, counted_move}
 use Rattle.pst_code.proofs.Going.{steps_add, longer, one_coming}
 use Rattle.pst_code.proofs.Granting.{grants_reach}
 use Rattle.pst_code.proofs.Counting.{counts_shift}
@@ -153,11 +151,11 @@ goes_to : (parts : Parts) (k : ℕ) (f g : Frame) (c : List Caller) (w u : World
 goes_to parts k f g c w u o at to =
     ⊎_elim
     (λ lt.
-      let whole : k + (to.within - k) ≡ to.within = omega arith in
-      record {
-        within = to.within - k;
-        comes = ap (λ v. spent (go_on v (steps parts (to.within - k)))) (sym at) ∙ ap spent (sym (steps_add parts k (to.within - k) f [] w)) ∙ ap (λ n. spent (steps parts n f [] w)) whole ∙ to.comes;
-      })
+    let whole : k + (to.within - k) ≡ to.within = omega arith in
+    record {
+      within = to.within - k;
+      comes = ap (λ v. spent (go_on v (steps parts (to.within - k)))) (sym at) ∙ ap spent (sym (steps_add parts k (to.within - k) f [] w)) ∙ ap (λ n. spent (steps parts n f [] w)) whole ∙ to.comes;
+    })
     (λ le. absurd (not_over o (ap spent (sym at) ∙ longer parts to.within k f [] w o le to.comes)))
     (cases_lt k to.within)
   where
@@ -191,7 +189,7 @@ module _ (parts : Parts) (valid : IsValidCode parts) (p : Procedure) (one : IsOn
       let ends = run_ends (granted d w) s in
       let o : Ending = machine_run parts (Some p) vs (granted d w) in
       let to : ComesTo parts g c (granted d u) o =
-          goes_to parts r.within (first_frame p vs) g c (granted d w) (granted d u) o (r.comes ∙ ap (granted_move d) e) (record { within = ends.within; comes = ends.comes }) in
+      goes_to parts r.within (first_frame p vs) g c (granted d w) (granted d u) o (r.comes ∙ ap (granted_move d) e) (record { within = ends.within; comes = ends.comes }) in
       let counts : Counted (granted d u) (world_in o) = later_counts (granted d u) (steps parts to.within g c (granted d u)) o to.comes (steps_count parts to.within g c (granted d u)) in
       record { records = counts.records; pointer_writes = counts.pointer_writes; value_writes = counts.value_writes }
   more_on d w s (Over o) e stop sound =

@@ -1,5 +1,5 @@
 -- A run in frames of valid code stops within the instructions that its number counts, whatever registers and heap hold.
-use Rattle.std.proofs.Common.{◌≡◌, ℕ, zero, suc, ◌+◌, ◌-◌, ◌<◌, ◌≤◌, nat_lt, Bool, true, false, List, [], ◌∷◌, length, map, Option, Some, None, refl, sym, ap, ◌∙◌, subst, arith, slice_get, ⊎_elim}
+use Rattle.std.proofs.Common.{◌≡◌, ℕ, zero, suc, ◌+◌, ◌-◌, ◌<◌, nat_lt, Bool, true, false, List, [], ◌∷◌, length, map, Option, Some, None, refl, sym, ap, ◌∙◌, arith, slice_get, ⊎_elim}
 use Rattle.std.proofs.lemmas.Bool.{cases_lt}
 use Rattle.pst_program.specs.declared.meaning.Value.{Value}
 use Rattle.pst_program.specs.Meaning.{World, Ending, Normal, Returned, Trapped, Spent}
@@ -104,9 +104,9 @@ pub stuck_ends_nowhere : (parts : Parts) (n : ℕ) (f : Frame) (callers : List C
 stuck_ends_nowhere parts n f callers w o stuck to =
     ⊎_elim
     (λ lt.
-      let whole : n + (to.within - n) ≡ to.within = omega arith in
-      let still : steps parts to.within f callers w ≡ Stuck = ap (λ k. steps parts k f callers w) (sym whole) ∙ steps_add parts n (to.within - n) f callers w ∙ stuck_on parts (to.within - n) (steps parts n f callers w) stuck in
-      differ o (ap spent (sym still) ∙ to.comes))
+    let whole : n + (to.within - n) ≡ to.within = omega arith in
+    let still : steps parts to.within f callers w ≡ Stuck = ap (λ k. steps parts k f callers w) (sym whole) ∙ steps_add parts n (to.within - n) f callers w ∙ stuck_on parts (to.within - n) (steps parts n f callers w) stuck in
+    differ o (ap spent (sym still) ∙ to.comes))
     (λ le. differ o (ap spent (sym stuck) ∙ longer parts to.within n f callers w o le to.comes))
     (cases_lt n to.within)
   where

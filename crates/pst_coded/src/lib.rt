@@ -21,7 +21,5 @@ mod meant;
 
 pub use bare::BareCode;
 pub use compiled::Compiled;
-pub use laws::{
-    code_has_one_meaning, compiled_code_means_the_program, valid_code_has_a_meaning,
-};
+pub use laws::{code_has_one_meaning, compiled_code_means_the_program, valid_code_has_a_meaning};
 pub use meant::Meant;
