@@ -1,5 +1,5 @@
 -- What is held in the end beside the input and the output.
-use Rattle.std.specs.Prelude.{◌≡◌, ℕ, ⊤, List}
+use Rattle.std.specs.Prelude.{◌≡◌, ℕ, List}
 use Rattle.pst_history.specs.Meaning.{Meaning}
 use Rattle.pst_history.specs.History.{History, begun}
 use Rattle.pst_answers.specs.Pieces.{state_after, BreaksIn}

@@ -29,7 +29,7 @@ until_carried m h leaves breaks lines.Memory a left c left'' given g off kept = 
 
 -- carrying the script out stopped
 pub carrying_stopped : {T : Type 0} (rules : Rules) (leaves breaks : Meaning → T → History → Type 0) (old new : T) (m : Meaning) (s : Stop) (a b : InputState) (left left' : Option (List ℕ)) (lines : List (List ℕ))
-    → StopsCarrying (script_of rules m) (first_history m) (leaves m new) (breaks m new) s a left b left' lines
+    → StopsCarrying (script_of rules m) (first_history rules m) (leaves m new) (breaks m new) s a left b left' lines
     → StopsAsking (new ≡ old) ((kept_by rules leaves breaks old new).leaves m) ((kept_by rules leaves breaks old new).breaks m) s a left b left'
 carrying_stopped rules leaves breaks old new m stop.Read a b left left' lines (g, off, kept) = (lines, g, off, kept)
 carrying_stopped rules leaves breaks old new m stop.TooLong a b left left' lines (g, off, kept) = (lines, g, off, kept)

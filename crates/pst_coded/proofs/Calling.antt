@@ -1,9 +1,7 @@
 -- What one call comes to on the machine alone.
-use Rattle.std.proofs.Common.{◌≡◌, ℕ, ◌+◌, ◌-◌, ◌<◌, ◌≤◌, List, [], length, map, Option, Some, None, refl, sym, ap, ◌∙◌, subst, arith, slice_get, ⊎_elim}
+use Rattle.std.proofs.Common.{◌≡◌, ℕ, ◌+◌, ◌-◌, ◌≤◌, List, [], length, map, Option, Some, None, refl, sym, ap, ◌∙◌, subst, arith, slice_get, ⊎_elim}
 use Rattle.std.proofs.lemmas.Bool.{cases_lt}
 use Rattle.pst_base.specs.Heap.{Heap}
-use Rattle.pst_base.specs.declared.names.Counts.{Counts}
-use Rattle.pst_base.specs.Counts.{counts_plus}
 use Rattle.pst_program.specs.declared.meaning.Value.{Value}
 use Rattle.pst_program.specs.declared.meaning.Value.TheVariants.{Number as ANumber}
 use Rattle.pst_program.specs.Meaning.{World, Ending, Normal, Returned, Trapped, Spent}
@@ -19,7 +17,7 @@ use Rattle.pst_code.specs.Calls.{CallEndsIn}
 use Rattle.pst_code.specs.SoundRuns.{IsOneOf, IsSoundRun, MoveIsSound}
 use Rattle.pst_code.specs.Spending.{spendable, PaysFor, MovePays}
 use Rattle.pst_code.specs.Falls.{total}
-use Rattle.pst_code.specs.Laws.{ComesTo, Reaches, granted, granted_end, granted_move, counted, counted_end, counted_move}
+use Rattle.pst_code.specs.Laws.{ComesTo, granted, granted_end, granted_move, counted, counted_end, counted_move}
 use Rattle.pst_code.proofs.Going.{steps_add, longer, one_coming}
 use Rattle.pst_code.proofs.Granting.{grants_reach}
 use Rattle.pst_code.proofs.Counting.{counts_shift}

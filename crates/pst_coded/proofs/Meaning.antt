@@ -1,6 +1,6 @@
 -- Valid code means by its machine what it comes to, and that meaning is lawful.
-use Rattle.std.proofs.Common.{◌≡◌, ◌≢◌, inl, inr, ℕ, ℤ, ◌+◌, ◌-◌, ◌<◌, ◌≤◌, min, Bool, true, false, List, [], ◌∷◌, ◌++◌, length, map, take, Option, Some, None, refl, sym, ap, ◌∙◌, subst, arith, slice_get, length-append}
-use Rattle.std.specs.Prelude.{IsTrue, nat_le, unwrap_or, if◌then◌else◌}
+use Rattle.std.proofs.Common.{◌≡◌, ◌≢◌, inl, inr, ℕ, ℤ, ◌+◌, ◌-◌, ◌<◌, ◌≤◌, min, Bool, true, false, List, [], ◌∷◌, ◌++◌, length, map, Option, Some, None, refl, sym, ap, ◌∙◌, subst, arith, slice_get}
+use Rattle.std.specs.Prelude.{nat_le, unwrap_or, if◌then◌else◌}
 use Rattle.std.specs.Option.{option_map, option_and_then}
 use Rattle.std.specs.FinMap.{get}
 use Rattle.std.proofs.lemmas.Bool.{le-leb, leb-true}
@@ -12,16 +12,15 @@ use Rattle.pst_base.specs.declared.names.Kind.{Kind}
 use Rattle.pst_base.specs.declared.names.Kind.TheVariants.{Int, Pointer}
 use Rattle.pst_base.specs.declared.names.Name.{Name}
 use Rattle.pst_base.specs.declared.names.RunNo.{RunNo}
-use Rattle.pst_base.specs.declared.names.Trap.{Trap}
 use Rattle.pst_base.specs.Heap.{Heap, Rec, IsWellFormed, type_in}
-use Rattle.pst_program.specs.declared.meaning.Ended.TheVariants.{Stopped, Trapped as EndedEarly}
+use Rattle.pst_program.specs.declared.meaning.Ended.TheVariants.{Stopped}
 use Rattle.pst_program.specs.declared.meaning.Value.TheVariants.{Number as ANumber}
-use Rattle.pst_program.specs.Meaning.{World, Ending, Normal, Returned, Trapped, Spent}
-use Rattle.pst_program.specs.Outcome.{TaskCall, Outcome, first_world, next_call, in_order, outcome_of}
+use Rattle.pst_program.specs.Meaning.{Ending, Normal, Returned, Trapped, Spent}
+use Rattle.pst_program.specs.Outcome.{TaskCall, first_world, next_call, outcome_of}
 use Rattle.pst_program.specs.Procedures.{number_named, parameters_if}
 use Rattle.pst_program.specs.Sound.{IsSoundWorld, Grown, AreOf, CountsBelow, CountsWithin, world_in}
 use Rattle.pst_program.specs.Laws.{IsOlder}
-use Rattle.pst_program.proofs.Fewer.{Counted, counted_quiet}
+use Rattle.pst_program.proofs.Fewer.{counted_quiet}
 use Rattle.pst_program.proofs.InOrder.{in_order-append, next_counts, next_trapped}
 use Rattle.pst_program.proofs.More.{More}
 use Rattle.pst_program.proofs.Outcomes.{older_fresh}
@@ -31,7 +30,7 @@ use Rattle.pst_code.specs.Valid.{IsValidCode, signature, parameters_of}
 use Rattle.pst_history.specs.declared.history.NamedCall.{NamedCall}
 use Rattle.pst_history.specs.Meaning.{Meaning, Work, with_calls, AllFit, CanBeDone, IsLawful, fits, fits_one}
 use Rattle.pst_history.proofs.Lists.{slice_get-before}
-use Rattle.pst_coded.specs.Coded.{code_number, code_call, code_parameters, IsMeaningOf}
+use Rattle.pst_coded.specs.Coded.{code_call, code_parameters, IsMeaningOf}
 use Rattle.pst_coded.specs.Bare.{machine_call, by_machine, ValidCodeHasAMeaning}
 use Rattle.pst_coded.proofs.Coding.{fits-length}
 use Rattle.pst_coded.proofs.Calling.{IsCallable, LeavesSound}
@@ -221,8 +220,6 @@ module _ (parts : Parts) (valid : IsValidCode parts) where
         subst (λ (c : Counts). CountsWithin c w.budget) (sym (outcome-counts (nat_le w.budget k) (runs w (min k w.budget) heap)))
         (record { records = omega (arith, paid.records, le); pointer_writes = omega (arith, paid.pointer_writes, le); value_writes = omega (arith, paid.value_writes, le) });
     counts = λ w more k n heap ready le.
-        let a = min k w.budget in
-        let b = min n w.budget in
         let all = runs (with_calls w more) (min n w.budget) heap in
         subst (λ (c : Counts). CountsBelow c (outcome_of (nat_le w.budget n) all).counts) (sym (outcome-counts (nat_le w.budget k) (runs w (min k w.budget) heap)))
         (subst (λ (c : Counts). CountsBelow (world_in (runs w (min k w.budget) heap)).counts c) (sym (outcome-counts (nat_le w.budget n) all)) (grow w more (min k w.budget) (min n w.budget) heap ready (omega arith)));

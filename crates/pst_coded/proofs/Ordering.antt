@@ -1,6 +1,5 @@
 -- What calls in order come to on the machine alone.
-use Rattle.std.proofs.Common.{◌≡◌, ℕ, zero, suc, ◌+◌, List, [], ◌∷◌, map, Option, Some, None, refl, sym, ap, ◌∙◌, subst, arith, slice_get}
-use Rattle.pst_program.specs.declared.meaning.Value.TheVariants.{Number as ANumber}
+use Rattle.std.proofs.Common.{◌≡◌, ℕ, suc, List, [], ◌∷◌, Some, refl, sym, ap, ◌∙◌, subst, slice_get}
 use Rattle.pst_program.specs.Meaning.{World, Ending, Normal, Returned, Trapped, Spent}
 use Rattle.pst_program.specs.Outcome.{TaskCall, next_call, in_order}
 use Rattle.pst_program.specs.Sound.{IsSoundWorld, Grown, world_in}
@@ -10,7 +9,7 @@ use Rattle.pst_program.proofs.InOrder.{next_keeps, in_order_keeps}
 use Rattle.pst_program.proofs.More.{More, ahead}
 use Rattle.pst_code.specs.declared.procedure.Parts.{Parts}
 use Rattle.pst_code.specs.Valid.{IsValidCode}
-use Rattle.pst_code.specs.Calls.{CallEndsIn, CallsEndIn, NextEndsIn}
+use Rattle.pst_code.specs.Calls.{CallsEndIn, NextEndsIn}
 use Rattle.pst_coded.specs.Bare.{machine_call}
 use Rattle.pst_coded.proofs.Calling.{IsCallable, LeavesSound, one_ends, one_leaves, one_more, one_counted, call_ends_once}
 

@@ -14,7 +14,6 @@ use Rattle.pst_script.specs.declared.command.Command.{Command}
 use Rattle.pst_script.specs.declared.command.Command.TheVariants as command
 use Rattle.pst_script.specs.Commands.{in_range}
 use Rattle.pst_script.specs.declared.reply.Refusal.{Refusal}
-use Rattle.pst_history.specs.declared.history.Run.{Run}
 use Rattle.pst_history.specs.Meaning.{Meaning, IsLawful}
 use Rattle.pst_history.specs.History.{History, run_at, refusal, next_run}
 use Rattle.pst_machine.specs.declared.activation.Activation.{Activation}

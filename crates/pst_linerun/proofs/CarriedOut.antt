@@ -1,11 +1,10 @@
 -- One call at a place, carried to its end with the whole budget.
-use Rattle.std.proofs.Common.{◌≡◌, inl, inr, ℕ, ◌+◌, ◌<◌, ◌^◌, List, ℤ, [], min, refl, ap, sym, ◌∙◌, subst, arith}
+use Rattle.std.proofs.Common.{◌≡◌, inl, inr, ℕ, ◌+◌, ◌<◌, ◌^◌, List, ℤ, [], min, ap, sym, ◌∙◌, subst, arith}
 use Rattle.pst_base.specs.declared.names.RunNo.{RunNo}
 use Rattle.pst_base.specs.Counts.{counts_plus}
 use Rattle.pst_program.specs.declared.meaning.Ended.{Ended}
 use Rattle.pst_program.specs.Outcome.{Outcome, no_counts}
-use Rattle.pst_places.specs.State.{State, Unchanged, Keeps}
-use Rattle.pst_steps.specs.Fields.{KeepsOthers}
+use Rattle.pst_places.specs.State.{State}
 use Rattle.pst_history.specs.declared.history.NamedCall.{NamedCall}
 use Rattle.pst_history.specs.Meaning.{Meaning, Work}
 use Rattle.pst_history.proofs.Sums.{counts_plus-none}

@@ -72,15 +72,15 @@ page_stopped stop.TooLong page text piece out syntax program judged is s = absur
 
 pub script_answered : {T : Type 0} (rules : Rules) (leaves breaks : Meaning → T → History → Type 0) (old new : T) (a b : InputState) (left left' : Option (List ℕ)) (text out : List ℕ) (syntax : ProgramText) (program : Program)
     (given : List (List ℕ)) → Judged text (Accepted syntax (program_of program)) → Gives a left b left' given → IsOver b → IsAtEnd left'
-    → IsAll (pieces_from (script_of rules (meaning_of program)) (first_history (meaning_of program)) given) out
-    → leaves (meaning_of program) new (state_after (script_of rules (meaning_of program)) (first_history (meaning_of program)) given)
+    → IsAll (pieces_from (script_of rules (meaning_of program)) (first_history rules (meaning_of program)) given) out
+    → leaves (meaning_of program) new (state_after (script_of rules (meaning_of program)) (first_history rules (meaning_of program)) given)
     → Serves Done rules (kept_by rules leaves breaks old new) a left b left' text out
 script_answered rules leaves breaks old new a b left left' text out syntax program given judged g over end w kept =
     (given, g, over, end, (Accepted syntax (program_of program), judged, kept, w))
 
 pub script_stopped : {T : Type 0} (rules : Rules) (leaves breaks : Meaning → T → History → Type 0) (old new : T) (s : Stop) (a b : InputState) (left left' : Option (List ℕ)) (text out : List ℕ) (syntax : ProgramText)
     (program : Program) (given : List (List ℕ)) → Judged text (Accepted syntax (program_of program))
-    → StopsAnswering (script_of rules (meaning_of program)) (first_history (meaning_of program)) (leaves (meaning_of program) new) (breaks (meaning_of program) new) s a left b left' given out
+    → StopsAnswering (script_of rules (meaning_of program)) (first_history rules (meaning_of program)) (leaves (meaning_of program) new) (breaks (meaning_of program) new) s a left b left' given out
     → Serves (status_of s) rules (kept_by rules leaves breaks old new) a left b left' text out
 script_stopped rules leaves breaks old new stop.Read a b left left' text out syntax program given judged (g, off, w, kept) = (given, g, off, (Accepted syntax (program_of program), judged, kept, w))
 script_stopped rules leaves breaks old new stop.TooLong a b left left' text out syntax program given judged (g, off, w, kept) = (given, g, off, (Accepted syntax (program_of program), judged, kept, w))

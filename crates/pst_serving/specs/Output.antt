@@ -13,9 +13,9 @@ use Rattle.pst_answers.specs.Kept.{Kept, first_history}
 use Rattle.pst_judge.specs.Pages.{routines_in, page_text}
 use Rattle.pst_judge.specs.Verdict.{Verdict, Accepted, Refused, Judged, fault_text}
 
--- the replies to a script, from the history of the opening on in which version 0 is alone
+-- the replies to a script, from the history on with which it begins
 abbrev pub replies_of : Rules → Meaning → List (List ℕ) → List (List ℕ)
-replies_of rules m script = pieces_from (script_of rules m) (first_history m) script
+replies_of rules m script = pieces_from (script_of rules m) (first_history rules m) script
 
 -- the line of the fault, or the replies to the script
 abbrev pub replied : Rules → List (List ℕ) → Verdict → List (List ℕ)
@@ -66,14 +66,14 @@ abbrev pub StopsInPiece : Rules → Kept → List (List ℕ) → Verdict → Lis
 StopsInPiece rules k given (Refused fault) out = (given ≡ []) × IsPartOf (fault_text fault) out × k.untouched
 StopsInPiece rules k given (Accepted syntax program) out =
     let m = direct (routines_in program) in
-    StopsInReply (script_of rules m) (first_history m) given out × k.leaves m given
+    StopsInReply (script_of rules m) (first_history rules m) given out × k.leaves m given
 
 -- the lines of the script are answered but for the last one, in which there was no room
 abbrev pub StopsBeforePiece : Rules → Kept → List (List ℕ) → Verdict → List ℕ → Type 0
 StopsBeforePiece rules k given (Refused fault) out = ⊥
 StopsBeforePiece rules k given (Accepted syntax program) out =
     let m = direct (routines_in program) in
-    StopsBeforeReply (script_of rules m) (first_history m) given out × k.breaks m given
+    StopsBeforeReply (script_of rules m) (first_history rules m) given out × k.breaks m given
 
 -- a proper part of the line of the fault or of the page is written
 abbrev pub StopsInPage : Page → Verdict → List ℕ → Type 0

@@ -24,9 +24,9 @@ only_start : (s : Stored) (p : Place) → s.forks ≡ [] → s.relics ≡ [] →
 only_start s p none empty is = ⊎_elim
     (λ (e : p ≡ s.start). e)
     (λ (other : IsForked s.forks p ⊎ IsRelic s.relics p). ⊎_elim
-        (λ (f : IsForked s.forks p). absurd (none_forked p (subst (λ (fs : List Fork). IsForked fs p) none f)))
-        (λ (r : IsRelic s.relics p). absurd (none_relic p (subst (λ (rs : List Place). IsRelic rs p) empty r)))
-        other)
+    (λ (f : IsForked s.forks p). absurd (none_forked p (subst (λ (fs : List Fork). IsForked fs p) none f)))
+    (λ (r : IsRelic s.relics p). absurd (none_relic p (subst (λ (rs : List Place). IsRelic rs p) empty r)))
+    other)
     is
 
 -- a store as it is started is a heap with which a new engine begins

@@ -32,7 +32,7 @@ unfolding refusal reply
 stats_answer m h = refl
 
 -- the summary of a store that is left in a history is that of the history
-pub summary_is : (m : Meaning) (lines : List (List ℕ)) (store : Option Stored) (sum : ℤ) (text : List ℕ) → IsLeft m store (history_after by_tree m lines) → sum ≡ fold ◌+ℤ◌ (pos 0) (printed_from by_tree m (first_history m) lines)
+pub summary_is : (m : Meaning) (lines : List (List ℕ)) (store : Option Stored) (sum : ℤ) (text : List ℕ) → IsLeft m store (history_after by_tree m lines) → sum ≡ fold ◌+ℤ◌ (pos 0) (printed_from by_tree m (first_history by_tree m) lines)
     → text ≡ summary (length (state_in store).versions) (text_of (answer.StatsAre (state_in store).counts)) (length (nodes_in store)) sum → text ≡ summary_of m lines store
 summary_is m lines store sum text left summed is =
     let h = history_after by_tree m lines in
@@ -45,8 +45,8 @@ pub broken_if_left : (m : Meaning) (store : Option Stored) (h : History) → IsL
 broken_if_left m store h left = record { versions = left.versions; small = λ none. left.small; bounded = left.bounded }
 
 -- there was no room behind the last line
-pub broken_behind : (m : Meaning) (lines : List (List ℕ)) (store : Option Stored) → IsLeft m store (history_after by_tree m lines) → AfterSome (script_of by_tree m) (first_history m) (IsBroken m store) lines
-broken_behind m lines store left = after_all (script_of by_tree m) (first_history m) (IsBroken m store) lines (broken_if_left m store (history_after by_tree m lines) left)
+pub broken_behind : (m : Meaning) (lines : List (List ℕ)) (store : Option Stored) → IsLeft m store (history_after by_tree m lines) → AfterSome (script_of by_tree m) (first_history by_tree m) (IsBroken m store) lines
+broken_behind m lines store left = after_all (script_of by_tree m) (first_history by_tree m) (IsBroken m store) lines (broken_if_left m store (history_after by_tree m lines) left)
 
 -- ---- rows
 
@@ -61,7 +61,7 @@ fault_row TooLong text lines store out fault has w = absurd w
 fault_row Usage text lines store out fault has w = absurd w
 
 pub memory_row : (text : List ℕ) (lines : List (List ℕ)) (old new : Option Stored) (syntax : ProgramText) (program : Program) → Judged text (Accepted syntax (program_of program))
-    → (new ≡ old) ⊎ AfterSome (script_of by_tree (meaning_of program)) (first_history (meaning_of program)) (IsBroken (meaning_of program) new) lines → BenchRow Memory text lines old new []
+    → (new ≡ old) ⊎ AfterSome (script_of by_tree (meaning_of program)) (first_history by_tree (meaning_of program)) (IsBroken (meaning_of program) new) lines → BenchRow Memory text lines old new []
 memory_row text lines old new syntax program judged (inl same) = (refl, inl same)
 memory_row text lines old new syntax program judged (inr some) = (refl, inr (Accepted syntax (program_of program), judged, some))
 

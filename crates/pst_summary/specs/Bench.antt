@@ -64,7 +64,7 @@ bench_lines number = lines_of (script 20000 number)
 abbrev pub summary_of : Meaning → List (List ℕ) → Option Stored → List ℕ
 summary_of m lines store =
     let h = history_after by_tree m lines in
-    summary (version_count h) (text_of (reply m h Stats)) (length (nodes_in store)) (fold ◌+ℤ◌ (pos 0) (printed_from by_tree m (first_history m) lines))
+    summary (version_count h) (text_of (reply m h Stats)) (length (nodes_in store)) (fold ◌+ℤ◌ (pos 0) (printed_from by_tree m (first_history by_tree m) lines))
 
 -- ---- the table, for the lines of the script, the store that was handed in and the one that is left
 
@@ -89,7 +89,7 @@ StopsBench lines old new out (IsRefusedBy fault) = (new ≡ old) × IsPartOf (fa
 
 -- the store has the versions of the history after some first ones of the lines
 abbrev pub IsBrokenAfterSome : Meaning → List (List ℕ) → Option Stored → Type 0
-IsBrokenAfterSome m lines store = AfterSome (script_of by_tree m) (first_history m) (IsBroken m store) lines
+IsBrokenAfterSome m lines store = AfterSome (script_of by_tree m) (first_history by_tree m) (IsBroken m store) lines
 
 -- so it has, for an accepted program
 abbrev pub BreaksBench : List (List ℕ) → Option Stored → Verdict → Type 0

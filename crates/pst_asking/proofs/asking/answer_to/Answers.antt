@@ -18,21 +18,21 @@ returns-in_err-carry_script-clause-found g c =
     let m = meaning_of c.args.program in
     let p = err_from_is_err_and c.from_residual.result c.from_residual.ensures.1 in
     let s = c.in_err-carry_script.field-0.0 in
-    let (lines, stops) = c.in_err-carry_script.ensures.carried m (first_history m) c.in-Ok.ensures.stands in
+    let (lines, stops) = c.in_err-carry_script.ensures.carried m (first_history by_tree m) c.in-Ok.ensures.stands in
     found_stopped (kept_by by_tree IsLeft IsBroken c.args.store.now c.carry_script.new.held) c.args.program m c.args.question c.args.path.now _ _ _ _ c.from_residual.result s p.0 p.1 p.2
     (carrying_stopped by_tree IsLeft IsBroken c.args.store.now c.carry_script.new.held m s _ _ _ _ lines stops)
 
 pub tell-requires : goal.tell-requires
 tell-requires g c =
     let m = meaning_of c.args.program in
-    let (lines, all, now) = c.in_ok-carry_script.ensures.carried m (first_history m) c.in-Ok.ensures.stands in
+    let (lines, all, now) = c.in_ok-carry_script.ensures.carried m (first_history by_tree m) c.in-Ok.ensures.stands in
     let same = c.program.ensures ∙ c.in_ok-carry_script.ensures.about ∙ c.in-Ok.ensures.about in
     record { shape = now.stands.shape ∙ meaning_shape (routines_of c.args.program) ∙ ap (λ (p : Program). p.shape) (sym same) }
 
 pub returns-in-Ok-tell-clause-found : goal.returns-in-Ok-tell-clause-found
 returns-in-Ok-tell-clause-found g c =
     let m = meaning_of c.args.program in
-    let (lines, all, now) = c.in_ok-carry_script.ensures.carried m (first_history m) c.in-Ok.ensures.stands in
+    let (lines, all, now) = c.in_ok-carry_script.ensures.carried m (first_history by_tree m) c.in-Ok.ensures.stands in
     let h = history_after by_tree m lines in
     let same = c.program.ensures ∙ c.in_ok-carry_script.ensures.about ∙ c.in-Ok.ensures.about in
     let left = c.known.ensures.leaves m h now in
@@ -42,5 +42,5 @@ returns-in-Ok-tell-clause-found g c =
 pub returns-clause-found : goal.returns-clause-found
 returns-clause-found g c =
     let m = meaning_of c.args.program in
-    let (lines, all, now) = c.in_ok-carry_script.ensures.carried m (first_history m) c.in-Ok.ensures.stands in
+    let (lines, all, now) = c.in_ok-carry_script.ensures.carried m (first_history by_tree m) c.in-Ok.ensures.stands in
     answer_lacks (kept_by by_tree IsLeft IsBroken c.args.store.now c.carry_script.new.held) c.args.program m c.args.question c.args.path.now _ _ _ _ lines all (c.known.ensures.leaves m (history_after by_tree m lines) now)

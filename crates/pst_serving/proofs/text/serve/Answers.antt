@@ -13,12 +13,12 @@ pub returns-in-Ok-answer_script-clause-served : goal.returns-in-Ok-answer_script
 returns-in-Ok-answer_script-clause-served g c =
     let (syntax, judged) = c.in-Ok.ensures.verdict in
     let m = meaning_of c.in-Ok.program in
-    let (out, written, (given, gives, over, end, all, kept)) = c.in-Ok-answer_script.ensures.answered m (first_history m) c.in-Ok-begin.ensures.stands in
+    let (out, written, (given, gives, over, end, all, kept)) = c.in-Ok-answer_script.ensures.answered m (first_history g.X.Session.rules m) c.in-Ok-begin.ensures.stands in
     (out, written, script_answered g.X.Session.rules g.X.Session.leaves g.X.Session.breaks c.args.held.now c.answer_script.new.held _ _ _ _ c.args.text.items out syntax c.in-Ok.program given judged gives over end all kept)
 
 pub returns-clause-served : goal.returns-clause-served
 returns-clause-served g c =
     let (syntax, judged) = c.in-Ok.ensures.verdict in
     let m = meaning_of c.in-Ok.program in
-    let (out, written, (given, said)) = c.in-Err-answer_script.ensures.answered m (first_history m) c.in-Ok-begin.ensures.stands in
+    let (out, written, (given, said)) = c.in-Err-answer_script.ensures.answered m (first_history g.X.Session.rules m) c.in-Ok-begin.ensures.stands in
     (out, written, rw c.status_of.ensures (script_stopped g.X.Session.rules g.X.Session.leaves g.X.Session.breaks c.args.held.now c.answer_script.new.held c.in-Err-answer_script.stop _ _ _ _ c.args.text.items out syntax c.in-Ok.program given judged said))

@@ -15,7 +15,7 @@ use Rattle.pst_summary.proofs.summary.summarize.Goals as goal
 pub returns-clause-summary : goal.returns-clause-summary
 returns-clause-summary g c =
     let m = meaning_of c.args.program in
-    let h = first_history m in
+    let h = first_history by_tree m in
     let store = c.sum_lines.new.held in
     let stands = c.in_ok-session.ensures.stands in
     let lines = lines_of c.as_slice.result.now in
@@ -29,7 +29,7 @@ returns-clause-summary g c =
 pub returns-clause-err : goal.returns-clause-err
 returns-clause-err g c =
     let m = meaning_of c.args.program in
-    let h = first_history m in
+    let h = first_history by_tree m in
     let store = c.sum_lines.new.held in
     let lines = lines_of c.as_slice.result.now in
     let same : lines ≡ bench_lines c.args.number = ap lines_of (c.as_slice.ensures ∙ c.in_ok-script.ensures) in
