@@ -1,5 +1,5 @@
 -- How a session over a store begins.
-use Rattle.std.proofs.Common.{◌≡◌, refl, sym, ◌∙◌, subst, ap, false, true, ⊎_elim, ◌⊎◌, ℕ, List, [], ◌∷◌, Option, Some, None, map}
+use Rattle.std.proofs.Common.{◌≡◌, refl, sym, ◌∙◌, ap, false, true, ℕ, List, [], ◌∷◌, Option, Some, None, map}
 use Rattle.std.specs.Prelude.{IsSomeAnd}
 use Rattle.pst_base.specs.declared.shape.TypeShape.{TypeShape}
 use Rattle.pst_base.specs.Heap.{initial_heap}
@@ -7,27 +7,10 @@ use Rattle.pst_program.specs.Syntax.{Routines}
 use Rattle.pst_history.specs.Meaning.{Meaning}
 use Rattle.pst_history.specs.Direct.{direct}
 use Rattle.pst_engine.specs.Stands.{IsStartedHeap}
-use Rattle.pst_meaning.specs.declared.place.Place.{Place}
-use Rattle.pst_meaning.specs.declared.place.Fork.{Fork}
-use Rattle.pst_meaning.specs.Store.{Stored, IsForked, IsRelic, IsPlace, as_fork}
+use Rattle.pst_meaning.specs.Store.{Stored, as_fork}
+use Rattle.pst_meaning.proofs.Starting.{only_start}
 use Rattle.pst_started.specs.Calls.{IsStarted}
 use Rattle.pst_store.specs.Whole.{state_in}
-
--- no fork is in an empty list
-none_forked : (p : Place) → IsForked [] p → ⊥
-none_forked p f = let none : None ≡ Some f.fork = f.at in cc
-
-none_relic : (p : Place) → IsRelic [] p → ⊥
-none_relic p r = let none : None ≡ Some p = r.at in cc
-
-only_start : (s : Stored) (p : Place) → s.forks ≡ [] → s.relics ≡ [] → IsPlace s p → p ≡ s.start
-only_start s p none empty is = ⊎_elim
-    (λ (e : p ≡ s.start). e)
-    (λ (other : IsForked s.forks p ⊎ IsRelic s.relics p). ⊎_elim
-    (λ (f : IsForked s.forks p). absurd (none_forked p (subst (λ (fs : List Fork). IsForked fs p) none f)))
-    (λ (r : IsRelic s.relics p). absurd (none_relic p (subst (λ (rs : List Place). IsRelic rs p) empty r)))
-    other)
-    is
 
 -- a store as it is started is a heap with which a new engine begins
 pub started : (m : Meaning) (shape : List TypeShape) (o : Option Stored) → m.shape ≡ shape → IsSomeAnd o (IsStarted shape) → IsStartedHeap m (state_in o)
