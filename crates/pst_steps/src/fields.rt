@@ -90,6 +90,16 @@ fn field<H: HeapAt>(
     }
 }
 
+/// Puts a nearer reference to its record into a register.
+#[inline(always)]
+fn bring_near<R: Copy>(frame: &mut CallFrame<R>, r: Reg, near: R)
+    ensures means { (parts : Parts) (name : R → Name) → value_of name (Register.Reference near) ≡ value_of name (held_in frame.old r) → frame_of parts name frame.new ≡ frame_of parts name frame.old }
+    ensures registers { frame.new.registers.items ≡ slice_set frame.old.registers.items r.0 (Register.Reference near) }
+    ensures same { frame.new.procedure ≡ frame.old.procedure }
+{
+    set(frame, r, Register::Reference(near));
+}
+
 /// Brings the reference in a register up to date: it is then the nearest one to its record at a place. What is no reference
 /// stays as it is.
 #[inline(always)]
@@ -101,7 +111,7 @@ pub fn renew<H: HeapAt>(heap: &H, at: H::Place, frame: &mut CallFrame<H::Ref>, r
 {
     if let Register::Reference(q) = held(frame, r) {
         let near = heap.nearest(at, q);
-        set(frame, r, Register::Reference(near));
+        bring_near(frame, r, near);
     }
 }
 
@@ -126,7 +136,9 @@ pub fn root<H: HeapAt>(
     set(frame, d, v)
 }
 
-/// Sets a register to a field of the record that another one points to, which is of the register's kind; null traps.
+/// Sets a register to a field of the record that another one points to, which is of the register's kind; null traps. The
+/// reference is brought up to date: other runs may have written the record since the register was set, and the way to where it
+/// is now is gone once, and not again at each load.
 #[inline(always)]
 pub fn load<H: HeapAt>(
     heap: &H,
@@ -145,7 +157,9 @@ pub fn load<H: HeapAt>(
 {
     match held(frame, object) {
         Register::Reference(r) => {
-            let v = field(heap, at, r, slot, kind_at(procedure, d));
+            let near = heap.nearest(at, r);
+            let v = field(heap, at, near, slot, kind_at(procedure, d));
+            bring_near(frame, object, near);
             set(frame, d, v)
         }
         _ => Step::Trap(TrapKind::Null),
@@ -153,7 +167,7 @@ pub fn load<H: HeapAt>(
 }
 
 /// Sets a register to an element of an array of the record that another one points to, whose elements are of the register's
-/// kind; null traps, and then an index of no element.
+/// kind; null traps, and then an index of no element. The reference is brought up to date.
 #[inline(always)]
 pub fn load_element<H: HeapAt>(
     heap: &H,
@@ -176,7 +190,9 @@ pub fn load_element<H: HeapAt>(
     match slot_of(frame, element) {
         None => Step::Trap(TrapKind::Index),
         Some(slot) => {
-            let v = field(heap, at, r, slot, kind_at(procedure, d));
+            let near = heap.nearest(at, r);
+            let v = field(heap, at, near, slot, kind_at(procedure, d));
+            bring_near(frame, object, near);
             set(frame, d, v)
         }
     }
