@@ -1,6 +1,6 @@
 //! The instructions that read and write records.
 
-ghost use Rattle.std.specs.Prelude.{◌≡◌, ◌+◌, ◌<◌, ◌≤◌, ◌^◌, All, Some, IfOk, OnErr, slice_get, slice_index_or, slice_set};
+ghost use Rattle.std.specs.Prelude.{◌≡◌, ◌+◌, ◌<◌, ◌≤◌, ◌^◌, All, map, Some, IfOk, OnErr, slice_get, slice_index_or, slice_set};
 ghost use Rattle.std.specs.Option.{option_map};
 ghost use Rattle.pst_base.specs.Name.{root_name};
 ghost use Rattle.pst_base.specs.Heap.{kind_in};
@@ -90,28 +90,27 @@ fn field<H: HeapAt>(
     }
 }
 
-/// Puts a nearer reference to its record into a register.
-#[inline(always)]
-fn bring_near<R: Copy>(frame: &mut CallFrame<R>, r: Reg, near: R)
-    ensures means { (parts : Parts) (name : R → Name) → value_of name (Register.Reference near) ≡ value_of name (held_in frame.old r) → frame_of parts name frame.new ≡ frame_of parts name frame.old }
-    ensures registers { frame.new.registers.items ≡ slice_set frame.old.registers.items r.0 (Register.Reference near) }
-    ensures same { frame.new.procedure ≡ frame.old.procedure }
-{
-    set(frame, r, Register::Reference(near));
-}
-
-/// Brings the reference in a register up to date: it is then the nearest one to its record at a place. What is no reference
-/// stays as it is.
-#[inline(always)]
-pub fn renew<H: HeapAt>(heap: &H, at: H::Place, frame: &mut CallFrame<H::Ref>, r: Reg)
+/// Brings the references in the registers of a frame up to date: each is then the nearest one to its record at a place.
+pub fn renew<H: HeapAt>(heap: &H, at: H::Place, frame: &mut CallFrame<H::Ref>)
     requires live { All (IsLive (H.state heap.now) at) frame.old.registers.items }
     ensures means { (parts : Parts) → frame_of parts (H.state heap.now).name frame.new ≡ frame_of parts (H.state heap.now).name frame.old }
     ensures live { All (IsLive (H.state heap.now) at) frame.new.registers.items }
     ensures same { frame.new.procedure ≡ frame.old.procedure }
 {
-    if let Register::Reference(q) = held(frame, r) {
-        let near = heap.nearest(at, q);
-        bring_near(frame, r, near);
+    renew_all(heap, at, &mut frame.registers);
+}
+
+/// Brings the references in registers up to date.
+fn renew_all<H: HeapAt>(heap: &H, at: H::Place, registers: &mut Vec<Register<H::Ref>>)
+    requires live { All (IsLive (H.state heap.now) at) registers.old.items }
+    ensures values { map (value_of (H.state heap.now).name) registers.new.items ≡ map (value_of (H.state heap.now).name) registers.old.items }
+    ensures live { All (IsLive (H.state heap.now) at) registers.new.items }
+{
+    for i in 0..registers.len() {
+        let Register::Reference(r) = registers[i] else {
+            continue;
+        };
+        registers[i] = Register::Reference(heap.nearest(at, r));
     }
 }
 
@@ -136,9 +135,7 @@ pub fn root<H: HeapAt>(
     set(frame, d, v)
 }
 
-/// Sets a register to a field of the record that another one points to, which is of the register's kind; null traps. The
-/// reference is brought up to date: other runs may have written the record since the register was set, and the way to where it
-/// is now is gone once, and not again at each load.
+/// Sets a register to a field of the record that another one points to, which is of the register's kind; null traps.
 #[inline(always)]
 pub fn load<H: HeapAt>(
     heap: &H,
@@ -157,9 +154,7 @@ pub fn load<H: HeapAt>(
 {
     match held(frame, object) {
         Register::Reference(r) => {
-            let near = heap.nearest(at, r);
-            let v = field(heap, at, near, slot, kind_at(procedure, d));
-            bring_near(frame, object, near);
+            let v = field(heap, at, r, slot, kind_at(procedure, d));
             set(frame, d, v)
         }
         _ => Step::Trap(TrapKind::Null),
@@ -167,7 +162,7 @@ pub fn load<H: HeapAt>(
 }
 
 /// Sets a register to an element of an array of the record that another one points to, whose elements are of the register's
-/// kind; null traps, and then an index of no element. The reference is brought up to date.
+/// kind; null traps, and then an index of no element.
 #[inline(always)]
 pub fn load_element<H: HeapAt>(
     heap: &H,
@@ -190,9 +185,7 @@ pub fn load_element<H: HeapAt>(
     match slot_of(frame, element) {
         None => Step::Trap(TrapKind::Index),
         Some(slot) => {
-            let near = heap.nearest(at, r);
-            let v = field(heap, at, near, slot, kind_at(procedure, d));
-            bring_near(frame, object, near);
+            let v = field(heap, at, r, slot, kind_at(procedure, d));
             set(frame, d, v)
         }
     }

@@ -1,13 +1,10 @@
 use Rattle.std.proofs.Common.{◌≡◌, ◌+◌, Some, None, ap, sym, subst, ◌∙◌, slice_get}
 use Rattle.std.specs.Option.{option_map}
-use Rattle.pst_base.specs.declared.names.Name.{Name}
 use Rattle.pst_base.specs.declared.names.SlotNo.{SlotNo}
 use Rattle.pst_base.specs.Heap.{kind_in}
-use Rattle.pst_program.specs.declared.meaning.Value.TheVariants.{Record}
-use Rattle.pst_program.specs.Value.{Answer, Gives, load, number_of}
-use Rattle.pst_code.specs.Machine.{Frame, after_effect, put_answer}
+use Rattle.pst_program.specs.Value.{Answer, number_of}
+use Rattle.pst_code.specs.Machine.{after_effect, put_answer}
 use Rattle.pst_steps.specs.declared.register.Register.{Register}
-use Rattle.pst_steps.specs.declared.register.Register.TheVariants.{Reference}
 use Rattle.pst_steps.specs.View.{value_of, frame_of}
 use Rattle.pst_steps.specs.Calls.{held_in}
 use Rattle.pst_steps.specs.Fields.{FieldIs}
@@ -22,8 +19,7 @@ field-v-requires-clause-kind g c =
     let first = c.args.element.first.0 in
     let e : ElementSlot first c.args.element.elements c.in-Some.slot.0 = element_slot first c.args.element.elements (number_of (value_of s.name (held_in frame c.args.element.index))) c.in-Some.slot.0
     (sym (ap (option_map (λ (n : SlotNo). n.0)) c.in-Some.is) ∙ c.slot_of.ensures s.name) in
-    ap (λ (n : Name). kind_in s.shape (s.heap c.args.at) n c.in-Some.slot.0) c.nearest-near.ensures.name
-    ∙ ap (kind_in s.shape (s.heap c.args.at) (s.name c.in-Reference.r)) e.is
+    ap (kind_in s.shape (s.heap c.args.at) (s.name c.in-Reference.r)) e.is
     ∙ subst (λ (v : Register g.row.H-Ref.Denot). FieldIs s c.args.at (slice_get c.args.procedure.now.kinds c.args.d.0) (first + e.index) v) (sym c.held.ensures.is ∙ c.in-Reference.is) (c.requires.kind.each e.index e.below)
     ∙ sym c.kind_at.ensures
 
@@ -45,15 +41,11 @@ returns-in-Some-clause-acts g c = λ parts cs w shape heap.
     let slot = c.in-Some.slot.0 in
     let at = sym (ap (option_map (λ (n : SlotNo). n.0)) c.in-Some.is) ∙ c.slot_of.ensures s.name in
     let place : ElementSlot e.first.0 e.elements slot = element_slot e.first.0 e.elements (number_of (value_of s.name (held_in c.args.frame.now e.index))) slot at in
-    let near : value_of s.name (Reference c.nearest-near.result) ≡ value_of s.name (held_in c.args.frame.now c.args.object) = ap (λ (n : Name). Record n) c.nearest-near.ensures.name ∙ ap (value_of s.name) (sym c.in-Reference.is ∙ c.held.ensures.is) in
-    let kind : kind_in s.shape h (s.name c.nearest-near.result) slot ≡ c.kind_at.result =
-    ap (λ (n : Name). kind_in s.shape h n slot) c.nearest-near.ensures.name
-    ∙ ap (kind_in s.shape h (s.name c.in-Reference.r)) place.is
+    let kind : kind_in s.shape h (s.name c.in-Reference.r) slot ≡ c.kind_at.result =
+    ap (kind_in s.shape h (s.name c.in-Reference.r)) place.is
     ∙ subst (λ (v : Register g.row.H-Ref.Denot). FieldIs s c.args.at (slice_get c.args.procedure.now.kinds c.args.d.0) (e.first.0 + place.index) v) (sym c.held.ensures.is ∙ c.in-Reference.is) (c.requires.kind.each place.index place.below)
     ∙ sym c.kind_at.ensures in
     ap (λ (x : Answer). after_effect (put_answer c.args.d x f.line f.registers w) f cs)
     (element_read parts.shape w.heap s.name c.args.frame.now.registers.items c.args.object.0 e.index.0 c.in-Reference.r e.first.0 e.elements (Some slot) (sym c.held.ensures.is ∙ c.in-Reference.is) at
-    ∙ ap (λ (n : Name). load parts.shape w.heap slot (Record n)) (sym c.nearest-near.ensures.name)
-    ∙ load_gives s.shape parts.shape h w.heap slot (s.name c.nearest-near.result) c.kind_at.result (value_of s.name c.field-v.result) shape heap kind c.field-v.ensures.value)
-    ∙ ap (λ (m : Frame). after_effect (put_answer c.args.d (Gives (value_of s.name c.field-v.result)) m.line m.registers w) m cs) (sym (c.bring_near.ensures.means parts s.name near))
+    ∙ load_gives s.shape parts.shape h w.heap slot (s.name c.in-Reference.r) c.kind_at.result (value_of s.name c.field-v.result) shape heap kind c.field-v.ensures.value)
     ∙ c.set.ensures.acts s.name parts cs w
