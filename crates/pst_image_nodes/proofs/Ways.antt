@@ -208,8 +208,8 @@ ends_first ks f lives (suc n) i k lt way = inr (omega (arith, (f.next i way.0 lt
 
 pub in_order : ChainsAreInOrder
 in_order places next_run ks lives low c = record {
-  apart = λ i j lt lt' not same. apart_by i j lt lt' not (c.one i j lt lt' same);
-  last = λ i j lt lt' none same. last_here i j lt lt' none (c.one i j lt lt' same);
+  apart = λ i j both not. apart_by i j both.first both.second not (c.one i j both.first both.second both.name);
+  last = λ i j both none. last_here i j both.first both.second none (c.one i j both.first both.second both.name);
   ends = λ i lt. ends_of (first_of ks f lives (suc (lo_of ks i)) i (omega arith) lt) (last_of ks f lives places low places i (omega arith) lt);
 } where
   f : FitsOn ks

@@ -43,9 +43,13 @@ pub record IsNamed (places next_run : ℕ) (k : NodePart) : Type 0 where
   pub root_type : k.ty.0 ≡ 0 → IsRootName k.name
   pub last : IsRootName k.name → k.later ≡ 0 → k.hi ≡ places - 1
 
+abbrev pub AreNamed : ℕ → ℕ → List NodePart → Type 0
+AreNamed places next_run ks = (i : ℕ) → i < length ks → IsNamed places next_run (node_at ks i)
+
+-- the nodes of each record stand in one chain
 pub record AreChained (places next_run : ℕ) (ks : List NodePart) : Type 0 where
   pub root : IsRootNode (node_at ks 0)
-  pub named : (i : ℕ) → i < length ks → IsNamed places next_run (node_at ks i)
+  pub named : AreNamed places next_run ks
   pub there : (i j : ℕ) → i < length ks → (node_at ks i).later ≡ suc j → j < length ks
   pub next : (i j : ℕ) → i < length ks → (node_at ks i).later ≡ suc j → IsNext (node_at ks i) (node_at ks j)
   -- the nodes of one record stand in one chain
@@ -76,10 +80,20 @@ pub record HasEnds (ks : List NodePart) (i : ℕ) : Type 0 where
   pub from_head : Leads ks head i
   pub to_last : Leads ks i last
 
+-- two nodes that are there are of one record
+pub record AreOfOneRecord (ks : List NodePart) (i j : ℕ) : Type 0 where
+  pub first : i < length ks
+  pub second : j < length ks
+  pub name : IsSameName (node_at ks i).name (node_at ks j).name
+
+-- the life of one node ends before that of another one begins
+abbrev pub EndsBefore : List NodePart → ℕ → ℕ → Type 0
+EndsBefore ks i j = (node_at ks i).hi ≤ (node_at ks j).lo
+
 -- Nodes of one record live apart; the last one of a chain ends after all others of its record; and each chain has its ends.
 pub record AreInOrder (ks : List NodePart) : Type 0 where
-  pub apart : (i j : ℕ) → i < length ks → j < length ks → i ≢ j → IsSameName (node_at ks i).name (node_at ks j).name → ((node_at ks i).hi ≤ (node_at ks j).lo) ⊎ ((node_at ks j).hi ≤ (node_at ks i).lo)
-  pub last : (i j : ℕ) → i < length ks → j < length ks → (node_at ks i).later ≡ 0 → IsSameName (node_at ks i).name (node_at ks j).name → (node_at ks j).hi ≤ (node_at ks i).hi
+  pub apart : (i j : ℕ) → AreOfOneRecord ks i j → i ≢ j → EndsBefore ks i j ⊎ EndsBefore ks j i
+  pub last : (i j : ℕ) → AreOfOneRecord ks i j → (node_at ks i).later ≡ 0 → (node_at ks j).hi ≤ (node_at ks i).hi
   pub ends : (i : ℕ) → i < length ks → HasEnds ks i
 
 -- so it is in chains of nodes that live, and that end before some place

@@ -1,8 +1,7 @@
 //! Whether the nodes of each record stand in one chain.
 
-ghost use Rattle.std.specs.Prelude.{◌↔◌, ◌<◌, ℕ, IsTrue, IfOk, length};
-ghost use Rattle.pst_image_nodes.specs.Nodes.{node_at};
-ghost use Rattle.pst_image_nodes.specs.Chains.{IsRootName, IsRootNode, IsNamed, HaveLives, AreChained};
+ghost use Rattle.std.specs.Prelude.{◌↔◌, ◌<◌, IsTrue, IfOk, length};
+ghost use Rattle.pst_image_nodes.specs.Chains.{IsRootName, IsRootNode, IsNamed, AreNamed, HaveLives, AreChained};
 
 use crate::heads::{have_own_names, heads_of};
 use crate::links::marks;
@@ -40,7 +39,7 @@ fn is_named(places: u32, next_run: u32, node: &NodePart) -> bool
 fn are_named(places: u32, next_run: u32, nodes: &[NodePart]) -> bool
     requires some { 0 < next_run }
     requires places { 0 < places }
-    ensures { IsTrue result ↔ ((i : ℕ) → i < length nodes.now → IsNamed places next_run (node_at nodes.now i)) }
+    ensures { IsTrue result ↔ AreNamed places next_run nodes.now }
 {
     for node in nodes {
         if !is_named(places, next_run, node) {
