@@ -17,7 +17,7 @@ use Rattle.pst_image_mirror.specs.Segments.{first, is_at, begins, ends}
 use Rattle.pst_image_mirror.specs.Mirror.{IsPointerSlot, IsInverseSlot, shape_of, IsEntered, IsEnteredAt, HasPointer, IsPointedAt, ArePointersEntered, AreEntriesPointed}
 use Rattle.pst_image_mirror.specs.declared.sides.Side.{Side}
 use Rattle.pst_image_mirror.specs.declared.sides.Side.TheVariants.{Pointers, Entries}
-use Rattle.pst_image_mirror.specs.Sides.{AreTyped, IsSlotOf, HasPartner, IsMirroredAt, IsNodeMirrored}
+use Rattle.pst_image_mirror.specs.Sides.{AreTyped, IsSlotOf, HasPartner, IsMirroredAt, IsNodeMirrored, AreMirrored}
 use Rattle.pst_image_mirror.proofs.Order.{first_there, begins_at_lo, begins_later, at_slot, at_place}
 
 some_same : {A : Type 0} (x y : A) → Some x ≡ Some y → x ≡ y
@@ -197,9 +197,6 @@ mirrored_where shape ks side i g a c mirrored there e = by (cases_eq a (node_at 
         let slot : (stamp_of (node_at ks i) at.0).slot.0 ≡ g = ap (λ (s : StampPart). s.slot.0) at.2 ∙ at_slot g a found.0 at.3 in
         let place : (stamp_of (node_at ks i) at.0).place ≡ a = ap (λ (s : StampPart). s.place) at.2 ∙ at_place g a found.0 at.3 in
         subst (λ (x : ℕ). IsMirroredAt shape ks side i g x) place (subst (λ (x : ℕ). IsMirroredAt shape ks side i x (stamp_of (node_at ks i) at.0).place) slot (mirrored.stamps at.0 at.1))
-
-abbrev AreMirrored : List TypeShape → List NodePart → Side → Type 0
-AreMirrored shape ks side = (i : ℕ) → i < length ks → IsNodeMirrored shape ks side i
 
 pub pointers_entered : (shape : List TypeShape) (ks : List NodePart) → AreTyped shape ks → AreMirrored shape ks Pointers ↔ ArePointersEntered shape ks
 pointers_entered shape ks typed = (

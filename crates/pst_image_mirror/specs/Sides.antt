@@ -39,7 +39,7 @@ abbrev pub HasPartner : List TypeShape → List NodePart → Side → ℕ → �
 HasPartner shape ks Pointers i g a = IsEnteredAt shape ks i g a
 HasPartner shape ks Entries i g a = IsPointedAt ks i g a
 
--- slot g of node i at a place, where it is one of this side
+-- where slot g of node i is one of this side, and a segment of it begins at a place, a side is kept there
 pub record IsMirroredAt (shape : List TypeShape) (ks : List NodePart) (side : Side) (i g a : ℕ) : Type 0 where
   pub mirrored : IsSlotOf side (shape_of shape ks i) g → HasPartner shape ks side i g a
 
@@ -53,6 +53,10 @@ AreStampsMirrored shape ks side i = (j : ℕ) → j < length (node_at ks i).stam
 pub record IsNodeMirrored (shape : List TypeShape) (ks : List NodePart) (side : Side) (i : ℕ) : Type 0 where
   pub bases : AreBasesMirrored shape ks side i
   pub stamps : AreStampsMirrored shape ks side i
+
+-- each node keeps a side
+abbrev pub AreMirrored : List TypeShape → List NodePart → Side → Type 0
+AreMirrored shape ks side = (i : ℕ) → i < length ks → IsNodeMirrored shape ks side i
 
 -- of the numbers from one on and below another one, none has the property yet, or just one has it
 abbrev pub IsNoneOf : (ℕ → Type 0) → ℕ → ℕ → Type 0

@@ -1,11 +1,11 @@
 //! The mirror rule: pointers have their entries, and entries their pointers.
 
-ghost use Rattle.std.specs.Prelude.{◌≡◌, ◌↔◌, ◌<◌, ◌^◌, ℕ, IsTrue, IfSome, length, option_map};
+ghost use Rattle.std.specs.Prelude.{◌≡◌, ◌↔◌, ◌<◌, ◌^◌, IsTrue, IfSome, length, option_map};
 ghost use Rattle.pst_image_mirror.specs.Segments.{begins, ends, IsSorted};
 ghost use Rattle.pst_base.specs.Shape.{type_at, element_count, IsValid};
 ghost use Rattle.pst_image_nodes.specs.Nodes.{node_at, slot_count, entry};
 ghost use Rattle.pst_image_mirror.specs.Mirror.{shape_of, IsPointerSlot, IsInverseSlot, IsEnteredAt, IsPointedAt, ArePointersEntered, AreEntriesPointed};
-ghost use Rattle.pst_image_mirror.specs.Sides.{AreTyped, HasEntryIn, HasOneEntry, IsPointerEntered, IsPointerThere, IsSlotOf, IsMirroredAt, AreBasesMirrored, AreStampsMirrored, IsNodeMirrored};
+ghost use Rattle.pst_image_mirror.specs.Sides.{AreTyped, HasEntryIn, HasOneEntry, IsPointerEntered, IsPointerThere, IsSlotOf, IsMirroredAt, AreBasesMirrored, AreStampsMirrored, IsNodeMirrored, AreMirrored};
 
 use crate::segments::{Segment, segment_at};
 use pst_base::{Shape, SlotNo, TypeNo};
@@ -316,7 +316,7 @@ fn is_node_mirrored(shape: &Shape, nodes: &[NodePart], side: Side, node: usize) 
 fn are_mirrored(shape: &Shape, nodes: &[NodePart], side: Side) -> bool
     requires valid { IsValid shape.now }
     requires typed { AreTyped shape.now nodes.now }
-    ensures { IsTrue result ↔ ((i : ℕ) → i < length nodes.now → IsNodeMirrored shape.now nodes.now side i) }
+    ensures { IsTrue result ↔ AreMirrored shape.now nodes.now side }
 {
     for node in 0..nodes.len() {
         if !is_node_mirrored(shape, nodes, side, node) {
