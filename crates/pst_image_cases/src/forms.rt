@@ -52,7 +52,7 @@ const UNREAD: [(usize, u64); 9] = [
 ];
 
 #[test]
-fn numbers_out_of_their_types_fail_rule_0(rt: HostRuntime) -> Result<(), FormFault> {
+fn numbers_out_of_their_types_have_no_form(rt: HostRuntime) -> Result<(), FormFault> {
     let alloc = rt.alloc();
     let shape = linking(alloc)?;
     assert!(rt; shape.is_valid());
@@ -64,7 +64,7 @@ fn numbers_out_of_their_types_fail_rule_0(rt: HostRuntime) -> Result<(), FormFau
 }
 
 #[test]
-fn image_that_is_cut_or_begins_otherwise_fails_rule_0(rt: HostRuntime) -> Result<(), FormFault> {
+fn bytes_that_are_cut_or_begin_otherwise_have_no_form(rt: HostRuntime) -> Result<(), FormFault> {
     let alloc = rt.alloc();
     let shape = linking(alloc)?;
     assert!(rt; shape.is_valid());
