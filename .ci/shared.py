@@ -34,6 +34,25 @@ def read(path):
         return text.read()
 
 
+def read_crates():
+    """The crates, lowest first, with those of the repository that each names."""
+    named, crates = {}, {}
+    for line in read('crates.txt').splitlines():
+        name, colon, below = line.partition('#')[0].partition(':')
+        if colon:
+            named[name.split()[0]] = below.split()
+
+    def visit(name):
+        if name in named and name not in crates:
+            for low in named[name]:
+                visit(low)
+            crates[name] = [low for low in named[name] if low in named]
+
+    for name in named:
+        visit(name)
+    return crates
+
+
 class Tally:
     """How many trials passed and how many failed."""
 
