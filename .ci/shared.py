@@ -65,7 +65,7 @@ class Tally:
             self.passed += 1
             return
         self.failed += 1
-        print(f'{name}: something else', *seen, sep='\n')
+        print(f'{name}: something else' if seen else name, *seen, sep='\n')
 
     def end(self, what):
         """Says how many passed and failed, and ends the script; it fails where nothing passed, too."""
