@@ -1,0 +1,5 @@
+pub mod Segments
+pub mod Mirror
+pub mod Capacity
+pub mod Sides
+pub mod Laws
