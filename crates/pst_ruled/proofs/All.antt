@@ -1,11 +1,11 @@
 -- What a store shows keeps the rules of an image.
 use Rattle.std.proofs.Common.{ℕ, List}
-use Rattle.pst_meaning.specs.Store.{Stored, IsStore, IsRested}
+use Rattle.pst_meaning.specs.Store.{Stored, IsStore}
 use Rattle.pst_image_rules.specs.declared.rule.Rule.{Rule}
 use Rattle.pst_image_rules.specs.declared.rule.Rule.TheVariants.{Form, Text, Ranges, Versions, Nodes, Chains, Pointers, Entries, Capacity, Bound}
 use Rattle.pst_image_rules.specs.Rules.{Holds}
 use Rattle.pst_ruled.specs.Parts.{parts_of}
-use Rattle.pst_ruled.specs.Left.{IsLeftStore, AreNumbers}
+use Rattle.pst_ruled.specs.Left.{IsLeftStore, AreNumbers, AreSmall}
 use Rattle.pst_ruled.specs.Laws.{RulesLaw}
 use Rattle.pst_ruled.proofs.Nodes.{are_nodes}
 use Rattle.pst_ruled.proofs.Mirror.{entered, pointed}
@@ -13,7 +13,7 @@ use Rattle.pst_ruled.proofs.Versions.{shown}
 use Rattle.pst_ruled.proofs.Chains.{chained}
 use Rattle.pst_ruled.proofs.Bounds.{bounded, within, in_range}
 
-module _ (s : Stored) (text : List ℕ) (next budget : ℕ) (h : IsStore s) (q : IsRested s) (left : IsLeftStore s next) (n : AreNumbers next budget) where
+module _ (s : Stored) (text : List ℕ) (next budget : ℕ) (h : IsStore s) (q : AreSmall s) (left : IsLeftStore s next) (n : AreNumbers next budget) where
   pub all_hold : (rule : Rule) → Holds s.shape (parts_of s text next budget) rule
   all_hold Form = tt
   all_hold Text = tt

@@ -1,23 +1,18 @@
 -- What a store shows is within the bounds of an image: ranges, capacity, the number of nodes; and each number fits its type.
-use Rattle.std.proofs.Common.{◌≡◌, ℕ, ◌+◌, ◌-◌, ◌*◌, ◌<◌, ◌≤◌, List, [], ◌∷◌, length, map, refl, sym, ap, ap₂, ◌∙◌, subst, ⊎_elim, arith}
+use Rattle.std.proofs.Common.{◌≡◌, ℕ, ◌+◌, ◌-◌, ◌*◌, ◌≤◌, List, [], ◌∷◌, length, map, refl, sym, ap, ap₂, ◌∙◌, subst, arith}
 use Rattle.std.specs.Prelude.{sum_by}
-use Rattle.std.proofs.lemmas.Bool.{cases_eq}
 use Rattle.std.proofs.lemmas.List.{length-map}
 use Rattle.std.proofs.lemmas.List.Sums.{sum_by-cons}
 use Rattle.pst_base.specs.declared.shape.TypeShape.{TypeShape}
-use Rattle.pst_base.specs.declared.names.TypeNo.{TypeNo}
-use Rattle.pst_base.specs.Shape.{type_at, root_type, element_count, IsValid}
 use Rattle.pst_order.specs.Places.{rank}
 use Rattle.pst_mirror.specs.Potential.{potential, excess as excess_of}
-use Rattle.pst_meaning.proofs.Places.{slice_get-below}
-use Rattle.pst_meaning.specs.Store.{Node, Stored, load_of, width, IsStore, IsRested}
+use Rattle.pst_meaning.specs.Store.{Node, Stored, load_of, IsStore}
 use Rattle.pst_form.specs.declared.parts.NodePart.{NodePart}
 use Rattle.pst_image_tree.specs.Versions.{IsInRange}
 use Rattle.pst_image_mirror.specs.Capacity.{half, excess, AreWithinCapacity, IsBounded}
 use Rattle.pst_ruled.specs.Parts.{stamp_part, node_part, node_parts, version_part, parts_of}
-use Rattle.pst_ruled.specs.Left.{IsLeftStore, AreNumbers}
-use Rattle.pst_ruled.specs.Laws.{NarrowLaw}
-use Rattle.pst_ruled.proofs.Nodes.{there, part_at, type_is}
+use Rattle.pst_ruled.specs.Left.{IsLeftStore, AreNumbers, AreSmall}
+use Rattle.pst_ruled.proofs.Nodes.{there, part_at}
 
 -- the potential of the nodes is the sum of what their parts have above half their capacity
 excess_is : (shape : List TypeShape) (r : ℕ → ℕ) (nodes : List Node) → sum_by (excess shape) (map (node_part r) nodes) ≡ potential (map (load_of shape) nodes)
@@ -34,10 +29,10 @@ module _ (s : Stored) (h : IsStore s) where
   pub bounded : IsBounded s.shape s.counts ks
   bounded = omega (arith, h.bounded, length-map s.nodes (node_part (rank s.places)), excess_is s.shape (rank s.places) s.nodes)
 
-  pub within : IsRested s → AreWithinCapacity s.shape ks
+  pub within : AreSmall s → AreWithinCapacity s.shape ks
   within q i l =
       let x = there s h i l in
-      let small = q.small i x.0 x.1 in
+      let small = q i x.0 x.1 in
       subst (λ (k : NodePart). length k.stamps ≤ 2 * half s.shape k) (sym (part_at s h i x.0 x.1)) (omega (arith, small, length-map x.0.row.stamps (stamp_part (rank s.places))))
 
   pub in_range : (text : List ℕ) (next budget : ℕ) → IsLeftStore s next → AreNumbers next budget → IsInRange (parts_of s text next budget)
@@ -51,27 +46,6 @@ module _ (s : Stored) (h : IsStore s) where
     value_writes = left.counts.value_writes;
     places_low = omega (arith, h.nested.some, h.nested.last);
     places_high = left.places;
-    some_version = omega (arith, h.versions.tree.some, length-map s.versions (version_part s));
+    some_version = omega (arith, h.versions.tree.some, length-map s.versions (version_part (rank s.places)));
     some_node = omega (arith, h.rooted.some, length-map s.nodes (node_part (rank s.places)));
   }
-
--- a type has 64 elements at most, and a limit of 16
-few_slots : (shape : List TypeShape) → IsValid shape → (ty : TypeNo) → ty.0 < length shape → width (type_at shape ty) ≤ 80
-few_slots shape valid ty known = ⊎_elim
-    (λ (root : ty.0 ≡ 0).
-    let limit : (type_at shape root_type).limit ≡ 1 = valid.root_limit in
-    let fields : element_count (type_at shape root_type) ≤ 32 = valid.root_fields in
-    let same : width (type_at shape ty) ≡ width (type_at shape root_type) = ap (λ (n : ℕ). width (type_at shape (record { 0 = n }))) root in
-    omega (arith, limit, fields, same))
-    (λ (other : ty.0 ≡ 0 → ⊥).
-    let some : 0 < ty.0 = omega (arith, other) in
-    let limit : (type_at shape ty).limit ≤ 16 = (valid.limits ty some known).1 in
-    let elements : element_count (type_at shape ty) ≤ 64 = valid.elements ty some known in
-    omega (arith, limit, elements))
-    (cases_eq ty.0 0)
-
-pub narrow_law : NarrowLaw
-narrow_law s h i n e =
-    let known = h.arena.known i (slice_get-below s.nodes i n e) in
-    let few = few_slots s.shape h.valid n.head.ty (subst (λ (t : TypeNo). t.0 < length s.shape) (type_is s h i n e) known) in
-    omega (arith, few, h.wide i n e)

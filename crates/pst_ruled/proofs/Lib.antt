@@ -4,4 +4,5 @@ pub mod Mirror
 pub mod Versions
 pub mod Chains
 pub mod Bounds
+pub mod Narrow
 pub mod All

@@ -214,23 +214,32 @@ module _ (s : Stored) (h : IsStore s) where
         (λ (ne : a.slot.0 ≢ b.slot.0). inl (omega (arith, p.slots, ne)))
         (cases_eq a.slot.0 b.slot.0)
 
-    stamp_fits : (j : ℕ) → j < length n.row.stamps → FitsSlot s.shape ks n.head.ty (get_or n.row.stamps j no_stamp_of).slot.0 (content_number (get_or n.row.stamps j no_stamp_of).content)
-    stamp_fits j l =
+    -- what is held at the begin of the life, and where a value is stamped
+    pub base_held : (g : ℕ) → (arena s).chart.holds i g (r n.row.lo.0) ≡ base_in n.row g
+    base_held g = held i n e g (r n.row.lo.0) (omega arith) v.life ∙ at_begin r (length s.places) n v g (r n.row.lo.0) refl
+
+    pub lives_at : (j : ℕ) → j < length n.row.stamps → IsIn (arena s) i (r (get_or n.row.stamps j no_stamp_of).place.0)
+    lives_at j l = let p = inside j l in in_life i n e (r (get_or n.row.stamps j no_stamp_of).place.0) (omega (arith, p.1)) p.2
+
+    pub stamp_held : (j : ℕ) → j < length n.row.stamps → (arena s).chart.holds i (get_or n.row.stamps j no_stamp_of).slot.0 (r (get_or n.row.stamps j no_stamp_of).place.0) ≡ (get_or n.row.stamps j no_stamp_of).content
+    stamp_held j l =
         let e0 = get_or n.row.stamps j no_stamp_of in
         let p = inside j l in
         let st = stamp_some r (r n.row.lo.0) (r n.row.hi.0) (length n.row.slots) n.row.stamps v.stamps j l e0.slot.0 (r e0.place.0) refl refl in
-        let is : (arena s).chart.holds i e0.slot.0 (r e0.place.0) ≡ e0.content =
-        held i n e e0.slot.0 (r e0.place.0) (omega (arith, p.1)) p.2 ∙ at_stamp (stamps_in r n.row e0.slot.0) (base_in n.row e0.slot.0) e0.content (r e0.place.0) st in
-        let slot : e0.slot.0 < slot_count (kind_of i) = omega (arith, p.0, slots, length-map n.row.slots (λ c. content_number c.content)) in
-        let f = fits i e0.slot.0 (r e0.place.0) (in_life i n e (r e0.place.0) (omega (arith, p.1)) p.2) slot in
-        subst (λ (t : TypeNo). FitsSlot s.shape ks t e0.slot.0 (content_number e0.content)) (type_is i n e) (subst (λ (c : Content). FitsSlot s.shape ks ((arena s).ty i) e0.slot.0 (content_number c)) is f)
+        held i n e e0.slot.0 (r e0.place.0) (omega (arith, p.1)) p.2 ∙ at_stamp (stamps_in r n.row e0.slot.0) (base_in n.row e0.slot.0) e0.content (r e0.place.0) st
+
+    stamp_fits : (j : ℕ) → j < length n.row.stamps → FitsSlot s.shape ks n.head.ty (get_or n.row.stamps j no_stamp_of).slot.0 (content_number (get_or n.row.stamps j no_stamp_of).content)
+    stamp_fits j l =
+        let e0 = get_or n.row.stamps j no_stamp_of in
+        let slot : e0.slot.0 < slot_count (kind_of i) = omega (arith, (inside j l).0, slots, length-map n.row.slots (λ c. content_number c.content)) in
+        let f = fits i e0.slot.0 (r e0.place.0) (lives_at j l) slot in
+        subst (λ (t : TypeNo). FitsSlot s.shape ks t e0.slot.0 (content_number e0.content)) (type_is i n e)
+        (subst (λ (c : Content). FitsSlot s.shape ks ((arena s).ty i) e0.slot.0 (content_number c)) (stamp_held j l) f)
 
     base_fits : (g : ℕ) → g < length (node_part r n).bases → FitsSlot s.shape ks n.head.ty g (get_or (node_part r n).bases g 0)
     base_fits g l =
-        let low : r n.row.lo.0 ≤ r n.row.lo.0 = omega arith in
-        let is : (arena s).chart.holds i g (r n.row.lo.0) ≡ base_in n.row g = held i n e g (r n.row.lo.0) low v.life ∙ at_begin r (length s.places) n v g (r n.row.lo.0) refl in
-        let f = fits i g (r n.row.lo.0) (in_life i n e (r n.row.lo.0) low v.life) (omega (arith, l, slots)) in
-        let number : content_number ((arena s).chart.holds i g (r n.row.lo.0)) ≡ get_or (node_part r n).bases g 0 = ap content_number is ∙ sym (bases_at n.row.slots g) in
+        let f = fits i g (r n.row.lo.0) (in_life i n e (r n.row.lo.0) (omega arith) v.life) (omega (arith, l, slots)) in
+        let number : content_number ((arena s).chart.holds i g (r n.row.lo.0)) ≡ get_or (node_part r n).bases g 0 = ap content_number (base_held g) ∙ sym (bases_at n.row.slots g) in
         subst (λ (t : TypeNo). FitsSlot s.shape ks t g (get_or (node_part r n).bases g 0)) (type_is i n e) (subst (λ (c : ℕ). FitsSlot s.shape ks ((arena s).ty i) g c) number f)
 
     pub is_node : IsNode s.shape (length s.places) ks (node_part r n)

@@ -2,6 +2,7 @@
 use Rattle.std.proofs.Common.{◌≡◌, ℕ, zero, suc, ◌<◌, ◌≤◌, Some, length, refl, sym, ap, ◌∙◌, subst, arith}
 use Rattle.std.specs.Prelude.{slice_get}
 use Rattle.std.proofs.lemmas.List.{length-map}
+use Rattle.pst_order.specs.Places.{rank}
 use Rattle.pst_versions.specs.declared.rows.VersionRow.{VersionRow}
 use Rattle.pst_versions.specs.Rows.{first_row}
 use Rattle.pst_meaning.specs.declared.place.Place.{Place}
@@ -15,11 +16,11 @@ use Rattle.pst_ruled.specs.Laws.{VersionsLaw}
 use Rattle.pst_ruled.proofs.Nodes.{slice_get-there, part_in}
 
 module _ (s : Stored) (next : ℕ) where
-  part_at : (v : ℕ) (row : VersionRow Place) → slice_get s.versions v ≡ Some row → version_at (version_parts s) v ≡ version_part s row
-  part_at v row e = part_in (version_part s) no_version s.versions v row e
+  part_at : (v : ℕ) (row : VersionRow Place) → slice_get s.versions v ≡ Some row → version_at (version_parts s) v ≡ version_part (rank s.places) row
+  part_at v row e = part_in (version_part (rank s.places)) no_version s.versions v row e
 
   count : length (version_parts s) ≡ length s.versions
-  count = length-map s.versions (version_part s)
+  count = length-map s.versions (version_part (rank s.places))
 
   row_at : (v : ℕ) → v < length (version_parts s) → (row : VersionRow Place) × (slice_get s.versions v ≡ Some row)
   row_at v l = slice_get-there s.versions v (omega (arith, count))
@@ -58,9 +59,9 @@ module _ (s : Stored) (next : ℕ) where
           let x = row_at (suc v) f.high in
           let i = n.within v x.0 x.1 in
           let r = n.runs v x.0 x.1 in
-          let up : version_at (version_parts s) (parent_of (version_parts s) (suc v)) ≡ version_part s i.parent = ap (version_at (version_parts s)) (parent_is (suc v) x.0 x.1) ∙ part_at x.0.parent.0 i.parent i.at in
+          let up : version_at (version_parts s) (parent_of (version_parts s) (suc v)) ≡ version_part (rank s.places) i.parent = ap (version_at (version_parts s)) (parent_is (suc v) x.0 x.1) ∙ part_at x.0.parent.0 i.parent i.at in
           subst (λ (p : VersionPart). IsInside next (suc v) p (version_at (version_parts s) (parent_of (version_parts s) (suc v)))) (sym (part_at (suc v) x.0 x.1))
-          (subst (λ (q : VersionPart). IsInside next (suc v) (version_part s x.0) q) (sym up) (record {
+          (subst (λ (q : VersionPart). IsInside next (suc v) (version_part (rank s.places) x.0) q) (sym up) (record {
             older = i.below;
             run_low = r.0;
             run_high = r.1;
@@ -89,7 +90,7 @@ module _ (s : Stored) (next : ℕ) where
 
   kept : 2 ≤ length s.places → slice_get s.versions 0 ≡ Some (first_row s.start) → AreNested (version_parts s) (length s.places) next → AreVersionsNested s next
   kept two root n =
-      let r : IsRootVersion (version_part s (first_row s.start)) (length s.places) = subst (λ (p : VersionPart). IsRootVersion p (length s.places)) (part_at 0 (first_row s.start) root) n.root in
+      let r : IsRootVersion (version_part (rank s.places) (first_row s.start)) (length s.places) = subst (λ (p : VersionPart). IsRootVersion p (length s.places)) (part_at 0 (first_row s.start) root) n.root in
       record {
         root = root;
         first = r.begin;
@@ -101,9 +102,9 @@ module _ (s : Stored) (next : ℕ) where
             let at = parent_is (suc v) row e in
             let high = f.high in
             let x = row_at row.parent.0 (omega (arith, older, high, run_is (suc v) row e, part_older v row e n)) in
-            let up : version_at (version_parts s) (parent_of (version_parts s) (suc v)) ≡ version_part s x.0 = ap (version_at (version_parts s)) at ∙ part_at row.parent.0 x.0 x.1 in
-            let j : IsInside next (suc v) (version_part s row) (version_part s x.0) =
-            subst (λ (q : VersionPart). IsInside next (suc v) (version_part s row) q) up (subst (λ (p : VersionPart). IsInside next (suc v) p (version_at (version_parts s) (parent_of (version_parts s) (suc v)))) (part_at (suc v) row e) i) in
+            let up : version_at (version_parts s) (parent_of (version_parts s) (suc v)) ≡ version_part (rank s.places) x.0 = ap (version_at (version_parts s)) at ∙ part_at row.parent.0 x.0 x.1 in
+            let j : IsInside next (suc v) (version_part (rank s.places) row) (version_part (rank s.places) x.0) =
+            subst (λ (q : VersionPart). IsInside next (suc v) (version_part (rank s.places) row) q) up (subst (λ (p : VersionPart). IsInside next (suc v) p (version_at (version_parts s) (parent_of (version_parts s) (suc v)))) (part_at (suc v) row e) i) in
             record { parent = x.0; at = x.1; below = j.older; begins = j.begins; some = j.life; ends = j.ends };
         runs = λ v row e. let i = n.inside (suc v) (further v row e) in let low = i.run_low in let high = i.run_high in let same = run_is (suc v) row e in (omega (arith, low, same), omega (arith, high, same));
         own_run = λ v w a b e f same.

@@ -1,20 +1,22 @@
 -- What a store shows as parts keeps the rules of an image.
-use Rattle.std.specs.Prelude.{◌≡◌, ℕ, ◌≤◌, List, length, Some, None, slice_get, ◌↔◌}
+use Rattle.std.specs.Prelude.{◌≡◌, ℕ, ◌≤◌, ◌^◌, List, length, Some, None, slice_get, ◌↔◌}
 use Rattle.pst_versions.specs.Rows.{first_row}
-use Rattle.pst_meaning.specs.Store.{Node, Stored, IsStore, IsRested}
+use Rattle.pst_meaning.specs.Store.{Node, Stored, IsStore}
+use Rattle.pst_program.specs.Sound.{CountsWithin}
 use Rattle.pst_image_tree.specs.Versions.{AreNested}
 use Rattle.pst_image_rules.specs.Rules.{IsJudged}
 use Rattle.pst_ruled.specs.Parts.{parts_of, version_parts}
 use Rattle.pst_ruled.specs.Versions.{AreVersionsNested}
-use Rattle.pst_ruled.specs.Left.{IsLeftStore, AreNumbers}
+use Rattle.pst_ruled.specs.Left.{IsLeftStore, AreNumbers, AreSmall}
+use Rattle.pst_ruled.specs.Narrow.{IsNarrow}
 
--- The rules of an image hold of a store at rest that an engine left.
+-- The rules of an image hold of a store that an engine left, where no node is over its capacity.
 abbrev pub RulesLaw : Type 0
-RulesLaw = (s : Stored) (text : List ℕ) (next budget : ℕ) → IsStore s → IsRested s → IsLeftStore s next → AreNumbers next budget → IsJudged s.shape (parts_of s text next budget) None
+RulesLaw = (s : Stored) (text : List ℕ) (next budget : ℕ) → IsStore s → AreSmall s → IsLeftStore s next → AreNumbers next budget → IsJudged s.shape (parts_of s text next budget) None
 
--- a node of a store has few slots
+-- the numbers in the nodes of a store fit
 abbrev pub NarrowLaw : Type 0
-NarrowLaw = (s : Stored) → IsStore s → (i : ℕ) (n : Node) → slice_get s.nodes i ≡ Some n → length n.row.slots ≤ 80
+NarrowLaw = (s : Stored) → IsStore s → CountsWithin s.counts (2 ^ 50) → (i : ℕ) (n : Node) → slice_get s.nodes i ≡ Some n → IsNarrow n
 
 -- The versions that a store shows keep the rule exactly where the store does.
 abbrev pub VersionsLaw : Type 0

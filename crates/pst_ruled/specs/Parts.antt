@@ -8,7 +8,7 @@ use Rattle.pst_rows.specs.declared.content.Content.TheVariants.{Number, Null, Fr
 use Rattle.pst_rows.specs.declared.content.Stamp.{Stamp}
 use Rattle.pst_versions.specs.declared.rows.VersionRow.{VersionRow}
 use Rattle.pst_meaning.specs.declared.place.Place.{Place}
-use Rattle.pst_meaning.specs.Store.{Node, Stored, begin_of, end_of}
+use Rattle.pst_meaning.specs.Store.{Node, Stored}
 use Rattle.pst_form.specs.declared.parts.VersionPart.{VersionPart}
 use Rattle.pst_form.specs.declared.parts.StampPart.{StampPart}
 use Rattle.pst_form.specs.declared.parts.NodePart.{NodePart}
@@ -28,9 +28,9 @@ abbrev pub link_number : Option NodeId → ℕ
 link_number None = 0
 link_number (Some i) = suc i.0
 
--- a version, with the positions of its place
-abbrev pub version_part : Stored → VersionRow Place → VersionPart
-version_part s row = record { parent = row.parent; run = row.run; begin = begin_of s row.place; end = end_of s row.place }
+-- a version, where r gives the position of each place
+abbrev pub version_part : (ℕ → ℕ) → VersionRow Place → VersionPart
+version_part r row = record { parent = row.parent; run = row.run; begin = r row.place.begin.0; end = r row.place.end.0 }
 
 -- a stamped value, where r gives the position of each place
 abbrev pub stamp_part : (ℕ → ℕ) → Stamp → StampPart
@@ -49,7 +49,7 @@ node_part r n = record {
 }
 
 abbrev pub version_parts : Stored → List VersionPart
-version_parts s = map (version_part s) s.versions
+version_parts s = map (version_part (rank s.places)) s.versions
 
 abbrev pub node_parts : Stored → List NodePart
 node_parts s = map (node_part (rank s.places)) s.nodes

@@ -1,4 +1,4 @@
-use Rattle.pst_ruled.proofs.Bounds.{narrow_law}
+use Rattle.pst_ruled.proofs.Narrow.{narrow_law}
 use Rattle.pst_ruled.proofs.All.{rules_law}
 use Rattle.pst_ruled.proofs.Versions.{versions_law}
 use Rattle.pst_ruled.proofs.laws.rules.Goals as goal
