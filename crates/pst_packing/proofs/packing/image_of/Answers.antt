@@ -21,33 +21,33 @@ returns-in_err-carry_script-clause-found g c =
     let m = meaning_of c.args.program in
     let p = err_from_is_err_and c.from_residual.result c.from_residual.ensures.1 in
     let s = c.in_err-carry_script.field-0.0 in
-    let (lines, stops) = c.in_err-carry_script.ensures.carried m (first_history m) c.in-Ok.ensures.stands in
+    let (lines, stops) = c.in_err-carry_script.ensures.carried m (first_history by_tree m) c.in-Ok.ensures.stands in
     image_stopped (kept_by by_tree IsLeft IsBroken c.args.store.now c.carry_script.new.held) c.carry_script.new.held m c.args.text.now _ _ _ _ c.from_residual.result s p.0 p.1 p.2
     (carrying_stopped by_tree IsLeft IsBroken c.args.store.now c.carry_script.new.held m s _ _ _ _ lines stops)
 
 pub pack-requires-clause-rested : goal.pack-requires-clause-rested
 pack-requires-clause-rested g c =
     let m = meaning_of c.args.program in
-    let (lines, all, now) = c.in_ok-carry_script.ensures.carried m (first_history m) c.in-Ok.ensures.stands in
+    let (lines, all, now) = c.in_ok-carry_script.ensures.carried m (first_history by_tree m) c.in-Ok.ensures.stands in
     (c.known.ensures.leaves m (history_after by_tree m lines) now).rested
 
 pub pack-requires-clause-left : goal.pack-requires-clause-left
 pack-requires-clause-left g c =
     let m = meaning_of c.args.program in
-    let (lines, all, now) = c.in_ok-carry_script.ensures.carried m (first_history m) c.in-Ok.ensures.stands in
+    let (lines, all, now) = c.in_ok-carry_script.ensures.carried m (first_history by_tree m) c.in-Ok.ensures.stands in
     let law = direct_is_lawful (routines_of c.args.program) c.requires.typed.valid in
     leaves m _ c.carry_script.new.session.engine (history_after by_tree m lines) (script-start m lines) c.carry_script.new.held c.next_run.result c.next_run.ensures law c.whole.ensures.store now.stands
 
 pub pack-requires-clause-numbers : goal.pack-requires-clause-numbers
 pack-requires-clause-numbers g c =
     let m = meaning_of c.args.program in
-    let (lines, all, now) = c.in_ok-carry_script.ensures.carried m (first_history m) c.in-Ok.ensures.stands in
+    let (lines, all, now) = c.in_ok-carry_script.ensures.carried m (first_history by_tree m) c.in-Ok.ensures.stands in
     numbers m _ c.carry_script.new.session.engine (history_after by_tree m lines) (script-start m lines) c.carry_script.new.held c.next_run.result c.budget.result c.next_run.ensures c.budget.ensures now.stands
 
 pub returns-in-Ok-pack-clause-found : goal.returns-in-Ok-pack-clause-found
 returns-in-Ok-pack-clause-found g c =
     let m = meaning_of c.args.program in
-    let (lines, all, now) = c.in_ok-carry_script.ensures.carried m (first_history m) c.in-Ok.ensures.stands in
+    let (lines, all, now) = c.in_ok-carry_script.ensures.carried m (first_history by_tree m) c.in-Ok.ensures.stands in
     let h = history_after by_tree m lines in
     let left = c.known.ensures.leaves m h now in (
       lines,
@@ -60,5 +60,5 @@ returns-in-Ok-pack-clause-found g c =
 pub returns-clause-found : goal.returns-clause-found
 returns-clause-found g c =
     let m = meaning_of c.args.program in
-    let (lines, all, now) = c.in_ok-carry_script.ensures.carried m (first_history m) c.in-Ok.ensures.stands in
+    let (lines, all, now) = c.in_ok-carry_script.ensures.carried m (first_history by_tree m) c.in-Ok.ensures.stands in
     image_lacks (kept_by by_tree IsLeft IsBroken c.args.store.now c.carry_script.new.held) c.carry_script.new.held m c.args.text.now _ _ _ _ lines all (c.known.ensures.leaves m (history_after by_tree m lines) now)

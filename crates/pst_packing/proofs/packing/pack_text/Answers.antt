@@ -17,7 +17,7 @@ pub returns-in-Err-Fault-clause-packed : goal.returns-in-Err-Fault-clause-packed
 returns-in-Err-Fault-clause-packed g c =
     let (out, written, w) = c.refuse.ensures.refused in
     let k = kept_by by_tree IsLeft IsBroken c.args.store.now c.args.store.now in
-    (out, written, fault_asked c.refuse.result k (PacksWhole k c.args.store.now) (PacksInPart k c.args.store.now) _ _ c.args.text.items out c.in-Err-Fault.fault refl (rw c.in-Err-Fault.field-0-is at c.in-Err-Fault.ensures.verdict) (rw c.in-Err-Fault.field-0-is at w))
+    (out, written, fault_asked c.refuse.result k (PacksWhole k c.args.store.now) (PacksInPart k c.args.store.now) _ _ c.args.text.items out c.in-Err-Fault.fault refl c.in-Err-Fault.ensures.verdict (rw c.in-Err-Fault.field-0-is at w))
 
 pub returns-in-Err-clause-packed : goal.returns-in-Err-clause-packed
 returns-in-Err-clause-packed g c =
@@ -35,7 +35,7 @@ returns-in-Ok-say-clause-packed g c =
       out,
       written,
       answer_asked k (PacksWhole k c.image_of.new.store) (PacksInPart k c.image_of.new.store) _ _ _ _ c.args.text.items syntax c.in-Ok.program judged lines out all
-          (packed k c.image_of.new.store (λ image written. written ≡ image) syntax c.in-Ok.program lines c.as_slice.result.now c.in-Ok-image_of.image out (c.as_slice.ensures ∙ same) kept is (w ∙ c.as_slice-2.ensures)),
+          (packed k c.image_of.new.store (λ image written. written ≡ image) syntax c.in-Ok.program lines c.as_slice.result.now c.in-Ok-image_of.image out (c.as_slice.ensures ∙ same) kept is (w ∙ c.as_slice-in-Ok-image_of.ensures)),
     )
 
 pub returns-clause-packed : goal.returns-clause-packed
@@ -47,6 +47,6 @@ returns-clause-packed g c =
     let (out, written, w) = c.in-Err-say.ensures.said in (
       out,
       written,
-      rw c.status_of-in-Err-say.ensures (answer_stopped k (PacksWhole k c.image_of.new.store) (PacksInPart k c.image_of.new.store) _ _ _ _ c.args.text.items syntax c.in-Ok.program judged c.in-Err-say.stop lines c.as_slice-2.result.now out all kept
-          (λ part. packed k c.image_of.new.store IsPartOf syntax c.in-Ok.program lines c.as_slice.result.now c.in-Ok-image_of.image out (c.as_slice.ensures ∙ same) kept is (subst (λ p. IsPartOf p out) c.as_slice-2.ensures part)) w),
+      rw c.status_of-in-Err-say.ensures (answer_stopped k (PacksWhole k c.image_of.new.store) (PacksInPart k c.image_of.new.store) _ _ _ _ c.args.text.items syntax c.in-Ok.program judged c.in-Err-say.stop lines c.as_slice-in-Ok-image_of.result.now out all kept
+          (λ part. packed k c.image_of.new.store IsPartOf syntax c.in-Ok.program lines c.as_slice.result.now c.in-Ok-image_of.image out (c.as_slice.ensures ∙ same) kept is (subst (λ p. IsPartOf p out) c.as_slice-in-Ok-image_of.ensures part)) w),
     )
