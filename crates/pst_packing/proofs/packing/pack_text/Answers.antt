@@ -17,7 +17,7 @@ pub returns-in-Err-Fault-clause-packed : goal.returns-in-Err-Fault-clause-packed
 returns-in-Err-Fault-clause-packed g c =
     let (out, written, w) = c.refuse.ensures.refused in
     let k = kept_by by_tree IsLeft IsBroken c.args.store.now c.args.store.now in
-    (out, written, fault_asked c.refuse.result k (PacksWhole k c.args.store.now) (PacksInPart k c.args.store.now) _ _ c.args.text.items out c.in-Err-Fault.fault refl c.in-Err-Fault.ensures.verdict (rw c.in-Err-Fault.field-0-is at w))
+    (out, written, fault_asked c.refuse.result k (PacksWhole k c.args.store.now) (PacksInPart k c.args.store.now) _ _ c.args.text.items out c.in-Err-Fault.fault refl (rw c.in-Err-Fault.field-0-is at c.in-Err-Fault.ensures.verdict) w)
 
 pub returns-in-Err-clause-packed : goal.returns-in-Err-clause-packed
 returns-in-Err-clause-packed g c =
