@@ -123,7 +123,8 @@ class Session:
             self.child.stdin.close()
         except BrokenPipeError:
             pass
-        rest = self.child.stdout.read()
+        with self.child.stdout:
+            rest = self.child.stdout.read()
         status = self.child.wait()
         self.clock.cancel()
         return status, b''.join(self.replies) + rest

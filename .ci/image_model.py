@@ -1,0 +1,231 @@
+"""A small store of fat nodes over plain lists, and the image of one. It is for tests of the rules: it is slow and keeps the heap of each
+version beside the nodes."""
+import struct
+from collections import namedtuple
+
+from image_rules import ENTRY, MAGIC, U64, types_of
+
+Target = namedtuple('Target', 'x')
+Entry = namedtuple('Entry', 'x f')
+
+
+class Run:
+    """A run on a version: its places, its heap, and how many records it has made."""
+
+    def __init__(self, number, parent, begin, end, heap):
+        self.number, self.parent, self.begin, self.end, self.heap, self.made = number, parent, begin, end, heap, 0
+
+
+class Node:
+    """A node with its life. A row is a slot's segments, each from where it begins, with its content: a number, None, a target or an
+    entry."""
+
+    def __init__(self, name, type_number, lo, hi, rows):
+        self.name, self.type, self.lo, self.hi, self.rows, self.later = name, type_number, lo, hi, rows, None
+
+    def stamps(self):
+        """The places of the stamped values."""
+        return [begin for row in self.rows for begin, _ in row[1:]]
+
+
+class Store:
+    """Versions, nodes and counts. With `splits` false no node is ever split, which is wrong."""
+
+    def __init__(self, text, splits=True):
+        self.text, self.types, self.splits = text, types_of(text), splits
+        self.order, self.places, self.budget = [0, 1], 2, 1000000
+        self.counts, self.nodes = {'records': 1, 'pointers': 0, 'values': 0}, []
+        heap = {(0, 0): (0, self.defaults(0))}
+        self.make_node((0, 0), 0, 0, 1)
+        self.runs, self.versions = [Run(0, 0, 0, 1, heap)], [0]
+
+    # ---- places
+
+    def at(self, place):
+        return self.order.index(place)
+
+    def behind(self, place):
+        """A new place directly behind this one."""
+        self.places += 1
+        self.order.insert(self.at(place) + 1, self.places)
+        return self.places
+
+    # ---- runs and versions
+
+    def fork(self, version):
+        origin = self.runs[self.versions[version]]
+        begin = self.behind(origin.begin)
+        heap = {name: (number, list(contents)) for name, (number, contents) in origin.heap.items()}
+        run = Run(len(self.runs), version, begin, self.behind(begin), heap)
+        self.runs.append(run)
+        return run
+
+    def publish(self, run):
+        self.versions.append(run.number)
+        return len(self.versions) - 1
+
+    # ---- records
+
+    def defaults(self, number):
+        it = self.types[number]
+        return [0] * it.values + [None] * len(it.targets)
+
+    def make_node(self, name, number, lo, hi):
+        it = self.types[number]
+        contents = self.defaults(number) + [None] * (it.slots - it.contents)
+        self.nodes.append(Node(name, number, lo, hi, [[(lo, content)] for content in contents]))
+
+    def allocate(self, run, number):
+        name = run.number, run.made
+        run.made += 1
+        self.counts['records'] += 1
+        run.heap[name] = number, self.defaults(number)
+        self.make_node(name, number, run.begin, run.end)
+        return name
+
+    def node_at(self, name, place):
+        """The number of the node that covers a place of a record's life."""
+        return next(x for x, node in enumerate(self.nodes)
+                    if node.name == name and self.at(node.lo) <= self.at(place) < self.at(node.hi))
+
+    def held_at(self, node, slot, place):
+        return [content for begin, content in node.rows[slot] if self.at(begin) <= self.at(place)][-1]
+
+    def in_degree(self, heap, name, slot, target):
+        """How many fields but this one hold the record."""
+        return sum(content == target and (other, k) != (name, slot)
+                   for other, (number, contents) in heap.items()
+                   for k, content in enumerate(contents) if self.types[number].is_pointer(k))
+
+    # ---- writes
+
+    def write(self, run, name, slot, content):
+        """Writes a field of a record by name: a number, null, or the name of a record. False where a pointer trapped."""
+        number, contents = run.heap[name]
+        if not self.types[number].is_pointer(slot):
+            self.counts['values'] += 1
+            self.set_over(self.nodes[self.node_at(name, run.begin)], slot, run, content)
+        elif content is not None and self.in_degree(run.heap, name, slot, content) == self.slots_for(run.heap[content][0]):
+            return False
+        else:
+            self.counts['pointers'] += 1
+            self.write_pointer(run, self.node_at(name, run.begin), slot, content)
+        contents[slot] = content
+        while self.splits and self.split_one():
+            pass
+        return True
+
+    def slots_for(self, number):
+        return self.types[number].slots - self.types[number].contents
+
+    def write_pointer(self, run, x, slot, name):
+        """Writes a pointer of node x: the entry in the node that it held is taken away, and one is put into that of the record named."""
+        old = self.held_at(self.nodes[x], slot, run.begin)
+        if old is not None:
+            self.set_over(self.nodes[old.x], self.inverse(old.x, run.begin, Entry(x, slot)), run, None)
+        target = None if name is None else Target(self.node_at(name, run.begin))
+        if target is not None:
+            self.set_over(self.nodes[target.x], self.inverse(target.x, run.begin, None), run, Entry(x, slot))
+        self.set_over(self.nodes[x], slot, run, target)
+
+    def inverse(self, y, place, entry):
+        """The first inverse slot that holds this entry at a place."""
+        node = self.nodes[y]
+        first = self.types[node.type].contents
+        return next(slot for slot in range(first, len(node.rows)) if self.held_at(node, slot, place) == entry)
+
+    def set_over(self, node, slot, run, content):
+        """Sets a slot over the stretch of a run, behind which it holds what it held."""
+        row = node.rows[slot]
+        k = max(k for k, (begin, _) in enumerate(row) if self.at(begin) <= self.at(run.begin))
+        begin, old = row[k]
+        end = row[k + 1][0] if k + 1 < len(row) else node.hi
+        fresh = [(begin, old)] if begin != run.begin else []
+        fresh.append((run.begin, content))
+        fresh += [(run.end, old)] if end != run.end else []
+        row[k:k + 1] = fresh
+
+    # ---- splits
+
+    def split_one(self):
+        """Splits the first node over its capacity, if there is one."""
+        for x, node in enumerate(self.nodes):
+            stamps = sorted(node.stamps(), key=self.at)
+            if len(stamps) > self.types[node.type].capacity:
+                self.split(x, stamps[len(stamps) // 2])
+                return True
+        return False
+
+    def split(self, x, place):
+        """Splits a node at a place: each segment that refers to it is cut there, and from there on refers to the right node."""
+        node = self.nodes[x]
+        for it in self.nodes:
+            it.rows = [[part for segment in self.segments(it, row) for part in self.cut(segment, place, it is node, x)] for row in it.rows]
+        right = Node(node.name, node.type, place, node.hi, [self.side(row, place, True) for row in node.rows])
+        node.rows = [self.side(row, place, False) for row in node.rows]
+        right.later, node.later, node.hi = node.later, len(self.nodes), place
+        self.nodes.append(right)
+        for it in self.nodes:
+            it.rows = [[(begin, self.led(begin, content, x, place, node.later)) for begin, content in row] for row in it.rows]
+
+    def segments(self, node, row):
+        """The segments of a row with their ends."""
+        return [(begin, end, content) for (begin, content), end in zip(row, [begin for begin, _ in row[1:]] + [node.hi])]
+
+    def cut(self, segment, place, always, x):
+        """The parts of a segment, which is cut at a place where it refers to node x, or where that is asked for."""
+        begin, end, content = segment
+        yield begin, content
+        if self.at(begin) < self.at(place) < self.at(end) and (always or refers(content, x)):
+            yield place, content
+
+    def side(self, row, place, later):
+        return [(begin, content) for begin, content in row if (self.at(begin) >= self.at(place)) == later]
+
+    def led(self, begin, content, x, place, right):
+        """The content of a segment behind a split of node x at a place."""
+        return content._replace(x=right) if refers(content, x) and self.at(begin) >= self.at(place) else content
+
+
+def refers(content, x):
+    return not isinstance(content, int) and content is not None and content.x == x
+
+
+# ---- the image of a store
+
+def coded(content):
+    """A content as a number of 8 bytes."""
+    if content is None:
+        return 0
+    if isinstance(content, int):
+        return content % U64
+    return (content.x + 1) * ENTRY + content.f if isinstance(content, Entry) else content.x + 1
+
+
+def fields_of(store):
+    """The numbers of an image by names, such as `budget`, `version 2 begin`, `node 0 base 1`, or `node 0 stamp 2` for that of the third
+    stamped value of node 0."""
+    position = {place: k for k, place in enumerate(store.order)}
+    fields = {'length': len(store.text), 'budget': store.budget, 'next run': len(store.runs), **store.counts,
+              'places': len(store.order), 'versions': len(store.versions)}
+    for version, number in enumerate(store.versions):
+        run = store.runs[number]
+        told = {'parent': run.parent, 'run': number, 'begin': position[run.begin], 'end': position[run.end]}
+        fields.update((f'version {version} {name}', value) for name, value in told.items())
+    fields['nodes'] = len(store.nodes)
+    for x, node in enumerate(store.nodes):
+        told = {'run': node.name[0], 'ordinal': node.name[1], 'type': node.type, 'lo': position[node.lo], 'hi': position[node.hi],
+                'later': 0 if node.later is None else node.later + 1, 'slots': len(node.rows)}
+        told.update((f'base {slot}', coded(row[0][1])) for slot, row in enumerate(node.rows))
+        stamped = [(slot, position[begin], coded(content)) for slot, row in enumerate(node.rows) for begin, content in row[1:]]
+        told['stamped'] = len(stamped)
+        for k, triple in enumerate(stamped):
+            told.update((f'{name} {k}', value) for name, value in zip(('slot', 'stamp', 'content'), triple))
+        fields.update((f'node {x} {name}', value) for name, value in told.items())
+    return fields
+
+
+def image_of(text, fields):
+    """The bytes of an image with this text and these numbers."""
+    length, *numbers = fields.values()
+    return MAGIC + struct.pack('>Q', length) + text + struct.pack(f'>{len(numbers)}Q', *numbers)
