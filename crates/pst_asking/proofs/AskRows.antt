@@ -1,4 +1,4 @@
--- Which row of the table of questions holds.
+-- Which row of the table of answers holds.
 use Rattle.std.proofs.Common.{◌≡◌, ℕ, ◌≤◌, inl, inr, List, [], ◌++◌, refl, sym, subst, Option, None, Some}
 use Rattle.std.specs.Prelude.{IfSome}
 use Rattle.std.specs.Io.KnownBytes.{Appends}
@@ -28,41 +28,40 @@ use Rattle.pst_serving.specs.Rows.{IsWithin, ReadsAll}
 use Rattle.pst_serving.specs.Serving.{Refuses, status_of}
 use Rattle.pst_answers.specs.Sessions.{StopsAtReply}
 use Rattle.pst_telling.specs.Telling.{Tells}
-use Rattle.pst_asking.specs.Asking.{Answered, IsAnswer, IsPartOfAnswer, StopsInFault, BreaksAt, CarriedTo, StopsInScript, LacksAnswer, AskRow, GivesAll, StopsAsking, StopsText, Asks}
+use Rattle.pst_asking.specs.Asking.{StopsInFault, BreaksAt, CarriedTo, StopsInScript, LacksAnswer, OverRow, GivesAll, StopsAsking, StopsText, Over}
 use Rattle.pst_serving.proofs.RowLemmas.{fresh, stops_front, LongFront, long_by, long_row, lacks_text, lacks_program, cuts, readable, reads_up_to, told_text, refused_alike, of_text, whole_input, was_going, after_program}
 use Rattle.pst_serving.proofs.Serving.{one_whole}
 
 -- ---- what comes of the text of a program
 
-pub fault_asked : (status : Status) (k : Kept) (question : Question) (path : List ℕ) (a : InputState) (left : Option (List ℕ)) (text out : List ℕ) (fault : Fault) → k.untouched
-    → HasFault text fault.kind fault.line → Refuses status fault out → Asks status k question path a left a left text out
-fault_asked Refused k question path a left text out fault same has w = ((refl, refl), (IsRefusedBy fault, has, same, one_whole _ out w))
-fault_asked WriteFault k question path a left text out fault same has w = inl ((refl, refl), (IsRefusedBy fault, has, (same, w)))
-fault_asked Memory k question path a left text out fault same has w = (w, inl (same, (refl, refl)))
-fault_asked Done k question path a left text out fault same has w = absurd w
-fault_asked ReadFault k question path a left text out fault same has w = absurd w
-fault_asked TooLong k question path a left text out fault same has w = absurd w
-fault_asked Usage k question path a left text out fault same has w = absurd w
+pub fault_asked : (status : Status) (k : Kept) (whole part : List (List ℕ) → Verdict → List ℕ → Type 0) (a : InputState) (left : Option (List ℕ)) (text out : List ℕ) (fault : Fault) → k.untouched
+    → HasFault text fault.kind fault.line → Refuses status fault out → Over status k whole part a left a left text out
+fault_asked Refused k whole part a left text out fault same has w = ((refl, refl), (IsRefusedBy fault, has, same, one_whole _ out w))
+fault_asked WriteFault k whole part a left text out fault same has w = inl ((refl, refl), (IsRefusedBy fault, has, (same, w)))
+fault_asked Memory k whole part a left text out fault same has w = (w, inl (same, (refl, refl)))
+fault_asked Done k whole part a left text out fault same has w = absurd w
+fault_asked ReadFault k whole part a left text out fault same has w = absurd w
+fault_asked TooLong k whole part a left text out fault same has w = absurd w
+fault_asked Usage k whole part a left text out fault same has w = absurd w
 
-module _ (k : Kept) (question : Question) (path : List ℕ) (a b : InputState) (left left' : Option (List ℕ)) (text : List ℕ) (syntax : ProgramText) (program : Program)
+module _ (k : Kept) (whole part : List (List ℕ) → Verdict → List ℕ → Type 0) (a b : InputState) (left left' : Option (List ℕ)) (text : List ℕ) (syntax : ProgramText) (program : Program)
     (judged : Judged text (Accepted syntax (program_of program))) where
-  pub answer_asked : (lines : List (List ℕ)) (piece out : List ℕ) → GivesAll a left b left' lines → k.leaves (meaning_of program) lines
-      → Tells program (meaning_of program) (history_after by_tree (meaning_of program) lines) question path piece → out ≡ piece → Asks Done k question path a left b left' text out
-  answer_asked lines piece out g kept told e =
-      (lines, g, (Accepted syntax (program_of program), judged, (kept, (program, refl, subst (Tells program (meaning_of program) (history_after by_tree (meaning_of program) lines) question path) (sym e) told))))
+  -- the answer is written
+  pub answer_asked : (lines : List (List ℕ)) (out : List ℕ) → GivesAll a left b left' lines → whole lines (Accepted syntax (program_of program)) out → Over Done k whole part a left b left' text out
+  answer_asked lines out g told = (lines, g, (Accepted syntax (program_of program), judged, told))
 
   -- the answer was not written whole
   pub answer_stopped : (s : Stop) (lines : List (List ℕ)) (piece out : List ℕ) → GivesAll a left b left' lines → k.leaves (meaning_of program) lines
-      → Tells program (meaning_of program) (history_after by_tree (meaning_of program) lines) question path piece → StopsAtReply s (Some piece) out → Asks (status_of s) k question path a left b left' text out
-  answer_stopped stop.Write lines piece out g kept told (whole, same, part) =
-      let e : whole ≡ piece = cc in
-      inr (lines, g, (Accepted syntax (program_of program), judged, (kept, (program, refl, (piece, told, subst (λ l. IsPartOf l out) e part)))))
+      → (IsPartOf piece out → part lines (Accepted syntax (program_of program)) out) → StopsAtReply s (Some piece) out → Over (status_of s) k whole part a left b left' text out
+  answer_stopped stop.Write lines piece out g kept told (all, same, some) =
+      let e : all ≡ piece = cc in
+      inr (lines, g, (Accepted syntax (program_of program), judged, told (subst (λ l. IsPartOf l out) e some)))
   answer_stopped stop.Memory lines piece out g kept told none = (none, inr (inr (inr (lines, g, (Accepted syntax (program_of program), judged, kept)))))
   answer_stopped stop.Read lines piece out g kept told never = absurd never
   answer_stopped stop.TooLong lines piece out g kept told never = absurd never
 
   -- there was no answer
-  pub script_asked : (s : Stop) → StopsAsking k.untouched (k.leaves (meaning_of program)) (k.breaks (meaning_of program)) s a left b left' → Asks (status_of s) k question path a left b left' text []
+  pub script_asked : (s : Stop) → StopsAsking k.untouched (k.leaves (meaning_of program)) (k.breaks (meaning_of program)) s a left b left' → Over (status_of s) k whole part a left b left' text []
   script_asked stop.Read (lines, g, off, kept) = (refl, (lines, g, off, (Accepted syntax (program_of program), judged, kept)))
   script_asked stop.TooLong (lines, g, off, kept) = (refl, (lines, g, off, (Accepted syntax (program_of program), judged, kept)))
   script_asked stop.Write never = absurd never
@@ -74,29 +73,29 @@ module _ (k : Kept) (question : Question) (path : List ℕ) (a b : InputState) (
 -- ---- rows
 
 -- reading the text of the program stopped
-stopped : (k : Kept) (question : Question) (path : List ℕ) (s : Stop) (c : InputState) (input : List ℕ) (left : Option (List ℕ)) (lines : List (List ℕ)) → k.untouched → (s ≡ stop.Write → ⊥)
-    → GivesUntil s fresh (Some input) c left lines → cut lines ≡ None → bytes_read c ≤ MOST_INPUT → AskRow (status_of s) k question path input left []
-stopped k question path stop.Read c input left lines same unwritten g none most = (refl, stops_front (CarriedTo k) c input left lines g.0 g.1 most (subst (CarriedTo k) (sym none) same))
-stopped k question path stop.TooLong c input left lines same unwritten g none most =
+stopped : (k : Kept) (whole part : List (List ℕ) → Verdict → List ℕ → Type 0) (s : Stop) (c : InputState) (input : List ℕ) (left : Option (List ℕ)) (lines : List (List ℕ)) → k.untouched → (s ≡ stop.Write → ⊥)
+    → GivesUntil s fresh (Some input) c left lines → cut lines ≡ None → bytes_read c ≤ MOST_INPUT → OverRow (status_of s) k whole part input left []
+stopped k whole part stop.Read c input left lines same unwritten g none most = (refl, stops_front (CarriedTo k) c input left lines g.0 g.1 most (subst (CarriedTo k) (sym none) same))
+stopped k whole part stop.TooLong c input left lines same unwritten g none most =
     let long = long_row (CarriedTo k) c input left lines g.0 g.1 (subst (CarriedTo k) (sym none) same) in
     (refl, long.0, long.1, long.2)
-stopped k question path stop.Write c input left lines same unwritten g none most = absurd (unwritten refl)
-stopped k question path stop.Memory c input left lines same unwritten (g, inl off) none most = (refl, inl (stops_front (CarriedTo k) c input left lines g off most (subst (CarriedTo k) (sym none) same)))
-stopped k question path stop.Memory c input left lines same unwritten (g, inr near) none most = (refl, inr (inl (lacks_text k c input left lines same g near none most)))
+stopped k whole part stop.Write c input left lines same unwritten g none most = absurd (unwritten refl)
+stopped k whole part stop.Memory c input left lines same unwritten (g, inl off) none most = (refl, inl (stops_front (CarriedTo k) c input left lines g off most (subst (CarriedTo k) (sym none) same)))
+stopped k whole part stop.Memory c input left lines same unwritten (g, inr near) none most = (refl, inr (inl (lacks_text k c input left lines same g near none most)))
 
 -- nothing was written
-pub text_unread : (k : Kept) (question : Question) (path : List ℕ) (s : Stop) (status : Status) (a c : InputState) (left left' sink sink' : Option (List ℕ)) (lines : List (List ℕ)) → k.untouched → status ≡ status_of s → a ≡ fresh
+pub text_unread : (k : Kept) (whole part : List (List ℕ) → Verdict → List ℕ → Type 0) (s : Stop) (status : Status) (a c : InputState) (left left' sink sink' : Option (List ℕ)) (lines : List (List ℕ)) → k.untouched → status ≡ status_of s → a ≡ fresh
     → sink' ≡ sink → (s ≡ stop.Write → ⊥) → GivesUntil s a left c left' lines → cut lines ≡ None → bytes_read c ≤ MOST_INPUT
-    → IfSome left (λ input. (out : List ℕ) × Appends sink sink' out × AskRow status k question path input left' out)
-text_unread k question path s status a c None left' sink sink' lines same is new still unwritten g none most = tt
-text_unread k question path s status a c (Some input) left' sink sink' lines same is new still unwritten g none most = (
+    → IfSome left (λ input. (out : List ℕ) × Appends sink sink' out × OverRow status k whole part input left' out)
+text_unread k whole part s status a c None left' sink sink' lines same is new still unwritten g none most = tt
+text_unread k whole part s status a c (Some input) left' sink sink' lines same is new still unwritten g none most = (
   [],
   subst (λ o. Appends sink o []) (sym still) (Appends-nil sink),
-  subst (λ v. AskRow v k question path input left' []) (sym is)
-      (stopped k question path s c input left' lines same unwritten (subst (λ v. GivesUntil s v (Some input) c left' lines) new g) none most),
+  subst (λ v. OverRow v k whole part input left' []) (sym is)
+      (stopped k whole part s c input left' lines same unwritten (subst (λ v. GivesUntil s v (Some input) c left' lines) new g) none most),
 )
 
-module _ (k : Kept) (question : Question) (path : List ℕ) (t u : InputState) (input rest text : List ℕ) (left : Option (List ℕ)) (r : ReadsText fresh (Some input) t (Some rest) text)
+module _ (k : Kept) (whole part : List (List ℕ) → Verdict → List ℕ → Type 0) (t u : InputState) (input rest text : List ℕ) (left : Option (List ℕ)) (r : ReadsText fresh (Some input) t (Some rest) text)
     (seen : EndsWhereSeen t (Some rest)) (most : bytes_read t ≤ MOST_INPUT) (most' : bytes_read u ≤ MOST_INPUT) where
   same_text : (P : Verdict → Type 0) → OfVerdict text P → OfVerdict (cut_of input).text P
   same_text P w = of_text text (cut_of input).text P (told_text input text r.separator (pending t (Some rest)) r.told) w
@@ -105,8 +104,8 @@ module _ (k : Kept) (question : Question) (path : List ℕ) (t u : InputState) (
   carried : (P : List (List ℕ) → Verdict → Type 0) (lines : List (List ℕ)) → GivesAll t (Some rest) u left lines → OfVerdict text (P lines)
       → IsWithin Run input × ReadsAll Run input left × OfVerdict (cut_of input).text (P (cut_of input).script)
   carried P lines (g, over, end) w =
-      let whole = whole_input t u input rest text left lines r g over end most' in
-      (whole.within, whole.read, subst (λ (c : CutInput). OfVerdict c.text (P c.script)) (sym whole.parts) w)
+      let all = whole_input t u input rest text left lines r g over end most' in
+      (all.within, all.read, subst (λ (c : CutInput). OfVerdict c.text (P c.script)) (sym all.parts) w)
 
   -- reading was cut off in the script
   cut_short : (given : List (List ℕ)) → Gives t (Some rest) u left given → IsCutOff u → OfVerdict text (Accepting k given) → StopsInScript k input left
@@ -127,8 +126,8 @@ module _ (k : Kept) (question : Question) (path : List ℕ) (t u : InputState) (
       inr (inr (inl (readable t input (Some rest) text r seen most, (given, reads_up_to t u input rest text left given r seen g near most', same_text (BreaksAt k given) w))))
   lacks (inr (inr (inr (lines, g, w)))) = inr (inr (inr (carried (Accepting k) lines g w)))
 
-  asked_row : (status : Status) (out : List ℕ) → Asks status k question path t (Some rest) u left text out → AskRow status k question path input left out
-  asked_row Done out (lines, g, w) = carried (λ given verdict. Answered k given (IsAnswer question path) verdict out) lines g w
+  asked_row : (status : Status) (out : List ℕ) → Over status k whole part t (Some rest) u left text out → OverRow status k whole part input left out
+  asked_row Done out (lines, g, w) = carried (λ given verdict. whole given verdict out) lines g w
   asked_row Refused out (same, w) = (
     readable t input (Some rest) text r seen most,
     after_program t u input rest text left r seen most same,
@@ -139,23 +138,23 @@ module _ (k : Kept) (question : Question) (path : List ℕ) (t u : InputState) (
     after_program t u input rest text left r seen most same,
     same_text (λ verdict. StopsInFault k verdict out) w,
   )
-  asked_row WriteFault out (inr (lines, g, w)) = inr (carried (λ given verdict. Answered k given (IsPartOfAnswer question path) verdict out) lines g w)
+  asked_row WriteFault out (inr (lines, g, w)) = inr (carried (λ given verdict. part given verdict out) lines g w)
   asked_row ReadFault out (none, (given, g, off, w)) = (none, cut_short given g off w)
   asked_row TooLong out (none, (given, g, off, w)) = let long = too_long given g off w in (none, long.0, long.1, long.2)
   asked_row Memory out (none, w) = (none, lacks w)
   asked_row Usage out never = absurd never
 
-asked : (k : Kept) (question : Question) (path : List ℕ) (status : Status) (t u : InputState) (input text : List ℕ) (mid left sink sink' : Option (List ℕ)) → ReadsText fresh (Some input) t mid text → EndsWhereSeen t mid
-    → bytes_read t ≤ MOST_INPUT → bytes_read u ≤ MOST_INPUT → (out : List ℕ) × Appends sink sink' out × Asks status k question path t mid u left text out
-    → (out : List ℕ) × Appends sink sink' out × AskRow status k question path input left out
-asked k question path status t u input text None left sink sink' r seen most most' s = absurd r.told
-asked k question path status t u input text (Some rest) left sink sink' r seen most most' (out, written, w) =
-    (out, written, asked_row k question path t u input rest text left r seen most most' status out w)
+asked : (k : Kept) (whole part : List (List ℕ) → Verdict → List ℕ → Type 0) (status : Status) (t u : InputState) (input text : List ℕ) (mid left sink sink' : Option (List ℕ)) → ReadsText fresh (Some input) t mid text → EndsWhereSeen t mid
+    → bytes_read t ≤ MOST_INPUT → bytes_read u ≤ MOST_INPUT → (out : List ℕ) × Appends sink sink' out × Over status k whole part t mid u left text out
+    → (out : List ℕ) × Appends sink sink' out × OverRow status k whole part input left out
+asked k whole part status t u input text None left sink sink' r seen most most' s = absurd r.told
+asked k whole part status t u input text (Some rest) left sink sink' r seen most most' (out, written, w) =
+    (out, written, asked_row k whole part t u input rest text left r seen most most' status out w)
 
 -- the script was carried out and the question answered
-pub text_asked : (k : Kept) (question : Question) (path : List ℕ) (status : Status) (a t u : InputState) (left mid left' sink sink' : Option (List ℕ)) (text : List ℕ) → a ≡ fresh → ReadsText a left t mid text
-    → EndsWhereSeen t mid → bytes_read t ≤ MOST_INPUT → bytes_read u ≤ MOST_INPUT → (out : List ℕ) × Appends sink sink' out × Asks status k question path t mid u left' text out
-    → IfSome left (λ input. (out : List ℕ) × Appends sink sink' out × AskRow status k question path input left' out)
-text_asked k question path status a t u None mid left' sink sink' text new r seen most most' s = tt
-text_asked k question path status a t u (Some input) mid left' sink sink' text new r seen most most' s =
-    asked k question path status t u input text mid left' sink sink' (subst (λ v. ReadsText v (Some input) t mid text) new r) seen most most' s
+pub text_asked : (k : Kept) (whole part : List (List ℕ) → Verdict → List ℕ → Type 0) (status : Status) (a t u : InputState) (left mid left' sink sink' : Option (List ℕ)) (text : List ℕ) → a ≡ fresh → ReadsText a left t mid text
+    → EndsWhereSeen t mid → bytes_read t ≤ MOST_INPUT → bytes_read u ≤ MOST_INPUT → (out : List ℕ) × Appends sink sink' out × Over status k whole part t mid u left' text out
+    → IfSome left (λ input. (out : List ℕ) × Appends sink sink' out × OverRow status k whole part input left' out)
+text_asked k whole part status a t u None mid left' sink sink' text new r seen most most' s = tt
+text_asked k whole part status a t u (Some input) mid left' sink sink' text new r seen most most' s =
+    asked k whole part status t u input text mid left' sink sink' (subst (λ v. ReadsText v (Some input) t mid text) new r) seen most most' s

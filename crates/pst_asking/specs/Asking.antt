@@ -49,6 +49,13 @@ IsAnswer question path program m h out = Tells program m h question path out
 abbrev pub IsPartOfAnswer : Question → (path : List ℕ) → Program → Meaning → History → List ℕ → Type 0
 IsPartOfAnswer question path program m h out = (piece : List ℕ) × Tells program m h question path piece × IsPartOf piece out
 
+-- these lines were carried out, and all of the answer is written, or a part of it
+abbrev pub AnsweredWhole : Kept → Question → (path : List ℕ) → List (List ℕ) → Verdict → List ℕ → Type 0
+AnsweredWhole k question path lines verdict out = Answered k lines (IsAnswer question path) verdict out
+
+abbrev pub AnsweredInPart : Kept → Question → (path : List ℕ) → List (List ℕ) → Verdict → List ℕ → Type 0
+AnsweredInPart k question path lines verdict out = Answered k lines (IsPartOfAnswer question path) verdict out
+
 -- a proper part of the line of the fault is written
 abbrev pub StopsInFault : Kept → Verdict → List ℕ → Type 0
 StopsInFault k (Accepted syntax named) out = ⊥
@@ -78,22 +85,28 @@ LacksAnswer k input left =
     ⊎ (IsWithin Run input × ReadsAll Run input left × OfVerdict (cut_of input).text (Accepting k (cut_of input).script))))
 
 -- the line of the fault, or the answer after all lines, is not written whole
-abbrev pub StopsInAnswer : Kept → Question → (path : List ℕ) → List ℕ → Option (List ℕ) → List ℕ → Type 0
-StopsInAnswer k question path input left out =
+abbrev pub StopsInAnswer : Kept → (part : List (List ℕ) → Verdict → List ℕ → Type 0) → List ℕ → Option (List ℕ) → List ℕ → Type 0
+StopsInAnswer k part input left out =
     (IsReadable input × ReadsUpTo [] input left × OfVerdict (cut_of input).text (λ verdict. StopsInFault k verdict out))
-    ⊎ (IsWithin Run input × ReadsAll Run input left × OfVerdict (cut_of input).text (λ verdict. Answered k (cut_of input).script (IsPartOfAnswer question path) verdict out))
+    ⊎ (IsWithin Run input × ReadsAll Run input left × OfVerdict (cut_of input).text (λ verdict. part (cut_of input).script verdict out))
 
--- The row of a status, for what is held, a question with its path, an input, what the source has left of it, and what was written.
-abbrev pub AskRow : Status → Kept → Question → (path : List ℕ) → List ℕ → Option (List ℕ) → List ℕ → Type 0
-AskRow Done k question path input left out =
-    IsWithin Run input × ReadsAll Run input left × OfVerdict (cut_of input).text (λ verdict. Answered k (cut_of input).script (IsAnswer question path) verdict out)
-AskRow Refused k question path input left out = IsReadable input × ReadsUpTo [] input left × Writes (Refusing k) IsAll Run (cut_of input) out
-AskRow WriteFault k question path input left out = StopsInAnswer k question path input left out
-AskRow ReadFault k question path input left out = (out ≡ []) × StopsInScript k input left
-AskRow TooLong k question path input left out =
+-- The row of a status, for what is held, what is written of an answer, the whole or a part of it, by the lines of a script and the
+-- verdict on its program, an input, what the source has left of it, and what was written.
+abbrev pub OverRow : Status → Kept → (whole part : List (List ℕ) → Verdict → List ℕ → Type 0) → List ℕ → Option (List ℕ) → List ℕ → Type 0
+OverRow Done k whole part input left out =
+    IsWithin Run input × ReadsAll Run input left × OfVerdict (cut_of input).text (λ verdict. whole (cut_of input).script verdict out)
+OverRow Refused k whole part input left out = IsReadable input × ReadsUpTo [] input left × Writes (Refusing k) IsAll Run (cut_of input) out
+OverRow WriteFault k whole part input left out = StopsInAnswer k part input left out
+OverRow ReadFault k whole part input left out = (out ≡ []) × StopsInScript k input left
+OverRow TooLong k whole part input left out =
     (out ≡ []) × (MOST_INPUT < length input) × (left ≡ Some (drop (MOST_INPUT + 1) input)) × CarriedTo k (cut (whole_lines (take MOST_INPUT input)))
-AskRow Memory k question path input left out = (out ≡ []) × LacksAnswer k input left
-AskRow Usage k question path input left out = ⊥
+OverRow Memory k whole part input left out = (out ≡ []) × LacksAnswer k input left
+OverRow Usage k whole part input left out = ⊥
+
+-- that of a question with its path
+abbrev pub AskRow : Status → Kept → Question → (path : List ℕ) → List ℕ → Option (List ℕ) → List ℕ → Type 0
+AskRow status k question path input left out =
+    OverRow status k (AnsweredWhole k question path) (AnsweredInPart k question path) input left out
 
 -- ---- what the functions below the top call come to
 
@@ -144,18 +157,22 @@ abbrev pub StopsText : Kept → List ℕ → Stop → InputState → Option (Lis
 StopsText k text s a left b left' =
     StopsAsking k.untouched (λ lines. OfVerdict text (Accepting k lines)) (λ lines. OfVerdict text (BreaksAt k lines)) s a left b left'
 
--- what comes of the text of a program whose script is then carried out, and of a question about it
-abbrev pub Asks : Status → Kept → Question → (path : List ℕ) → InputState → Option (List ℕ) → InputState → Option (List ℕ) → List ℕ → List ℕ → Type 0
-Asks Done k question path a left b left' text out =
-    (lines : List (List ℕ)) × GivesAll a left b left' lines × OfVerdict text (λ verdict. Answered k lines (IsAnswer question path) verdict out)
-Asks Refused k question path a left b left' text out = ReadsNothing a left b left' × Outputs (Refusing k) IsAll text (replied by_tree []) out
-Asks WriteFault k question path a left b left' text out =
+-- what comes of the text of a program whose script is then carried out, and of an answer behind the last line
+abbrev pub Over : Status → Kept → (whole part : List (List ℕ) → Verdict → List ℕ → Type 0) → InputState → Option (List ℕ) → InputState → Option (List ℕ) → List ℕ → List ℕ → Type 0
+Over Done k whole part a left b left' text out = (lines : List (List ℕ)) × GivesAll a left b left' lines × OfVerdict text (λ verdict. whole lines verdict out)
+Over Refused k whole part a left b left' text out = ReadsNothing a left b left' × Outputs (Refusing k) IsAll text (replied by_tree []) out
+Over WriteFault k whole part a left b left' text out =
     (ReadsNothing a left b left' × OfVerdict text (λ verdict. StopsInFault k verdict out))
-    ⊎ ((lines : List (List ℕ)) × GivesAll a left b left' lines × OfVerdict text (λ verdict. Answered k lines (IsPartOfAnswer question path) verdict out))
-Asks ReadFault k question path a left b left' text out = (out ≡ []) × StopsText k text stop.Read a left b left'
-Asks TooLong k question path a left b left' text out = (out ≡ []) × StopsText k text stop.TooLong a left b left'
-Asks Memory k question path a left b left' text out = (out ≡ []) × StopsText k text stop.Memory a left b left'
-Asks Usage k question path a left b left' text out = ⊥
+    ⊎ ((lines : List (List ℕ)) × GivesAll a left b left' lines × OfVerdict text (λ verdict. part lines verdict out))
+Over ReadFault k whole part a left b left' text out = (out ≡ []) × StopsText k text stop.Read a left b left'
+Over TooLong k whole part a left b left' text out = (out ≡ []) × StopsText k text stop.TooLong a left b left'
+Over Memory k whole part a left b left' text out = (out ≡ []) × StopsText k text stop.Memory a left b left'
+Over Usage k whole part a left b left' text out = ⊥
+
+-- and of a question about it
+abbrev pub Asks : Status → Kept → Question → (path : List ℕ) → InputState → Option (List ℕ) → InputState → Option (List ℕ) → List ℕ → List ℕ → Type 0
+Asks status k question path a left b left' text out =
+    Over status k (AnsweredWhole k question path) (AnsweredInPart k question path) a left b left' text out
 
 -- so it is for the store, as it was and is, and for a reader of lines and its source
 abbrev pub AsksScript : {S : Type 0} → Status → (old new : Option Stored) → Question → (path : List ℕ) → (left : S → Option (List ℕ)) → LinesState → S → LinesState → S → (text out : List ℕ) → Type 0

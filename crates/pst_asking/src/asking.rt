@@ -29,7 +29,10 @@ use pst_telling::tell;
 use std::alloc::Global;
 
 /// Carries the lines out that are left. Their replies are not written.
-fn carry_script<X: Session, S: Source>(
+///
+/// # Errors
+/// Where a read failed, there was no memory, or the input is too long: the lines before are carried out.
+pub fn carry_script<X: Session, S: Source>(
     alloc: Global,
     session: &mut X,
     held: &mut X::Held,

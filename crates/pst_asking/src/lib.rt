@@ -5,7 +5,8 @@
 //!
 //! Contract: [`ask`] reads an input, carries its script out over a store as `run` does, writes no reply, and then writes the
 //! answer about the history of all lines as one piece, or the line of the program's fault. Where reading stops, all whole lines
-//! that were read are carried out, and nothing is written.
+//! that were read are carried out, and nothing is written. The table without the question is `OverRow`: whatever answer stands behind
+//! a script that [`carry_script`] carries out.
 //!
 //!     let mut store: Store = Store::empty();
 //!     let status = ask(alloc, Question::Changed(VersionNo(7)), b"list.head", source, sink, &mut store);
@@ -13,4 +14,4 @@
 
 mod asking;
 
-pub use asking::ask;
+pub use asking::{ask, carry_script};

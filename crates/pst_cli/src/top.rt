@@ -4,8 +4,9 @@ ghost use Rattle.std.specs.Prelude.{◌≡◌, ◌↔◌, ◌≤◌, Some, None,
 ghost use Rattle.pst_io.specs.Causes.{Rose};
 ghost use Rattle.pst_io.specs.Lines.{not_begun};
 ghost use Rattle.pst_jobs.specs.declared.job.Job.{Job};
-ghost use Rattle.pst_jobs.specs.Jobs.{task_in, OnJob, OnBench, OnQuestion};
+ghost use Rattle.pst_jobs.specs.Jobs.{task_in, OnJob, OnBench, OnQuestion, OnPack};
 ghost use Rattle.pst_asking.specs.Asking.{AskRow};
+ghost use Rattle.pst_packing.specs.Packing.{PackRow};
 ghost use Rattle.pst_summary.specs.Bench.{BenchRow, bench_lines};
 ghost use Rattle.pst_samples.specs.declared.TheConstants.{RING};
 ghost use Rattle.pst_line.specs.Store.{IsEmpty};
@@ -16,13 +17,14 @@ ghost use Rattle.pst_cli.specs.Held.{both_in};
 ghost use Rattle.pst_answers.specs.Sessions.{HasTaken};
 
 use pst_answers::read_text;
-use pst_arena::FatNodes;
+use pst_arena::{FatNodes, Listed};
 use pst_asking::ask;
 use pst_io::{Lines, Sink, Source};
 use pst_jobs::{Job, Question, Status, Task, path_in, task_of};
 use pst_judge::Page;
 use pst_line::calls::LineCalls;
-use pst_order::Order;
+use pst_order::{Order, Walked};
+use pst_packing::pack_input;
 use pst_samples::ring;
 use pst_serving::{print, serve, status_of};
 use pst_sessions::{Lining, Replaying, Running};
@@ -32,8 +34,8 @@ use std::alloc::Global;
 
 /// Does everything that the program does.
 ///
-/// The words are `run`, `replay`, `line`, `check` or `code`, or `bench` and a number, or `dump` and a version, or `changed`, a version and
-/// a path.
+/// The words are `run`, `replay`, `line`, `check`, `code` or `pack`, or `bench` and a number, or `dump` and a version, or `changed`, a version
+/// and a path.
 ///
 /// For `bench` nothing is read: the script of the bench with that number is carried out for the program of a ring, and a summary of
 /// what came of it is written as one piece.
@@ -47,7 +49,10 @@ use std::alloc::Global;
 /// is written; or the line `changed W` with the first version `W`, on the way from the version to version 0, that changed what the
 /// path reads; or `never`. The line `refused path` is written exactly where the program has no such path, and else
 /// `refused version` exactly where no version has the number.
-pub fn persist<S: Source, K: Sink, O: Order + Drop, N: FatNodes, L: LineCalls>(
+///
+/// For `pack` the script is read and carried out as for `run`, and no reply is written. Then the image of the store is written, with the
+/// program's canonical text, the number of the next run and the budget that stands. Open runs are not part of it.
+pub fn persist<S: Source, K: Sink, O: Walked + Drop, N: Listed, L: LineCalls>(
     alloc: Global,
     words: &[String],
     source: &mut S,
@@ -68,7 +73,10 @@ pub fn persist<S: Source, K: Sink, O: Order + Drop, N: FatNodes, L: LineCalls>(
     // What a question has read and written, and what the store is left in: as after `run`, and the answer about it.
     ensures asked { OnQuestion words.now (λ question path. HasRow S.left source.old source.new K.taken sink.old sink.new (AskRow result (kept_in store.old store.new Job.Run) question path)) }
 
-    // Only `run`, the bench and the questions work over the store, and only `line` over the line store: every other word leaves them
+    // What packing has read and written, and what the store is left in: as after `run`, and its image.
+    ensures packed { OnPack words.now (HasRow S.left source.old source.new K.taken sink.old sink.new (PackRow result (kept_in store.old store.new Job.Run) store.new)) }
+
+    // Only `run`, the bench, the questions and `pack` work over the store, and only `line` over the line store: every other word leaves them
     // as they were handed in, whatever the source tells.
     ensures tree { works_over_store (task_in words.now) ≡ false → store.new ≡ store.old }
     ensures line { (task_in words.now ≡ Some (Task.Input Job.Line) → ⊥) → line.new ≡ line.old }
@@ -92,6 +100,7 @@ pub fn persist<S: Source, K: Sink, O: Order + Drop, N: FatNodes, L: LineCalls>(
         }
         Some(Task::Ask(question)) => ask(alloc, question, path_in(words), source, sink, store),
         Some(Task::Bench(number)) => { bench(alloc, ring().as_bytes(), number, sink, store) }
+        Some(Task::Pack) => pack_input(alloc, source, sink, store),
     }
 }
 

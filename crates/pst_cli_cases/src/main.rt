@@ -15,7 +15,7 @@ use std::{fs, io};
 const PROGRAMS: &str = "programs";
 
 /// The files of the cases.
-const CASES: [&str; 14] = [
+const CASES: [&str; 15] = [
     "versions",
     "refusals",
     "open_runs",
@@ -30,6 +30,7 @@ const CASES: [&str; 14] = [
     "pages",
     "questions",
     "lines",
+    "images",
 ];
 
 /// Runs the cases of all files.

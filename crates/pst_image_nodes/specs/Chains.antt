@@ -86,7 +86,7 @@ pub record AreOfOneRecord (ks : List NodePart) (i j : ℕ) : Type 0 where
   pub second : j < length ks
   pub name : IsSameName (node_at ks i).name (node_at ks j).name
 
--- the life of one node ends before that of another one begins
+-- the life of one node ends no later than that of another one begins
 abbrev pub EndsBefore : List NodePart → ℕ → ℕ → Type 0
 EndsBefore ks i j = (node_at ks i).hi ≤ (node_at ks j).lo
 

@@ -42,6 +42,8 @@ pub enum Task {
     Bench(u64),
     /// To carry the script out, and to answer a question about its versions in place of its lines.
     Ask(Question),
+    /// To carry the script out, and to write the image of the store that it leaves in place of its replies.
+    Pack,
 }
 
 /// The job that a word names.
@@ -98,13 +100,14 @@ fn version_number(word: &str) -> Option<VersionNo>
     Some(VersionNo(u32::try_from(number).ok()?))
 }
 
-/// What the words ask for: one word that names a job, `bench` and a number, `dump` and a version, or `changed`, a version and a
-/// path. None where they are no such words: a number has at most 64 bits and no zero before another digit, a version at most 32
+/// What the words ask for: one word that names a job, `pack`, `bench` and a number, `dump` and a version, or `changed`, a version
+/// and a path. None where they are no such words: a number has at most 64 bits and no zero before another digit, a version at most 32
 /// bits, and a path the form of names joined by dots.
 pub fn task_of(words: &[String]) -> Option<Task>
     ensures { result ≡ task_of (map string_bytes words.now) }
 {
     match words {
+        [word] if word.as_bytes() == b"pack".as_slice() => Some(Task::Pack),
         [word] => Some(Task::Input(job_named(word.as_bytes())?)),
         [word, number] if word.as_bytes() == b"bench".as_slice() => {
             Some(Task::Bench(long_number(number.as_str())?))

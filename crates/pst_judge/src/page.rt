@@ -3,6 +3,7 @@
 ghost use Rattle.std.specs.Prelude.{◌≡◌, ◌+◌, ◌<◌, ◌^◌, List, length, IfOk, MatchResult};
 ghost use Rattle.pst_tree.specs.Syntax.{ProgramText};
 ghost use Rattle.pst_typing.specs.Declarations.{NamedProgram};
+ghost use Rattle.pst_typing.specs.View.{program_of as typed_program};
 ghost use Rattle.pst_program.specs.View.{routines_of};
 ghost use Rattle.pst_program.specs.Typed.{IsTyped};
 ghost use Rattle.pst_notation.specs.Canonical.{canonical};
@@ -39,15 +40,28 @@ fn listing_of(alloc: Global, program: &Program) -> Result<Text, NoMemory>
     listing(alloc, &code, program)
 }
 
-/// The canonical text of the program of a text of fewer than 4,294,967,295 bytes. It is printed before the types are checked,
-/// since the check lets the tree go, and is the answer only if they are right.
+/// The typed program of a text of fewer than 4,294,967,295 bytes, and its canonical text. The text is printed before the types are
+/// checked, since the check lets the tree go, and is an answer only if they are right.
+///
+/// # Errors
+/// The first fault of the text, or want of memory.
+pub fn canonical_program(alloc: Global, text: Vec<u8>) -> Result<(Text, Program), NoProgram>
+    requires { length text.items + 1 < 2 ^ 32 }
+    ensures verdict { MatchResult result (λ p. (syntax : ProgramText) × Judged text.items (Accepted syntax (typed_program p.1)) × (p.0 ≡ canonical syntax)) (λ why. IsNoProgram text.items why) }
+    ensures typed { IfOk result (λ p. IsTyped (routines_of p.1)) }
+{
+    let tree = read_tree(alloc, text)?;
+    let printed = print_program(alloc, &tree)?;
+    let program = check(alloc, tree)?;
+    Ok((printed, program))
+}
+
+/// The canonical text of the program of a text of fewer than 4,294,967,295 bytes.
 fn canonical_of(alloc: Global, text: Vec<u8>) -> Result<Text, NoProgram>
     requires { length text.items + 1 < 2 ^ 32 }
     ensures { MatchResult result (λ out. (syntax : ProgramText) × (p : NamedProgram) × Judged text.items (Accepted syntax p) × (out ≡ canonical syntax)) (λ why. IsNoProgram text.items why) }
 {
-    let tree = read_tree(alloc, text)?;
-    let printed = print_program(alloc, &tree)?;
-    check(alloc, tree)?;
+    let (printed, _) = canonical_program(alloc, text)?;
     Ok(printed)
 }
 

@@ -31,7 +31,7 @@ pub struct Started<O: Order + Drop, N: FatNodes> {
     counts: Counts,
 }
 
-/// What a store is made of.
+/// What a store is made of. Contracts see the store that it is the whole of.
 #[derive(Drop)]
 pub struct Parts<O: Order + Drop, N: FatNodes> {
     pub shape: Shape,
@@ -44,6 +44,17 @@ pub struct Parts<O: Order + Drop, N: FatNodes> {
     pub relics: Vec<Place>,
     pub spent: u32,
     pub counts: Counts,
+}
+
+impl<O: Order + Drop, N: FatNodes> Model for Parts<O, N> {
+    ghost use Rattle.pst_meaning.specs.Store.{Stored};
+    ghost use Rattle.pst_started.specs.Codes.{coded_stored};
+
+    ghost Value = { Stored };
+
+    ghost coded = { coded_stored };
+
+    ghost view = { λ p. record { shape = p.shape; places = O.places p.order; nodes = N.nodes p.nodes; noted = N.noted p.nodes; start = p.start; versions = p.versions; forks = p.forks.items; calls = p.calls; relics = p.relics.items; spent = p.spent; counts = p.counts } };
 }
 
 impl<O: Order + Drop, N: FatNodes> Model for Started<O, N> {
@@ -112,8 +123,8 @@ impl<O: Order + Drop, N: FatNodes> Started<O, N> {
 
     /// A store of parts that keep what a store keeps. `NoMemory` where there is none for a node beside each fork.
     pub fn of_parts(alloc: Global, parts: Parts<O, N>) -> Result<Started<O, N>, NoMemory>
-        requires { IsKept (record { shape = parts.shape; places = O.places parts.order; nodes = N.nodes parts.nodes; noted = N.noted parts.nodes; start = parts.start; versions = parts.versions; forks = parts.forks.items; calls = parts.calls; relics = parts.relics.items; spent = parts.spent; counts = parts.counts }) }
-        ensures { IfOk result (λ store. store ≡ record { shape = parts.shape; places = O.places parts.order; nodes = N.nodes parts.nodes; noted = N.noted parts.nodes; start = parts.start; versions = parts.versions; forks = parts.forks.items; calls = parts.calls; relics = parts.relics.items; spent = parts.spent; counts = parts.counts }) }
+        requires { IsKept parts }
+        ensures { IfOk result (λ store. store ≡ parts) }
     {
         let roots = first_roots(alloc, parts.forks.len())?;
         Ok(Started {

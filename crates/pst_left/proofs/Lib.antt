@@ -1,0 +1,3 @@
+pub mod Versions
+pub mod Counted
+pub mod Left

@@ -1,0 +1,62 @@
+-- What an engine leaves after a script, and the image of it.
+use Rattle.std.proofs.Common.{◌≡◌, ℕ, ◌+◌, ◌<◌, ◌≤◌, List, length, Option, Some, None, refl, sym, ap, ◌∙◌, subst, arith, IfSome}
+use Rattle.std.specs.Prelude.{IsSomeAnd}
+use Rattle.pst_base.specs.declared.names.NodeId.{NodeId}
+use Rattle.pst_base.specs.declared.names.RunNo.{RunNo}
+use Rattle.pst_base.specs.declared.shape.TypeShape.{TypeShape}
+use Rattle.pst_code.specs.declared.procedure.Parts.{Parts}
+use Rattle.pst_history.specs.Meaning.{Meaning, IsLawful}
+use Rattle.pst_history.specs.History.{History, Opening, opening, next_run}
+use Rattle.pst_active.specs.Stands.{machine_runs}
+use Rattle.pst_engine.specs.declared.engine.Engine.{Engine}
+use Rattle.pst_engine.specs.Stands.{EngineStands}
+use Rattle.pst_meaning.specs.declared.place.Place.{Place}
+use Rattle.pst_meaning.specs.Store.{Stored, IsStore}
+use Rattle.pst_store.specs.Whole.{state_in}
+use Rattle.pst_form.specs.Bytes.{Fits, image_bytes}
+use Rattle.pst_image_rules.specs.Rules.{IsJudged}
+use Rattle.pst_ruled.specs.Parts.{parts_of}
+use Rattle.pst_ruled.specs.Left.{IsLeftStore, AreNumbers}
+use Rattle.pst_left.proofs.Left.{left_rules_law}
+use Rattle.pst_packing.specs.Packing.{IsImage}
+
+module _ {H : Type 0} (m : Meaning) (parts : Parts) (engine : Engine H NodeId Place) (h : History) (start : h.start ≡ opening m.shape) where
+  first : h.start.next_run ≡ 1
+  first = ap (λ (o : Opening). o.next_run) start
+
+  -- an empty store holds no version
+  empty_stands : EngineStands m parts engine (state_in None) h → ⊥
+  empty_stands e = let many = e.versions.many in let heaps : length h.start.heaps ≡ 1 = ap (λ (o : Opening). length o.heaps) start in omega (arith, many, heaps)
+
+  pub leaves : (o : Option Stored) (next : RunNo) → next ≡ engine.next_run → IsLawful m → IfSome o IsStore → EngineStands m parts engine (state_in o) h → IsSomeAnd o (λ s. IsLeftStore s next.0)
+  leaves None next same law k e = absurd (empty_stands e)
+  leaves (Some s) next same law k e =
+      subst (λ (n : RunNo). IsLeftStore s n.0) (sym same) (left_rules_law H m (machine_runs parts) engine.active.items.items engine.budget engine.next_run.0 s h law k e start)
+
+  pub numbers : (o : Option Stored) (next : RunNo) (budget : ℕ) → next ≡ engine.next_run → budget ≡ engine.budget → EngineStands m parts engine (state_in o) h → AreNumbers next.0 budget
+  numbers o next budget n b e =
+      let same_next : next.0 ≡ next_run h = ap (λ (r : RunNo). r.0) n ∙ e.same_next in
+      let same_budget : budget ≡ h.budget = b ∙ e.same_budget in
+      record {
+        next_low = omega (arith, same_next, first);
+        next_high = (let few = e.sound.few in omega (arith, same_next, few));
+        budget_low = (let low = e.sound.budget.0 in omega (arith, same_budget, low));
+        budget_high = (let high = e.sound.budget.1 in omega (arith, same_budget, high));
+      }
+
+  pub imaged : (o : Option Stored) (next : RunNo) (budget : ℕ) (text image : List ℕ) → next ≡ engine.next_run → budget ≡ engine.budget → EngineStands m parts engine (state_in o) h
+      → IsSomeAnd o (λ s. image ≡ image_bytes (parts_of s text next.0 budget)) → IsSomeAnd o (λ s. Fits (parts_of s text next.0 budget)) → IsSomeAnd o (λ s. IsJudged s.shape (parts_of s text next.0 budget) None)
+      → IsImage o text m.shape h image
+  imaged None next budget text image n c e b f j = absurd b
+  imaged (Some s) next budget text image n c e b f j =
+      let same_next : next.0 ≡ next_run h = ap (λ (r : RunNo). r.0) n ∙ e.same_next in
+      let same_budget : budget ≡ h.budget = c ∙ e.same_budget in
+      let P : ℕ → ℕ → Type 0 = λ n c. (image ≡ image_bytes (parts_of s text n c)) × Fits (parts_of s text n c) × IsJudged s.shape (parts_of s text n c) None in
+      let all : P (next_run h) h.budget = subst (λ (n : ℕ). P n h.budget) same_next (subst (λ (c : ℕ). P next.0 c) same_budget (b, f, j)) in
+      record {
+        there = s;
+        is = refl;
+        bytes = all.0;
+        fits = all.1;
+        rules = subst (λ (shape : List TypeShape). IsJudged shape (parts_of s text (next_run h) h.budget) None) e.shape all.2;
+      }

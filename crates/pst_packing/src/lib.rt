@@ -1,0 +1,16 @@
+//! The image of the store that a script leaves.
+//!
+//! Model: a history of a program, after the lines of its script, and an image: the bytes of the parts that a store shows
+//! (`pst_ruled`). The table (`PackRow`) says by the status how far the input was read and how much of the image is written.
+//!
+//! Contract: [`pack_input`] reads an input, carries its script out over a store as `run` does, writes no reply, and then writes the
+//! image of the store, with the program's canonical text, as one piece, or the line of the program's fault. The image keeps all rules
+//! of one. (This project's own form of keeping a store of fat nodes.)
+//!
+//!     let mut store: Store = Store::empty();
+//!     let status = pack_input(alloc, source, sink, &mut store);
+#![tactic(auto)]
+
+mod packing;
+
+pub use packing::pack_input;
