@@ -303,11 +303,6 @@ def first_failed(data):
         image = Image(data)
     except NoForm:
         return 0
-    return failed_of(image)
-
-
-def failed_of(image):
-    """The same, of bytes that have been read."""
     return next((number for number, holds in enumerate(RULES, 1) if not holds(image)), None)
 
 
