@@ -1,10 +1,10 @@
 -- How much a history can have counted.
-use Rattle.std.proofs.Common.{◌≡◌, ℕ, ◌+◌, ◌*◌, List, [], ◌∷◌, length, arith, suc, slice_get, Some, refl, subst, ◌∙◌}
+use Rattle.std.proofs.Common.{◌≡◌, ℕ, ◌+◌, ◌*◌, ◌^◌, List, [], ◌∷◌, length, arith, suc, slice_get, Some, refl, subst, ◌∙◌}
 use Rattle.pst_base.specs.declared.names.Counts.{Counts}
 use Rattle.pst_program.specs.Sound.{CountsWithin}
 use Rattle.pst_history.specs.declared.history.Run.{Run}
 use Rattle.pst_history.specs.History.{work_of, heap_of, total_counts, run_counts, counts_of}
-use Rattle.pst_history.specs.Laws.{CountsAreFew}
+use Rattle.pst_history.specs.Laws.{RunsCountFew, CountsAreFew}
 use Rattle.pst_history.proofs.Numbered.{numbered-is}
 use Rattle.pst_history.proofs.Sound.{run-ready}
 use Rattle.pst_script.specs.declared.numerals.TheConstants.{MOST_CHARGES}
@@ -17,15 +17,19 @@ few-counted f b n (r ∷ runs) few =
     let all : length (r ∷ runs) * b ≡ b + length runs * b = grind arith in
     record { records = omega (arith, here.records, rest.records, all); pointer_writes = omega (arith, here.pointer_writes, rest.pointer_writes, all); value_writes = omega (arith, here.value_writes, rest.value_writes, all) }
 
-pub counts-few : CountsAreFew
+pub runs-count-few : RunsCountFew
 unfolding counts_of
-counts-few m law h sound =
+runs-count-few m law h sound opened base =
     let first = h.start.next_run in
     let all : CountsWithin (total_counts (run_counts m h) first h.runs) (length h.runs * MOST_CHARGES) = few-counted (run_counts m h) MOST_CHARGES first h.runs (λ i r e.
     let most = (sound.runs i r e).budget.1 in
     let few = law.few (work_of (first + i) r) r.granted (heap_of m h r.parent.0) (run-ready m law h sound (first + i) r (numbered-is first h.runs i ∙ e)) in
     record { records = omega (arith, few.records, most); pointer_writes = omega (arith, few.pointer_writes, most); value_writes = omega (arith, few.value_writes, most) }) in
     let few = sound.few in
-    let base = sound.start.counts in
     let next = sound.start.next in
     record { records = omega (arith, all.records, base.records); pointer_writes = omega (arith, all.pointer_writes, base.pointer_writes); value_writes = omega (arith, all.value_writes, base.value_writes) }
+
+pub counts-few : CountsAreFew
+counts-few m law h sound =
+    let few = runs-count-few m law h sound (2 ^ 50) sound.start.counts in
+    record { records = omega (arith, few.records); pointer_writes = omega (arith, few.pointer_writes); value_writes = omega (arith, few.value_writes) }

@@ -1,5 +1,5 @@
 -- What holds of every history, of any program.
-use Rattle.std.specs.Prelude.{◌≡◌, ◌≢◌, ℕ, ◌+◌, ◌<◌, ◌≤◌, ◌^◌, ◌++◌, length, Option, Some, None, count_by, slice_get, true}
+use Rattle.std.specs.Prelude.{◌≡◌, ◌≢◌, ℕ, ◌+◌, ◌*◌, ◌<◌, ◌≤◌, ◌^◌, ◌++◌, length, Option, Some, None, count_by, slice_get, true}
 use Rattle.pst_base.specs.declared.names.RunNo.{RunNo}
 use Rattle.pst_base.specs.Heap.{Heap}
 use Rattle.pst_script.specs.declared.command.Call.{Call}
@@ -87,7 +87,11 @@ OldVersionsKeepTheirHeaps = (m : Meaning) → IsLawful m → (h : History) (c : 
 abbrev pub CountsNeverFall : Type 0
 CountsNeverFall = (m : Meaning) → IsLawful m → (h : History) (c : Command) → IsSoundHistory m h → CountsBelow (counts_of m h) (counts_of m (after m h c))
 
--- the counts of the opening are at most 2^50, and 1,048,576 runs with at most 1,000,000,000 charges each count no more than that
+-- 1,048,576 runs with at most 1,000,000,000 charges each count no more than their product beyond the opening
+abbrev pub RunsCountFew : Type 0
+RunsCountFew = (m : Meaning) → IsLawful m → (h : History) → IsSoundHistory m h → (opened : ℕ) → CountsWithin h.start.counts opened → CountsWithin (counts_of m h) (opened + 1048576 * 1000000000)
+
+-- the counts of the opening are at most 2^50, and its runs count no more than that
 abbrev pub CountsAreFew : Type 0
 CountsAreFew = (m : Meaning) → IsLawful m → (h : History) → IsSoundHistory m h → CountsWithin (counts_of m h) (2 ^ 51)
 

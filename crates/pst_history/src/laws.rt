@@ -1,7 +1,7 @@
 //! What holds of every history, whatever the program. These functions have no code: each is a fact for those who build on
 //! the definitions. That a command has one reply, and a history one heap of each version, is because both are functions.
 
-ghost use Rattle.pst_history.specs.Laws.{RefusedChangesNothing, OnlyRefusedAreRefused, ReadersChangeNothing, RefusalsAreOfCommands, HistoriesAreSound, HistoriesGoOn, OpeningIsSound, SoundHistoriesGoOn, FewRunsAreOpen, RunsKeepApart, OldVersionsKeepTheirHeaps, CountsNeverFall, CountsAreFew, VersionIsMadeByItsRun, VersionsHaveOwnRuns, HeapsAreWellFormed, DirectIsLawful, DirectReadsOnly};
+ghost use Rattle.pst_history.specs.Laws.{RefusedChangesNothing, OnlyRefusedAreRefused, ReadersChangeNothing, RefusalsAreOfCommands, HistoriesAreSound, HistoriesGoOn, OpeningIsSound, SoundHistoriesGoOn, FewRunsAreOpen, RunsKeepApart, OldVersionsKeepTheirHeaps, CountsNeverFall, RunsCountFew, CountsAreFew, VersionIsMadeByItsRun, VersionsHaveOwnRuns, HeapsAreWellFormed, DirectIsLawful, DirectReadsOnly};
 ghost use Rattle.pst_history.specs.declared.history.TheConstants.{BUDGET, RUNS, OPEN_RUNS, CALLS};
 ghost use Rattle.std.specs.Prelude.{◌≡◌};
 
@@ -69,6 +69,11 @@ pub fn old_versions_keep_their_heaps()
 /// After every command no count is less than before.
 pub fn counts_never_fall()
     ensures { CountsNeverFall }
+{}
+
+/// The runs of a history count no more than 1,048,576 times 1,000,000,000 beyond its opening.
+pub fn runs_count_few()
+    ensures { RunsCountFew }
 {}
 
 /// No count of a history is above 2^51.

@@ -27,8 +27,8 @@ pub use laws::{
     counts_are_few, counts_never_fall, direct_is_lawful, direct_reads_only, few_runs_are_open,
     heaps_are_well_formed, histories_are_sound, histories_go_on, limits_in_digits,
     old_versions_keep_their_heaps, only_refused_are_refused, readers_change_nothing,
-    refusals_are_of_commands, refused_changes_nothing, runs_keep_apart, sound_histories_go_on,
-    version_is_made_by_its_run, versions_have_own_runs,
+    refusals_are_of_commands, refused_changes_nothing, runs_count_few, runs_keep_apart,
+    sound_histories_go_on, version_is_made_by_its_run, versions_have_own_runs,
 };
 pub use rows::{
     add, give_up, grant, index_of, named_call, next_number, one_call, open, parents, publish,
