@@ -1,0 +1,70 @@
+-- What the parts of an image denote: the nodes of a store, and the heap at each place.
+use Rattle.std.specs.Prelude.{ℕ, zero, suc, ◌-◌, ◌/◌, ◌%◌, List, [], ◌∷◌, map, Option, Some, None}
+use Rattle.std.specs.Int.{w64, cast_signed}
+use Rattle.pst_base.specs.declared.names.Kind.{Kind}
+use Rattle.pst_base.specs.declared.names.Kind.TheVariants.{Int, Pointer}
+use Rattle.pst_base.specs.declared.names.NodeId.{NodeId}
+use Rattle.pst_base.specs.declared.shape.TypeShape.{TypeShape}
+use Rattle.pst_base.specs.Shape.{type_at, field_kind}
+use Rattle.pst_base.specs.Heap.{Heap}
+use Rattle.pst_rows.specs.declared.content.Content.{Content}
+use Rattle.pst_rows.specs.declared.content.Content.TheVariants.{Number, Null, Free, Target as TargetOf, From as FromOf}
+use Rattle.pst_rows.specs.declared.content.Stamp.{Stamp}
+use Rattle.pst_rows.specs.Parts.{value_of}
+use Rattle.pst_meaning.specs.Arena.{Arena, heap_at}
+use Rattle.pst_meaning.specs.Store.{Node, arena_of}
+use Rattle.pst_form.specs.declared.parts.StampPart.{StampPart}
+use Rattle.pst_form.specs.declared.parts.NodePart.{NodePart}
+use Rattle.pst_form.specs.declared.parts.ImageParts.{ImageParts}
+
+-- in a pointer slot: null, or the node whose number is one less
+abbrev pub pointer_content : ℕ → Content
+pointer_content zero = Null
+pointer_content (suc y) = TargetOf (record { 0 = y })
+
+-- in an inverse slot: nothing, or the entry of a slot of a node
+abbrev pub entry_content : ℕ → Content
+entry_content zero = Free
+entry_content (suc n) = FromOf (record { 0 = suc n / 128 - 1 }) (record { 0 = suc n % 128 })
+
+-- by the kind of the slot: an inverse slot has none
+abbrev pub kind_content : Option Kind → ℕ → Content
+kind_content (Some Int) n = Number (cast_signed w64 n)
+kind_content (Some (Pointer target)) n = pointer_content n
+kind_content None n = entry_content n
+
+-- the content of slot g of a node of a type, by its number
+abbrev pub content_of : TypeShape → (g n : ℕ) → Content
+content_of t g n = kind_content (field_kind t g) n
+
+-- the contents of the slots from g on
+abbrev pub contents_from : TypeShape → (g : ℕ) → List ℕ → List Content
+contents_from t g [] = []
+contents_from t g (n ∷ ns) = content_of t g n ∷ contents_from t (suc g) ns
+
+-- a stamped value of a node of a type; the place with a number stands at that position
+abbrev pub stamp_of : TypeShape → StampPart → Stamp
+stamp_of t s = record { slot = s.slot; place = record { 0 = s.place }; content = content_of t s.slot.0 s.content }
+
+-- the next node, if there is one
+abbrev pub link_of : ℕ → Option NodeId
+link_of zero = None
+link_of (suc i) = Some (record { 0 = i })
+
+-- a node
+abbrev pub node_of : List TypeShape → NodePart → Node
+node_of shape k = record {
+  head = record { name = k.name; ty = k.ty; later = link_of k.later };
+  row = value_of (record { 0 = k.lo }) (record { 0 = k.hi }) (contents_from (type_at shape k.ty) 0 k.bases) (map (stamp_of (type_at shape k.ty)) k.stamps);
+}
+
+abbrev pub nodes_of : List TypeShape → List NodePart → List Node
+nodes_of shape ks = map (node_of shape) ks
+
+-- the nodes by number and position
+abbrev pub arena_in : List TypeShape → ImageParts → Arena
+arena_in shape p = arena_of (λ n. n) (nodes_of shape p.nodes)
+
+-- the heap at a position: a record for each node that lives there
+abbrev pub heap_in : List TypeShape → ImageParts → ℕ → Heap
+heap_in shape p n = heap_at shape (arena_in shape p) n
