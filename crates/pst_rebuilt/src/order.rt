@@ -8,7 +8,7 @@ use pst_order::Walked;
 use std::alloc::Global;
 
 /// So many places, each named by its position: each new one is put behind the last.
-pub fn order_of<O: Walked>(alloc: Global, places: u32) -> Result<O, NoMemory>
+pub fn order_of<O: Walked + Drop>(alloc: Global, places: u32) -> Result<O, NoMemory>
     requires some { 1 ≤ places }
     requires few { places ≤ 2 ^ 30 }
     ensures { IfOk result (λ order. O.places order ≡ places_of places) }
