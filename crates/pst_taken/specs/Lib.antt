@@ -1,0 +1,4 @@
+pub mod Chains
+pub mod Forks
+pub mod Taken
+pub mod Laws

@@ -1,0 +1,62 @@
+-- When bytes begin with an image that keeps all rules, and which rule fails first where they don't.
+use Rattle.std.specs.Prelude.{◌≡◌, ℕ, ◌<◌, List, length, None}
+use Rattle.pst_base.specs.declared.names.RunNo.{RunNo}
+use Rattle.pst_program.specs.declared.program.Program.{Program}
+use Rattle.pst_typing.specs.View.{program_of}
+use Rattle.pst_tree.specs.Syntax.{ProgramText}
+use Rattle.pst_typing.specs.Declarations.{NamedProgram}
+use Rattle.pst_notation.specs.Canonical.{canonical}
+use Rattle.pst_judge.specs.Verdict.{Judged, Accepted}
+use Rattle.pst_form.specs.declared.parts.ImageParts.{ImageParts}
+use Rattle.pst_form.specs.Bytes.{HasForm}
+use Rattle.pst_image_rules.specs.declared.rule.Rule.{Rule}
+use Rattle.pst_image_rules.specs.declared.rule.Rule.TheVariants.{Form, Text, Ranges, Versions, Nodes, Chains, Pointers, Entries, Capacity, Bound}
+use Rattle.pst_image_rules.specs.Rules.{IsJudged, IsFirstFailed}
+
+-- the text of an accepted program in its canonical form, of fewer than 4,294,967,295 bytes
+pub record IsOwnText (text : List ℕ) (named : NamedProgram) : Type 0 where
+  pub short : length text < 4294967295
+  pub syntax : ProgramText
+  pub judged : Judged text (Accepted syntax named)
+  pub own : canonical syntax ≡ text
+
+-- The bytes begin with the image of these parts, of this length; their text is that of this program; and all rules hold.
+pub record IsAccepted (bytes : List ℕ) (p : ImageParts) (named : NamedProgram) (len : ℕ) : Type 0 where
+  pub form : HasForm bytes p len
+  pub text : IsOwnText p.text named
+  pub rules : IsJudged named.shape p None
+
+-- The bytes begin with an accepted image, of this length, of this program, next run number and budget.
+pub record Tells (program : Program) (next_run : RunNo) (budget len : ℕ) (bytes : List ℕ) (p : ImageParts) : Type 0 where
+  pub accepted : IsAccepted bytes p (program_of program) len
+  pub next_run_is : next_run ≡ p.next_run
+  pub budget_is : budget ≡ p.budget
+
+-- the bytes begin with an image whose text is its own, and this is the first rule that fails
+pub record FailsLater (bytes : List ℕ) (rule : Rule) : Type 0 where
+  pub parts : ImageParts
+  pub named : NamedProgram
+  pub len : ℕ
+  pub form : HasForm bytes parts len
+  pub text : IsOwnText parts.text named
+  pub first : IsFirstFailed named.shape parts rule
+
+-- the bytes begin with an image whose text is no accepted program's own
+pub record HasOtherText (bytes : List ℕ) : Type 0 where
+  pub parts : ImageParts
+  pub len : ℕ
+  pub form : HasForm bytes parts len
+  pub other : (named : NamedProgram) → IsOwnText parts.text named → ⊥
+
+-- the first rule that fails of these bytes
+abbrev pub FailsFirst : List ℕ → Rule → Type 0
+FailsFirst bytes Form = (p : ImageParts) (len : ℕ) → HasForm bytes p len → ⊥
+FailsFirst bytes Text = HasOtherText bytes
+FailsFirst bytes Ranges = FailsLater bytes Ranges
+FailsFirst bytes Versions = FailsLater bytes Versions
+FailsFirst bytes Nodes = FailsLater bytes Nodes
+FailsFirst bytes Chains = FailsLater bytes Chains
+FailsFirst bytes Pointers = FailsLater bytes Pointers
+FailsFirst bytes Entries = FailsLater bytes Entries
+FailsFirst bytes Capacity = FailsLater bytes Capacity
+FailsFirst bytes Bound = FailsLater bytes Bound

@@ -1,0 +1,95 @@
+//! Images taken.
+
+ghost use Rattle.std.specs.Prelude.{◌≡◌, ℕ, [], Err, IfOk, IfSome, IsSomeAnd, MatchOption};
+ghost use Rattle.pst_store.specs.Whole.{queue_in};
+ghost use Rattle.pst_program.specs.View.{routines_of};
+ghost use Rattle.pst_program.specs.Typed.{IsTyped};
+ghost use Rattle.pst_typing.specs.View.{program_of};
+ghost use Rattle.pst_typing.specs.Declarations.{NamedProgram};
+ghost use Rattle.pst_form.specs.declared.parts.ImageParts.{ImageParts};
+ghost use Rattle.pst_image_rules.specs.declared.rule.Rule.{Rule};
+ghost use Rattle.pst_made.specs.Made.{IsRebuilt};
+ghost use Rattle.pst_unpacked.specs.declared.fault.ImageFault.TheVariants.{Bad};
+ghost use Rattle.pst_unpacked.specs.Unpacked.{IsOwnText, IsAccepted, Tells, FailsFirst};
+
+use crate::fault::ImageFault;
+use pst_arena::Listed;
+use pst_base::{NoMemory, RunNo};
+use pst_form::{FormFault, read_image};
+use pst_image_rules::{Rule, first_failed};
+use pst_judge::{NoProgram, canonical_program};
+use pst_order::Walked;
+use pst_program::Program;
+use pst_rebuilt::rebuild;
+use pst_store::StoreOf;
+use std::alloc::Global;
+
+/// What an image tells of.
+#[derive(Drop)]
+pub struct Unpacked<O: Walked + Drop, N: Listed> {
+    /// The program.
+    pub program: Program,
+    /// The store.
+    pub store: StoreOf<O, N>,
+    /// The number that the next run gets.
+    pub next_run: RunNo,
+    /// How many charges a run is granted.
+    pub budget: u32,
+    /// How many bytes the image takes.
+    pub length: usize,
+}
+
+/// The program of which a text is the canonical one, or None where there is no such program.
+fn program_of_own_text(alloc: Global, text: &[u8]) -> Result<Option<Program>, NoMemory>
+    ensures found { IfOk result (λ found. MatchOption found (λ program. IsOwnText text.now (program_of program)) ((named : NamedProgram) → IsOwnText text.now named → ⊥)) }
+    ensures typed { IfOk result (λ found. IfSome found (λ program. IsTyped (routines_of program))) }
+{
+    if u32::MAX as usize <= text.len() {
+        return Ok(None);
+    }
+    match canonical_program(alloc, Vec::from_slice(alloc, text)?) {
+        Err(NoProgram::Memory) => Err(NoMemory),
+        Err(NoProgram::Fault(_)) => Ok(None),
+        Ok((canonical, program)) => {
+            if canonical.as_slice() == text {
+                Ok(Some(program))
+            } else {
+                Ok(None)
+            }
+        }
+    }
+}
+
+/// Takes the image at the front of the bytes; others may follow it.
+///
+/// `Bad` comes exactly where a rule fails, with the first one that does. It takes the time of the rules and that by the image's length.
+pub fn unpack<O: Walked + Drop, N: Listed>(
+    alloc: Global,
+    bytes: &[u8],
+) -> Result<Unpacked<O, N>, ImageFault>
+    ensures taken { IfOk result (λ u. (p : ImageParts) × Tells u.program u.next_run u.budget u.length bytes.now p × IsSomeAnd u.store (IsRebuilt u.program.shape p)) }
+    ensures typed { IfOk result (λ u. IsTyped (routines_of u.program)) }
+    ensures rested { IfOk result (λ u. queue_in u.store ≡ []) }
+    ensures bad { (rule : Rule) → result ≡ Err (Bad rule) → FailsFirst bytes.now rule }
+    ensures accepts { (p : ImageParts) (named : NamedProgram) (length : ℕ) → IsAccepted bytes.now p named length → (rule : Rule) → result ≡ Err (Bad rule) → ⊥ }
+{
+    let image = match read_image(alloc, bytes) {
+        Ok(image) => image,
+        Err(FormFault::Form) => return Err(ImageFault::Bad(Rule::Form)),
+        Err(FormFault::Memory) => return Err(ImageFault::Memory),
+    };
+    let parts = &image.parts;
+    let Some(program) = program_of_own_text(alloc, parts.text.as_slice())? else {
+        return Err(ImageFault::Bad(Rule::Text));
+    };
+    if let Some(rule) = first_failed(alloc, &program.shape, parts)? {
+        return Err(ImageFault::Bad(rule));
+    }
+    Ok(Unpacked {
+        store: rebuild(alloc, &program.shape, parts)?,
+        program,
+        next_run: parts.next_run,
+        budget: parts.budget,
+        length: image.length,
+    })
+}
