@@ -1,5 +1,5 @@
 -- What the parts of an image denote: the nodes of a store, and the heap at each place.
-use Rattle.std.specs.Prelude.{ℕ, zero, suc, ◌-◌, ◌/◌, ◌%◌, List, [], ◌∷◌, map, Option, Some, None}
+use Rattle.std.specs.Prelude.{◌≡◌, ℕ, zero, suc, ◌-◌, ◌/◌, ◌%◌, ◌<◌, List, [], ◌∷◌, length, map, get_or, slice_get, Option, Some, None, FitsSigned, ⊤}
 use Rattle.std.specs.Int.{w64, cast_signed}
 use Rattle.pst_base.specs.declared.names.Kind.{Kind}
 use Rattle.pst_base.specs.declared.names.Kind.TheVariants.{Int, Pointer}
@@ -10,9 +10,11 @@ use Rattle.pst_base.specs.Heap.{Heap}
 use Rattle.pst_rows.specs.declared.content.Content.{Content}
 use Rattle.pst_rows.specs.declared.content.Content.TheVariants.{Number, Null, Free, Target as TargetOf, From as FromOf}
 use Rattle.pst_rows.specs.declared.content.Stamp.{Stamp}
+use Rattle.pst_rows.specs.Rows.{no_stamp}
+use Rattle.pst_rows.specs.Values.{base_in}
 use Rattle.pst_rows.specs.Parts.{value_of}
 use Rattle.pst_meaning.specs.Arena.{Arena, heap_at}
-use Rattle.pst_meaning.specs.Store.{Node, arena_of}
+use Rattle.pst_meaning.specs.Store.{Node, Stored, arena_of}
 use Rattle.pst_form.specs.declared.parts.StampPart.{StampPart}
 use Rattle.pst_form.specs.declared.parts.NodePart.{NodePart}
 use Rattle.pst_form.specs.declared.parts.ImageParts.{ImageParts}
@@ -68,3 +70,22 @@ arena_in shape p = arena_of (λ n. n) (nodes_of shape p.nodes)
 -- the heap at a position: a record for each node that lives there
 abbrev pub heap_in : List TypeShape → ImageParts → ℕ → Heap
 heap_in shape p n = heap_at shape (arena_in shape p) n
+
+-- ---- what numbers of 64 bits stand for
+
+-- a number is one of 64 bits
+abbrev pub IsShortContent : Content → Type 0
+IsShortContent (Number n) = FitsSigned w64 n
+IsShortContent Null = ⊤
+IsShortContent (TargetOf y) = ⊤
+IsShortContent Free = ⊤
+IsShortContent (FromOf x f) = ⊤
+
+-- the numbers in a node are
+pub record IsShort (n : Node) : Type 0 where
+  pub bases : (g : ℕ) → g < length n.row.slots → IsShortContent (base_in n.row g)
+  pub stamps : (k : ℕ) → k < length n.row.stamps → IsShortContent (get_or n.row.stamps k no_stamp).content
+
+-- those in all nodes of a store are
+abbrev pub AreShort : Stored → Type 0
+AreShort s = (i : ℕ) (n : Node) → slice_get s.nodes i ≡ Some n → IsShort n
