@@ -1,7 +1,7 @@
 //! The order list of an image.
 
 ghost use Rattle.std.specs.Prelude.{◌≡◌, ◌≤◌, ◌^◌, IfOk};
-ghost use Rattle.pst_made.specs.Made.{places_of};
+ghost use Rattle.pst_denoted.specs.Denoted.{places_of};
 
 use pst_base::NoMemory;
 use pst_order::Walked;
