@@ -27,9 +27,8 @@ fn is_written_again(alloc: Global, numbers: &[u64]) -> Result<bool, FormFault> {
     let mut bytes = bytes_of(alloc, numbers)?;
     bytes.push(b'x')?;
     let image = read_image(alloc, &bytes)?;
-    let length = image.length;
-    let written = write_image(alloc, image.parts)?;
-    Ok(length + 1 == bytes.len() && written.as_slice() == &bytes[..length])
+    let written = write_image(alloc, &image.parts)?;
+    Ok(image.length + 1 == bytes.len() && written.as_slice() == &bytes[..image.length])
 }
 
 #[test]

@@ -62,5 +62,5 @@ pub fn pack<O: Walked + Drop, N: Listed>(
 {
     store.whole();
     let parts = parts_of(alloc, store, text, next_run, budget)?;
-    write_image(alloc, parts)
+    write_image(alloc, &parts)
 }
