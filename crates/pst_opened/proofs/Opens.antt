@@ -22,15 +22,15 @@ opens_law m s next k one named nested calls shape counts = record {
   older = λ p has. λ q r e. let n = heap_shows s.shape (arena s) (begin_of s p) q r e in
       let run : ((arena s).name n.node).run.0 ≡ q.run.0 = ap (λ (z : Name). z.run.0) n.named in
       ⊎_elim
-          (λ (root : (arena s).name n.node ≡ root_name). let zero : ((arena s).name n.node).run.0 ≡ 0 = ap (λ (z : Name). z.run.0) root in omega (arith, run, zero, one))
-          (λ (other : (((arena s).name n.node).run.0 ≢ 0) × (((arena s).name n.node).run.0 < next)). omega (arith, run, other.1))
-          (named n.node n.less);
+      (λ (root : (arena s).name n.node ≡ root_name). let zero : ((arena s).name n.node).run.0 ≡ 0 = ap (λ (z : Name). z.run.0) root in omega (arith, run, zero, one))
+      (λ (other : (((arena s).name n.node).run.0 ≢ 0) × (((arena s).name n.node).run.0 < next)). omega (arith, run, other.1))
+      (named n.node n.less);
   rooted = λ q zero other. record {
     fresh = λ p has. heap_lacks s.shape (arena s) (begin_of s p) q
         (λ i alive same. ⊎_elim
-            (λ (root : (arena s).name i ≡ root_name). other (sym same ∙ root))
-            (λ (late : (((arena s).name i).run.0 ≢ 0) × (((arena s).name i).run.0 < next)). late.0 (ap (λ (z : Name). z.run.0) same ∙ zero))
-            (named i alive.there));
+        (λ (root : (arena s).name i ≡ root_name). other (sym same ∙ root))
+        (λ (late : (((arena s).name i).run.0 ≢ 0) × (((arena s).name i).run.0 < next)). late.0 (ap (λ (z : Name). z.run.0) same ∙ zero))
+        (named i alive.there));
   };
   some = slice_get-below s.versions 0 (first_row s.start) k.versions.root;
   runs = λ v row e. nested.runs v row (behind s v row e);
