@@ -1,7 +1,7 @@
 -- Numbers of contents, and contents of numbers.
-use Rattle.std.proofs.Common.{◌≡◌, ℕ, zero, suc, ◌+◌, ◌-◌, ◌*◌, ◌/◌, ◌%◌, ◌<◌, ◌≤◌, ◌^◌, Bool, cond, Option, Some, None, refl, sym, ap, ap₂, ◌∙◌, ⊎_elim, arith}
+use Rattle.std.proofs.Common.{◌≡◌, ℕ, zero, suc, ◌+◌, ◌-◌, ◌/◌, ◌%◌, ◌<◌, ◌≤◌, Bool, cond, Option, Some, None, refl, ap, ap₂, ◌∙◌, ⊎_elim, arith}
 use Rattle.std.specs.Prelude.{slice_get, ⊤}
-use Rattle.std.specs.Int.{w64, cast_signed}
+use Rattle.std.specs.Int.{w64}
 use Rattle.std.specs.Option.{option_map}
 use Rattle.std.proofs.lemmas.Bool.{le-ltb, lt-ltb}
 use Rattle.std.proofs.lemmas.Int.{of_z-to_z, to_z-of_z}
@@ -17,7 +17,7 @@ use Rattle.pst_rows.specs.declared.content.Content.{Content}
 use Rattle.pst_rows.specs.declared.content.Content.TheVariants.{Number, Null, Free, Target as TargetOf, From as FromOf}
 use Rattle.pst_mirror.specs.Kinds.{HasKind as IsOfKind}
 use Rattle.pst_meaning.specs.Store.{width}
-use Rattle.pst_image_nodes.specs.Nodes.{entry, HoldsEntry, HasKind}
+use Rattle.pst_image_nodes.specs.Nodes.{entry, HasKind}
 use Rattle.pst_ruled.specs.Parts.{content_number}
 use Rattle.pst_denoted.specs.Denoted.{pointer_content, entry_content, kind_content, content_of, IsShortContent}
 use Rattle.pst_denoted.specs.Laws.{NumbersBackLaw}
@@ -71,7 +71,7 @@ HasSmallField (TargetOf y) = ⊤
 HasSmallField Free = ⊤
 HasSmallField (FromOf x f) = f.0 < 128
 
-entry_is : (n : ℕ) (x : NodeId) (f : SlotNo) → n ≡ entry x.0 f.0 → f.0 < 128 → entry_content n ≡ FromOf x f
+pub entry_is : (n : ℕ) (x : NodeId) (f : SlotNo) → n ≡ entry x.0 f.0 → f.0 < 128 → entry_content n ≡ FromOf x f
 entry_is zero x f e l = absurd (omega (arith, e))
 entry_is (suc m) x f e l =
     let node : suc m / 128 - 1 ≡ x.0 = omega (arith, e, l) in

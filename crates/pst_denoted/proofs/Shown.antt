@@ -1,7 +1,7 @@
 -- What a store shows denotes its nodes.
 use mathlib.Core.Path.{fun_ext}
-use Rattle.std.proofs.Common.{◌≡◌, ℕ, zero, suc, ◌+◌, ◌<◌, ◌≤◌, ◌&&◌, ◌==◌, Bool, cond, List, [], ◌∷◌, length, get_or, map, Option, Some, None, refl, sym, ap, ap₂, ◌∙◌, subst, arith}
-use Rattle.std.specs.Prelude.{slice_get, ⊤}
+use Rattle.std.proofs.Common.{◌≡◌, ℕ, zero, suc, ◌+◌, ◌<◌, ◌&&◌, ◌==◌, cond, List, [], ◌∷◌, length, get_or, map, Option, Some, None, refl, sym, ap, ap₂, ◌∙◌, subst, arith}
+use Rattle.std.specs.Prelude.{slice_get}
 use Rattle.std.specs.Option.{option_map}
 use Rattle.std.proofs.lemmas.List.{length-map}
 use Rattle.pst_base.specs.declared.names.NodeId.{NodeId}
@@ -16,16 +16,16 @@ use Rattle.pst_rows.specs.declared.content.Slot.{Slot}
 use Rattle.pst_rows.specs.declared.content.Stamp.{Stamp}
 use Rattle.pst_rows.specs.Rows.{no_stamp}
 use Rattle.pst_rows.specs.Timeline.{in_force, is_edge}
-use Rattle.pst_rows.specs.Values.{no_slot, stamp_at, stamps_in, base_in, content_in, edge_in}
+use Rattle.pst_rows.specs.Values.{no_slot, stamp_at, stamps_in, base_in, edge_in}
 use Rattle.pst_rows.proofs.OfPartsLemmas.{parts_hold}
 use Rattle.pst_rows.proofs.StampLemmas.{stamp_inside}
 use Rattle.pst_mirror.specs.Charts.{is_alive, row_holds, rows_hold, rows_edge}
 use Rattle.pst_mirror.specs.Kinds.{HasKind as IsOfKind}
 use Rattle.pst_meaning.specs.Arena.{IsIn}
-use Rattle.pst_meaning.specs.Store.{Node, Stored, of_node, arena, width, IsStore}
+use Rattle.pst_meaning.specs.Store.{Node, Stored, of_node, arena, IsStore}
 use Rattle.pst_ruled.specs.Parts.{content_number, link_number, stamp_part, node_part, node_parts}
 use Rattle.pst_ruled.proofs.Nodes.{value, type_is, in_life, entry_small, base_held, lives_at, stamp_held}
-use Rattle.pst_denoted.specs.Denoted.{content_of, contents_from, stamp_of, link_of, node_of, nodes_of, IsShort, IsShortContent, AreShort}
+use Rattle.pst_denoted.specs.Denoted.{content_of, contents_from, stamp_of, link_of, node_of, nodes_of, IsShortContent, AreShort}
 use Rattle.pst_denoted.specs.Laws.{ShownDenotesLaw}
 use Rattle.pst_denoted.proofs.Numbers.{HasSmallField, content_back}
 

@@ -1,12 +1,12 @@
 -- A store that is made of versions keeps what a store keeps of forks and versions.
-use Rattle.std.proofs.Common.{◌≡◌, ℕ, zero, suc, ◌+◌, ◌<◌, ◌≤◌, Some, true, false, List, [], ◌∷◌, length, refl, sym, ap, ◌∙◌, subst, ◌⊎◌, inl, inr, ⊎_elim, arith}
+use Rattle.std.proofs.Common.{◌≡◌, ℕ, zero, suc, ◌+◌, ◌<◌, ◌≤◌, Some, true, false, List, [], ◌∷◌, length, refl, sym, ap, ◌∙◌, subst, inl, inr, ⊎_elim, arith}
 use Rattle.std.specs.Prelude.{slice_get, unwrap_or}
 use Rattle.std.proofs.lemmas.Bool.{cases_eq, cases_lt}
 use Rattle.pst_versions.specs.declared.rows.VersionRow.{VersionRow}
 use Rattle.pst_versions.specs.Rows.{first_row}
 use Rattle.pst_meaning.specs.declared.place.Place.{Place}
 use Rattle.pst_meaning.specs.declared.place.Fork.{Fork}
-use Rattle.pst_meaning.specs.Store.{Stored, begin_of, end_of, IsPlace, IsOpen, IsForked, AreNested, AreVersions, IsVersionFork, published_count}
+use Rattle.pst_meaning.specs.Store.{Stored, begin_of, end_of, IsPlace, IsOpen, AreNested, AreVersions, published_count}
 use Rattle.pst_meaning.proofs.Places.{slice_get-below}
 use Rattle.pst_ruled.specs.Versions.{IsWithinParent, AreVersionsNested}
 use Rattle.pst_ruled.proofs.Nodes.{slice_get-there}
@@ -139,12 +139,12 @@ module _ (s : Stored) (next : ℕ) (one : 1 ≤ next) (few : next ≤ 1048577) (
       let rows : p.row ≡ q.row = (let z : slice_get s.versions (suc q.version) ≡ Some p.row = ap (slice_get s.versions) (sym v) ∙ p.at in let z' = q.at in cc) in
       let runs : p.row.run.0 ≡ q.row.run.0 = ap (λ (r : VersionRow Place). r.run.0) rows in
       ⊎_elim
-          (λ (lt : j < k). absurd (omega (arith, b.rising j k f g x y lt, runs)))
-          (λ (ge : k ≤ j). ⊎_elim
-              (λ (same : j ≡ k). same)
-              (λ (ne : j ≡ k → ⊥). let gt : k < j = omega (arith, ge, ne) in absurd (omega (arith, b.rising k j g f y x gt, runs)))
-              (cases_eq j k))
-          (cases_lt j k)
+      (λ (lt : j < k). absurd (omega (arith, b.rising j k f g x y lt, runs)))
+      (λ (ge : k ≤ j). ⊎_elim
+      (λ (same : j ≡ k). same)
+      (λ (ne : j ≡ k → ⊥). let gt : k < j = omega (arith, ge, ne) in absurd (omega (arith, b.rising k j g f y x gt, runs)))
+      (cases_eq j k))
+      (cases_lt j k)
 
   -- runs rise with forks, so there are fewer forks than runs
   run_above : (k : ℕ) (f : Fork) (x : slice_get s.forks k ≡ Some f) → k < (b.of k f x).row.run.0

@@ -1,9 +1,9 @@
 -- The nodes of one record form one chain.
-use Rattle.std.proofs.Common.{◌≡◌, ◌≢◌, ℕ, zero, suc, ◌+◌, ◌<◌, ◌≤◌, Option, Some, None, refl, sym, ap, ◌∙◌, subst, ◌⊎◌, inl, inr, ⊎_elim, arith}
+use Rattle.std.proofs.Common.{◌≡◌, ℕ, zero, suc, ◌+◌, ◌<◌, ◌≤◌, Option, Some, None, refl, sym, ap, ◌∙◌, ◌⊎◌, inl, inr, ⊎_elim, arith}
 use Rattle.std.proofs.lemmas.Bool.{cases_lt}
 use Rattle.pst_base.specs.Name.{root_name}
 use Rattle.pst_meaning.specs.Arena.{Arena, IsIn, AreChained}
-use Rattle.pst_meaning.specs.Store.{IsNodeOf, LivesOver}
+use Rattle.pst_meaning.specs.Store.{LivesOver}
 use Rattle.pst_taken.specs.Chains.{ComesAfter, Itself, Beyond, AreRecordChains, AreRecordEnds}
 use Rattle.pst_taken.specs.Laws.{ChainsLaw}
 

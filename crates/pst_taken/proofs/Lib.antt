@@ -1,4 +1,4 @@
 pub mod Apart
 pub mod Built
 pub mod Chains
-pub mod Taken
+pub mod Whole

@@ -1,6 +1,6 @@
 use Rattle.pst_taken.proofs.Built.{built_law}
 use Rattle.pst_taken.proofs.Chains.{chains_law}
-use Rattle.pst_taken.proofs.Taken.{taken_law}
+use Rattle.pst_taken.proofs.Whole.{taken_law}
 use Rattle.pst_taken.proofs.laws.taken.Goals as goal
 
 pub returns : goal.returns

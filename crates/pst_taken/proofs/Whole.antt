@@ -1,12 +1,11 @@
 -- A store that is made of an image keeps what a store keeps.
-use Rattle.std.proofs.Common.{◌≡◌, ◌≢◌, ℕ, zero, suc, ◌+◌, ◌<◌, ◌≤◌, Option, Some, None, Bool, true, false, ◌&&◌, cond, eqb, List, [], ◌∷◌, length, map, refl, sym, ap, ◌∙◌, subst, ◌⊎◌, inl, inr, ⊎_elim, arith}
+use Rattle.std.proofs.Common.{◌≡◌, ℕ, zero, suc, ◌<◌, ◌≤◌, Option, Some, None, Bool, true, false, ◌&&◌, cond, eqb, List, [], ◌∷◌, length, map, refl, sym, ap, ◌∙◌, subst, inr, ⊎_elim, arith}
 use Rattle.std.specs.Prelude.{slice_get, get_or, unwrap_or}
-use Rattle.std.proofs.lemmas.Bool.{cases_lt, cases_Bool}
+use Rattle.std.proofs.lemmas.Bool.{cases_lt}
 use Rattle.std.proofs.lemmas.Bool.{eqb-true}
 use Rattle.pst_base.specs.declared.names.TypeNo.{TypeNo}
 use Rattle.pst_base.specs.declared.shape.TypeShape.{TypeShape}
-use Rattle.pst_base.specs.Shape.{type_at, element_count, root_type}
-use Rattle.pst_base.specs.Name.{root_name}
+use Rattle.pst_base.specs.Shape.{type_at, root_type}
 use Rattle.pst_order.specs.Places.{rank}
 use Rattle.pst_rows.specs.declared.content.Content.{Content}
 use Rattle.pst_rows.specs.declared.content.Content.TheVariants.{Null}
@@ -14,16 +13,15 @@ use Rattle.pst_rows.specs.declared.content.Slot.{Slot}
 use Rattle.pst_rows.specs.declared.content.Stamp.{Stamp}
 use Rattle.pst_rows.specs.Timeline.{in_force}
 use Rattle.pst_rows.specs.Values.{RowValue, base_in, stamp_at, stamps_in, content_in, no_slot}
-use Rattle.pst_mirror.specs.Charts.{rows_hold, row_holds, is_alive}
+use Rattle.pst_mirror.specs.Charts.{is_alive}
 use Rattle.pst_mirror.specs.Kinds.{HasKind}
 use Rattle.pst_mirror.proofs.ChartLemmas.{alive, charts_steady, charts_tiled}
 use Rattle.pst_mirror.proofs.SegmentLemmas.{positions_from_segments}
-use Rattle.pst_meaning.specs.declared.place.Place.{Place}
 use Rattle.pst_meaning.specs.Arena.{IsIn, IsArena}
-use Rattle.pst_meaning.specs.Store.{Node, Stored, of_node, arena, begin_of, end_of, width, IsPlace, LivesOver, AreBorn, IsStore}
+use Rattle.pst_meaning.specs.Store.{Stored, arena, end_of, width, LivesOver, AreBorn, IsStore}
 use Rattle.pst_ruled.proofs.Nodes.{slice_get-there, of_node-there, holds-there}
 use Rattle.pst_taken.specs.Chains.{ChainsGive}
-use Rattle.pst_taken.specs.Taken.{HasKinds, HasRelic, IsTaken}
+use Rattle.pst_taken.specs.Taken.{HasKinds, IsTaken}
 use Rattle.pst_taken.specs.Laws.{TakenIsStoreLaw}
 use Rattle.pst_taken.proofs.Built.{built_law}
 use Rattle.pst_taken.proofs.Chains.{chains_law}
@@ -87,8 +85,8 @@ module _ (s : Stored) (next : ℕ) (t : IsTaken s next) where
       let lives : is_alive r x.0.row n ≡ true = alive r x.0.row n (let l = a.low in omega arith) (let l = a.high in omega arith) in
       let held : (arena s).chart.holds i g n ≡ content_in r x.0.row g n = holds-there r s.nodes i x.0 x.1 g n ∙ ap (λ b. cond b (content_in r x.0.row g n) Null) lives in
       subst (HasKind (type_at s.shape ((arena s).ty i)) (arena s).ty g) (sym held)
-          (subst (λ (u : TypeNo). HasKind (type_at s.shape u) (arena s).ty g (content_in r x.0.row g n)) (sym ty)
-          (content-kind r (type_at s.shape x.0.head.ty) (arena s).ty x.0.row (t.wide i x.0 x.1) (t.kinds i x.0 x.1) g n))
+      (subst (λ (u : TypeNo). HasKind (type_at s.shape u) (arena s).ty g (content_in r x.0.row g n)) (sym ty)
+      (content-kind r (type_at s.shape x.0.head.ty) (arena s).ty x.0.row (t.wide i x.0 x.1) (t.kinds i x.0 x.1) g n))
 
   arena_s : IsArena s.shape (end_of s s.start) (arena s)
   arena_s = record {

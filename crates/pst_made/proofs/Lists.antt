@@ -1,0 +1,39 @@
+-- Lists of places that are named by their positions, and what stands in lists.
+use Rattle.std.proofs.Common.{◌≡◌, ℕ, zero, suc, ◌+◌, ◌<◌, List, [], ◌∷◌, length, get_or, map, Some, cond, refl, sym, ap, ap₂, ◌∙◌, arith, eqb}
+use Rattle.std.specs.Prelude.{slice_get}
+use Rattle.std.specs.List.{AllByRecursion}
+use Rattle.std.proofs.lemmas.Bool.{eq-eqb, ne_eqb}
+use Rattle.pst_order.specs.Places.{rank}
+use Rattle.pst_meaning.specs.Arena.{listed}
+
+pub length-listed : {A : Type 0} (n : ℕ) (f : ℕ → A) → length (listed n f) ≡ n
+length-listed zero f = refl
+length-listed (suc n) f = ap suc (length-listed n (λ k. f (suc k)))
+
+-- where the places differ, each stands where it is listed
+pub rank-listed : (n : ℕ) (f : ℕ → ℕ) → ((a b : ℕ) → f a ≡ f b → a ≡ b) → (k : ℕ) → k < n → rank (listed n f) (f k) ≡ k
+rank-listed zero f one k l = absurd (omega arith)
+rank-listed (suc n) f one zero l = ap (λ b. cond b 0 (suc (rank (listed n (λ k. f (suc k))) (f 0)))) (eq-eqb (f 0) (f 0) refl)
+rank-listed (suc n) f one (suc k) l =
+    ap (λ b. cond b 0 (suc (rank (listed n (λ k. f (suc k))) (f (suc k))))) (ne_eqb (f 0) (f (suc k)) (λ e. let z : 0 ≡ suc k = one 0 (suc k) e in omega (arith, z)))
+    ∙ ap suc (rank-listed n (λ k. f (suc k)) (λ a b e. let z : suc a ≡ suc b = one (suc a) (suc b) e in omega (arith, z)) k (omega (arith, l)))
+
+pub all_at : {A : Type 0} (P : A → Type 0) (xs : List A) (d : A) → AllByRecursion P xs → (i : ℕ) → i < length xs → P (get_or xs i d)
+all_at P [] d h i l = absurd (omega arith)
+all_at P (x ∷ xs) d h zero l = h.0
+all_at P (x ∷ xs) d h (suc i) l = all_at P xs d h.1 i (omega (arith, l))
+
+-- a list that is made of another one and back again is that one, where each element is
+pub map-back : {A B : Type 0} (f : A → B) (g : B → A) (xs : List A) (d : A) → ((i : ℕ) → i < length xs → g (f (get_or xs i d)) ≡ get_or xs i d) → map g (map f xs) ≡ xs
+map-back f g [] d h = refl
+map-back f g (x ∷ xs) d h = ap₂ (λ y ys. y ∷ ys) (h 0 (omega arith)) (map-back f g xs d (λ i l. h (suc i) (omega (arith, l))))
+
+-- two ways to make a list give the same, where they do of each element
+pub map-same : {A B : Type 0} (f g : A → B) (xs : List A) → ((i : ℕ) (x : A) → slice_get xs i ≡ Some x → f x ≡ g x) → map f xs ≡ map g xs
+map-same f g [] h = refl
+map-same f g (x ∷ xs) h = ap₂ (λ y ys. y ∷ ys) (h 0 x refl) (map-same f g xs (λ i x e. h (suc i) x e))
+
+pub get_or-past : {A : Type 0} (xs : List A) (g : ℕ) (d : A) → length xs ≤ g → get_or xs g d ≡ d
+get_or-past [] g d l = refl
+get_or-past (x ∷ xs) zero d l = absurd (omega arith)
+get_or-past (x ∷ xs) (suc g) d l = get_or-past xs g d (omega (arith, l))
