@@ -27,7 +27,7 @@ use Rattle.pst_denoted.specs.Laws.{NumbersBackLaw}
 pub value_kind : (t : TypeShape) (g : ℕ) → g < t.values → field_kind t g ≡ Some Int
 value_kind t g l = ap (λ (b : Bool). cond b (Some Int) (option_map Pointer (slice_get t.targets (g - t.values)))) (lt-ltb g t.values l)
 
-behind_values : (t : TypeShape) (g : ℕ) → t.values ≤ g → field_kind t g ≡ option_map Pointer (slice_get t.targets (g - t.values))
+pub behind_values : (t : TypeShape) (g : ℕ) → t.values ≤ g → field_kind t g ≡ option_map Pointer (slice_get t.targets (g - t.values))
 behind_values t g l = ap (λ (b : Bool). cond b (Some Int) (option_map Pointer (slice_get t.targets (g - t.values)))) (le-ltb g t.values l)
 
 pub pointer_kind : (t : TypeShape) (g : ℕ) → t.values ≤ g → g < element_count t → (ty : TypeNo) × (field_kind t g ≡ Some (Pointer ty))

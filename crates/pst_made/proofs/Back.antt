@@ -1,7 +1,6 @@
 -- The parts that the store shows are those that it was made of.
-use Rattle.std.proofs.Common.{◌≡◌, ℕ, zero, suc, ◌+◌, ◌-◌, ◌<◌, ◌≤◌, ◌^◌, List, [], ◌∷◌, length, get_or, map, Some, refl, sym, ap, ap₂, ◌∙◌, subst, ⊎_elim, arith}
+use Rattle.std.proofs.Common.{◌≡◌, ℕ, zero, suc, ◌+◌, ◌<◌, ◌≤◌, List, [], ◌∷◌, length, get_or, map, Some, refl, sym, ap, ap₂, ◌∙◌, subst, arith}
 use Rattle.std.specs.Prelude.{slice_get}
-use Rattle.std.proofs.lemmas.Bool.{cases_eq}
 use Rattle.std.proofs.lemmas.List.{length-map}
 use Rattle.std.proofs.lemmas.Option.{slice_get-get_or}
 use Rattle.pst_base.specs.declared.shape.TypeShape.{TypeShape}
@@ -13,7 +12,6 @@ use Rattle.pst_versions.specs.declared.rows.VersionRow.{VersionRow}
 use Rattle.pst_meaning.specs.declared.place.Place.{Place}
 use Rattle.pst_meaning.specs.Store.{Node, Stored}
 use Rattle.pst_meaning.proofs.Places.{slice_get-below, slice_get-mapped}
-use Rattle.pst_form.specs.declared.parts.StampPart.{StampPart}
 use Rattle.pst_form.specs.declared.parts.VersionPart.{VersionPart}
 use Rattle.pst_form.specs.declared.parts.NodePart.{NodePart}
 use Rattle.pst_form.specs.declared.parts.ImageParts.{ImageParts}
@@ -22,9 +20,8 @@ use Rattle.pst_image_tree.specs.Versions.{no_version, version_at, parent_of, Are
 use Rattle.pst_image_nodes.specs.Nodes.{no_node, no_stamp, node_at, stamp_of, IsNode}
 use Rattle.pst_ruled.specs.Parts.{content_number, link_number, version_part, stamp_part, node_part, version_parts, node_parts, parts_of}
 use Rattle.pst_ruled.proofs.Nodes.{part_in}
-use Rattle.pst_denoted.specs.Denoted.{content_of, contents_from, stamp_of as stamp_made, link_of, node_of, nodes_of}
+use Rattle.pst_denoted.specs.Denoted.{content_of, contents_from, stamp_of as stamp_made, link_of, node_of}
 use Rattle.pst_denoted.proofs.Numbers.{numbers_back}
-use Rattle.pst_made.specs.Made.{places_of}
 use Rattle.pst_made.proofs.Lists.{length-listed, rank-listed, all_at, map-back, map-same}
 use Rattle.pst_made.proofs.Given.{Given}
 

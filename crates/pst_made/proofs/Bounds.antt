@@ -1,5 +1,5 @@
 -- The versions of a store that is made of an image, and its bounds.
-use Rattle.std.proofs.Common.{◌≡◌, ◌≢◌, ℕ, zero, suc, ◌+◌, ◌-◌, ◌*◌, ◌<◌, ◌≤◌, ◌^◌, List, [], ◌∷◌, length, map, Some, refl, sym, ap, ap₂, ◌∙◌, ◌⊎◌, inl, inr, subst, ⊎_elim, arith}
+use Rattle.std.proofs.Common.{◌≡◌, ◌≢◌, ℕ, ◌+◌, ◌-◌, ◌*◌, ◌<◌, ◌≤◌, ◌^◌, List, [], ◌∷◌, length, map, Some, refl, sym, ap, ap₂, ◌∙◌, inl, inr, subst, ⊎_elim, arith}
 use Rattle.std.specs.Prelude.{slice_get, sum_by}
 use Rattle.std.proofs.lemmas.Bool.{cases_eq}
 use Rattle.std.proofs.lemmas.List.{length-map}
@@ -7,7 +7,6 @@ use Rattle.std.proofs.lemmas.List.Sums.{sum_by-cons}
 use Rattle.pst_base.specs.declared.names.Counts.{Counts}
 use Rattle.pst_base.specs.declared.names.Name.{Name}
 use Rattle.pst_base.specs.declared.shape.TypeShape.{TypeShape}
-use Rattle.pst_base.specs.Name.{root_name}
 use Rattle.pst_base.specs.Shape.{type_at}
 use Rattle.pst_order.specs.Places.{rank}
 use Rattle.pst_program.specs.Sound.{CountsWithin}
@@ -17,17 +16,16 @@ use Rattle.pst_mirror.specs.Potential.{potential, capacity, excess as excess_of}
 use Rattle.pst_meaning.specs.declared.place.Place.{Place}
 use Rattle.pst_meaning.specs.Store.{Node, Stored, arena, load_of, loads, bound}
 use Rattle.pst_form.specs.declared.parts.VersionPart.{VersionPart}
-use Rattle.pst_form.specs.declared.parts.NodePart.{NodePart}
 use Rattle.pst_form.specs.declared.parts.ImageParts.{ImageParts}
 use Rattle.pst_image_tree.specs.Versions.{no_version, version_at, AreNested}
 use Rattle.pst_image_nodes.specs.Nodes.{node_at}
 use Rattle.pst_image_mirror.specs.Capacity.{half, excess, bound_of}
-use Rattle.pst_ruled.specs.Parts.{stamp_part, node_part, version_part, version_parts, node_parts}
+use Rattle.pst_ruled.specs.Parts.{stamp_part, node_part, version_part, version_parts}
 use Rattle.pst_ruled.specs.Versions.{AreVersionsNested}
 use Rattle.pst_ruled.specs.Left.{AreNamed, IsLeftStore, AreSmall}
 use Rattle.pst_ruled.proofs.Nodes.{slice_get-there, part_in}
 use Rattle.pst_ruled.proofs.Versions.{versions_law}
-use Rattle.pst_denoted.specs.Denoted.{stamp_of as stamp_made, node_of}
+use Rattle.pst_denoted.specs.Denoted.{stamp_of as stamp_made}
 use Rattle.pst_made.proofs.Given.{Given}
 use Rattle.pst_made.proofs.Back.{place_count, node_count, node_is, part_there, version_count, versions_shown, nodes_shown}
 use Rattle.pst_made.proofs.Chains.{name_is, root_named}

@@ -1,5 +1,5 @@
 -- The nodes of a store that is made of an image are in chains, and each record lives over a relic.
-use Rattle.std.proofs.Common.{◌≡◌, ℕ, zero, suc, ◌+◌, ◌-◌, ◌<◌, ◌≤◌, List, length, map, Option, Some, None, refl, sym, ap, ◌∙◌, ◌⊎◌, inl, inr, subst, ⊎_elim, arith}
+use Rattle.std.proofs.Common.{◌≡◌, ℕ, zero, suc, ◌-◌, ◌<◌, ◌≤◌, List, length, Some, None, refl, sym, ap, ◌∙◌, ◌⊎◌, inl, inr, subst, arith}
 use Rattle.std.specs.Prelude.{slice_get}
 use Rattle.std.specs.Option.{option_map}
 use Rattle.std.proofs.lemmas.List.{length-map}
@@ -17,14 +17,14 @@ use Rattle.pst_form.specs.declared.parts.NodePart.{NodePart}
 use Rattle.pst_form.specs.declared.parts.ImageParts.{ImageParts}
 use Rattle.pst_image_nodes.specs.Nodes.{node_at}
 use Rattle.pst_image_nodes.specs.declared.ends.Chain.{Chain}
-use Rattle.pst_image_nodes.specs.Chains.{IsRootName, IsSameName, LeadsBy, Leads, no_chain, chain_at, IsChain, IsInChain}
+use Rattle.pst_image_nodes.specs.Chains.{IsRootName, IsSameName, LeadsBy, Leads, no_chain, chain_at}
 use Rattle.pst_ruled.proofs.Nodes.{of_node-there}
-use Rattle.pst_taken.specs.Chains.{ComesAfter, Itself, Beyond, AreRecordChains, AreRecordEnds}
+use Rattle.pst_taken.specs.Chains.{ComesAfter, Itself, Beyond, AreRecordChains}
 use Rattle.pst_taken.specs.Taken.{HasRelic}
-use Rattle.pst_denoted.specs.Denoted.{link_of, node_of}
+use Rattle.pst_denoted.specs.Denoted.{link_of}
 use Rattle.pst_made.specs.Made.{relic_of}
 use Rattle.pst_made.proofs.Given.{Given}
-use Rattle.pst_made.proofs.Back.{placed, place_count, node_count, node_is, fits_node, lo_placed, hi_placed}
+use Rattle.pst_made.proofs.Back.{placed, node_count, node_is, fits_node, lo_placed, hi_placed}
 use Rattle.pst_made.proofs.Rows.{there, type_is}
 
 -- ---- links and names

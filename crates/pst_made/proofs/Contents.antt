@@ -1,8 +1,8 @@
 -- What a store holds that is made of an image: contents of numbers that fit their slots.
 use mir.Facts.{sfits_to_z}
-use Rattle.std.proofs.Common.{◌≡◌, ℕ, zero, suc, ◌+◌, ◌-◌, ◌/◌, ◌%◌, ◌<◌, ◌≤◌, ◌^◌, Bool, true, false, ◌&&◌, cond, eqb, List, [], ◌∷◌, length, get_or, map, Option, Some, None, refl, sym, ap, ◌∙◌, ◌⊎◌, inl, inr, subst, ⊎_elim, arith}
+use Rattle.std.proofs.Common.{◌≡◌, ℕ, zero, suc, ◌-◌, ◌/◌, ◌%◌, ◌<◌, ◌≤◌, ◌^◌, Bool, true, false, ◌&&◌, cond, eqb, List, [], ◌∷◌, length, get_or, Option, Some, None, refl, sym, ap, ◌∙◌, ◌⊎◌, inl, inr, subst, ⊎_elim, arith}
 use Rattle.std.specs.Prelude.{slice_get, unwrap_or}
-use Rattle.std.specs.Int.{w64, cast_signed}
+use Rattle.std.specs.Int.{w64}
 use Rattle.std.proofs.lemmas.Bool.{cases_lt, eqb-true}
 use Rattle.std.proofs.lemmas.Option.{get_or_from_slice_get, slice_get-get_or}
 use Rattle.pst_base.specs.declared.names.Kind.{Kind}
@@ -24,7 +24,7 @@ use Rattle.pst_meaning.proofs.Places.{slice_get-below, slice_get-map}
 use Rattle.pst_form.specs.declared.parts.NodePart.{NodePart}
 use Rattle.pst_form.specs.declared.parts.ImageParts.{ImageParts}
 use Rattle.pst_form.specs.Bytes.{Fits64, FitsStamp, FitsNode}
-use Rattle.pst_image_nodes.specs.Nodes.{no_stamp, node_at, stamp_of, entry, slot_count, HoldsPointer, HoldsEntry, HasKind, FitsSlot, IsNode}
+use Rattle.pst_image_nodes.specs.Nodes.{no_stamp, node_at, stamp_of, entry, slot_count, IsNodeOf, IsFieldTo, HoldsPointer, HoldsEntry, HasKind, FitsSlot, IsNode}
 use Rattle.pst_image_mirror.specs.Mirror.{IsPointerSlot, IsInverseSlot, shape_of}
 use Rattle.pst_ruled.specs.Parts.{content_number}
 use Rattle.pst_denoted.specs.Denoted.{pointer_content, entry_content, kind_content, content_of, contents_from, stamp_of as stamp_made, node_of, IsShortContent, AreShort}
@@ -78,26 +78,29 @@ IsAny shape ks ty g c = ((slot_count (type_at shape ty) ≤ g) × (c ≡ Null)) 
 
 -- ---- which contents they are
 
-target_in : Content → ℕ
+abbrev target_in : Content → ℕ
 target_in (Number z) = 0
 target_in Null = 0
 target_in (TargetOf y) = suc y.0
 target_in Free = 0
 target_in (FromOf x f) = 0
 
-from_in : Content → ℕ
+abbrev from_in : Content → ℕ
 from_in (Number z) = 0
 from_in Null = 0
 from_in (TargetOf y) = 0
 from_in Free = 0
 from_in (FromOf x f) = suc x.0
 
-field_in : Content → ℕ
+abbrev field_in : Content → ℕ
 field_in (Number z) = 0
 field_in Null = 0
 field_in (TargetOf y) = 0
 field_in Free = 0
 field_in (FromOf x f) = f.0
+
+none : {n : ℕ} → 0 ≡ suc n → ⊥
+none e = omega (arith, e)
 
 -- a pointer is held in a pointer slot, and leads to a node that is there
 pub record IsPointerOf (t : TypeShape) (ks : List NodePart) (g y : ℕ) : Type 0 where
@@ -122,18 +125,18 @@ module _ (shape : List TypeShape) (ks : List NodePart) (ty : TypeNo) (g : ℕ) w
   pointer_from c y e o = by (field_kind t g) refl o.fits (ap target_in (sym o.is ∙ e))
     where
       of_pointer : (u : TypeNo) (n : ℕ) → field_kind t g ≡ Some (Pointer u) → HoldsPointer ks u n → target_in (pointer_content n) ≡ suc y → IsPointerOf t ks g y
-      of_pointer u zero q k s = absurd (omega (arith, s))
+      of_pointer u zero q k s = absurd (none s)
       of_pointer u (suc z) q k s = ⊎_elim
           (λ (n : suc z ≡ 0). absurd (omega (arith, n)))
-          (λ (x : (v : ℕ) × (suc z ≡ suc v) × (v < length ks) × ((node_at ks v).ty.0 ≡ u.0)). record { slot = slot_of u q; there = (let l = x.2 in let a = x.1 in omega (arith, l, a, s)) })
+          (λ (x : (v : ℕ) × (suc z ≡ suc v) × IsNodeOf ks v u). record { slot = slot_of u q; there = (let l = x.2.0 in let a = x.1 in let b : suc z ≡ suc y = s in omega (arith, l, a, b)) })
           k
 
       of_entry : (n : ℕ) → target_in (entry_content n) ≡ suc y → IsPointerOf t ks g y
-      of_entry zero s = absurd (omega (arith, s))
-      of_entry (suc n) s = absurd (omega (arith, s))
+      of_entry zero s = absurd (none s)
+      of_entry (suc n) s = absurd (none s)
 
       by : (k : Option Kind) → field_kind t g ≡ k → HasKind shape ks ty k o.number → target_in (kind_content k o.number) ≡ suc y → IsPointerOf t ks g y
-      by (Some Int) q k s = absurd (omega (arith, s))
+      by (Some Int) q k s = absurd (none s)
       by (Some (Pointer u)) q k s = of_pointer u o.number q k s
       by None q k s = of_entry o.number s
 
@@ -141,18 +144,20 @@ module _ (shape : List TypeShape) (ks : List NodePart) (ty : TypeNo) (g : ℕ) w
   entry_from c x f e o = by (field_kind t g) refl o.fits (ap from_in (sym o.is ∙ e)) (ap field_in (sym o.is ∙ e))
     where
       of_pointer : (n : ℕ) → from_in (pointer_content n) ≡ suc x → IsEntryOf shape t ks g x f
-      of_pointer zero s = absurd (omega (arith, s))
-      of_pointer (suc n) s = absurd (omega (arith, s))
+      of_pointer zero s = absurd (none s)
+      of_pointer (suc n) s = absurd (none s)
 
       of_entry : (n : ℕ) → field_kind t g ≡ None → HoldsEntry shape ks ty n → from_in (entry_content n) ≡ suc x → field_in (entry_content n) ≡ f → IsEntryOf shape t ks g x f
-      of_entry zero q k s w = absurd (omega (arith, s))
+      of_entry zero q k s w = absurd (none s)
       of_entry (suc n) q k s w = ⊎_elim
           (λ (z : suc n ≡ 0). absurd (omega (arith, z)))
-          (λ (v : (y : ℕ) × (d : ℕ) × (suc n ≡ entry y d) × (d < 128) × (y < length ks) × (field_kind (type_at shape (node_at ks y).ty) d ≡ Some (Pointer ty))).
+          (λ (v : (y : ℕ) × (d : ℕ) × (suc n ≡ entry y d) × (d < 128) × IsFieldTo shape ks y d ty).
           let is = v.2 in
           let few = v.3 in
-          let one : v.0 ≡ x = omega (arith, is, few, s) in
-          let two : v.1 ≡ f = omega (arith, is, few, w) in
+          let node : suc (suc n / 128 - 1) ≡ suc x = s in
+          let slot : suc n % 128 ≡ f = w in
+          let one : v.0 ≡ x = omega (arith, is, few, node) in
+          let two : v.1 ≡ f = omega (arith, is, few, slot) in
           let field = pointer_field (type_at shape (node_at ks v.0).ty) v.1 ty v.4.1 in
           record {
             slot = record { from = none_field t g q; below = o.below };
@@ -163,7 +168,7 @@ module _ (shape : List TypeShape) (ks : List NodePart) (ty : TypeNo) (g : ℕ) w
           k
 
       by : (k : Option Kind) → field_kind t g ≡ k → HasKind shape ks ty k o.number → from_in (kind_content k o.number) ≡ suc x → field_in (kind_content k o.number) ≡ f → IsEntryOf shape t ks g x f
-      by (Some Int) q k s w = absurd (omega (arith, s))
+      by (Some Int) q k s w = absurd (none s)
       by (Some (Pointer u)) q k s w = of_pointer o.number s
       by None q k s w = of_entry o.number q k s w
 
@@ -184,11 +189,11 @@ module _ (shape : List TypeShape) (ks : List NodePart) (ty : TypeNo) (g : ℕ) w
       ∙ entry_is (entry x f) (record { 0 = x }) (record { 0 = f }) refl small
 
   pub is_pointer : (c : Content) (y : ℕ) → c ≡ Target y → IsAny shape ks ty g c → IsPointerOf t ks g y
-  is_pointer c y e (inl z) = absurd (let no = ap target_in (sym z.1 ∙ e) in omega (arith, no))
+  is_pointer c y e (inl z) = absurd (none (ap target_in (sym z.1 ∙ e)))
   is_pointer c y e (inr o) = pointer_from c y e o
 
   pub is_entry : (c : Content) (x f : ℕ) → c ≡ From x f → IsAny shape ks ty g c → IsEntryOf shape t ks g x f
-  is_entry c x f e (inl z) = absurd (let no = ap from_in (sym z.1 ∙ e) in omega (arith, no))
+  is_entry c x f e (inl z) = absurd (none (ap from_in (sym z.1 ∙ e)))
   is_entry c x f e (inr o) = entry_from c x f e o
 
 -- ---- the rows of the store

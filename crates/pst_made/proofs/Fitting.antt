@@ -1,5 +1,5 @@
 -- The content of a number that fits a slot is of the slot's kind.
-use Rattle.std.proofs.Common.{◌≡◌, ℕ, zero, suc, ◌+◌, ◌-◌, ◌<◌, ◌≤◌, List, length, Option, Some, None, refl, sym, ap, ◌∙◌, inl, ⊎_elim, arith}
+use Rattle.std.proofs.Common.{◌≡◌, ℕ, zero, suc, ◌-◌, ◌<◌, ◌≤◌, List, length, Option, Some, None, refl, sym, ap, ◌∙◌, inl, ⊎_elim, arith}
 use Rattle.std.specs.Prelude.{slice_get}
 use Rattle.std.specs.Option.{option_map}
 use Rattle.std.proofs.lemmas.Bool.{cases_lt}
@@ -11,7 +11,7 @@ use Rattle.pst_base.specs.Shape.{type_at, field_kind, element_count}
 use Rattle.pst_mirror.specs.Kinds.{IsInverse, HasKind as IsOfKind}
 use Rattle.pst_mirror.proofs.KindLemmas.{pointer_field}
 use Rattle.pst_form.specs.declared.parts.NodePart.{NodePart}
-use Rattle.pst_image_nodes.specs.Nodes.{node_at, slot_count, HoldsPointer, HasKind, FitsSlot}
+use Rattle.pst_image_nodes.specs.Nodes.{node_at, slot_count, IsNodeOf, HoldsPointer, HasKind, FitsSlot}
 use Rattle.pst_denoted.specs.Denoted.{pointer_content, entry_content, kind_content, content_of}
 use Rattle.pst_denoted.proofs.Numbers.{value_kind, behind_values, pointer_kind}
 
@@ -42,9 +42,9 @@ module _ (shape : List TypeShape) (ks : List NodePart) (kty : TypeNo) (ty : ℕ 
   pointer_of u zero e k = (let f = pointer_field t g u e in (f.0, inl f.1))
   pointer_of u (suc y) e k = ⊎_elim
       (λ (z : suc y ≡ 0). absurd (omega (arith, z)))
-      (λ (x : (z : ℕ) × (suc y ≡ suc z) × (z < length ks) × ((node_at ks z).ty.0 ≡ u.0)).
+      (λ (x : (z : ℕ) × (suc y ≡ suc z) × IsNodeOf ks z u).
       let one : x.0 ≡ y = (let q = x.1 in omega (arith, q)) in
-      let number : u.0 ≡ (ty y).0 = sym x.3 ∙ same x.0 x.2 ∙ ap (λ (n : ℕ). (ty n).0) one in
+      let number : u.0 ≡ (ty y).0 = sym x.2.1 ∙ same x.0 x.2.0 ∙ ap (λ (n : ℕ). (ty n).0) one in
       let typed : u ≡ ty y = λ i. record { 0 = number i } in
       e ∙ ap (λ (v : TypeNo). Some (Pointer v)) typed)
       k

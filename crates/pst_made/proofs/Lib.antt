@@ -3,5 +3,8 @@ pub mod Given
 pub mod Back
 pub mod Fitting
 pub mod Rows
+pub mod Contents
 pub mod Chains
+pub mod Mirror
 pub mod Bounds
+pub mod Rebuilt

@@ -1,10 +1,9 @@
 -- A store that is made of the parts of an image is a store, and the one that the image tells of.
-use Rattle.std.proofs.Common.{◌≡◌, ℕ, ◌<◌, List, [], refl, sym, ap, ◌∙◌}
+use Rattle.std.proofs.Common.{◌≡◌, ℕ, List, sym, ap, ◌∙◌}
 use Rattle.pst_base.specs.declared.shape.TypeShape.{TypeShape}
 use Rattle.pst_meaning.specs.Arena.{Arena, heap_at}
 use Rattle.pst_meaning.specs.Store.{Stored, arena, IsStore}
 use Rattle.pst_form.specs.declared.parts.ImageParts.{ImageParts}
-use Rattle.pst_ruled.specs.Parts.{parts_of}
 use Rattle.pst_taken.specs.Taken.{IsTaken}
 use Rattle.pst_taken.proofs.Whole.{taken_law}
 use Rattle.pst_denoted.specs.Denoted.{heap_in}

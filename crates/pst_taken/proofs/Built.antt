@@ -10,7 +10,7 @@ use Rattle.pst_meaning.specs.Store.{Stored, begin_of, end_of, IsPlace, IsOpen, A
 use Rattle.pst_meaning.proofs.Places.{slice_get-below}
 use Rattle.pst_ruled.specs.Versions.{IsWithinParent, AreVersionsNested}
 use Rattle.pst_ruled.proofs.Nodes.{slice_get-there}
-use Rattle.pst_taken.specs.Forks.{AreForksOfVersions}
+use Rattle.pst_taken.specs.Forks.{AreForksOfVersions, AreRelicsInside}
 use Rattle.pst_taken.specs.Laws.{BuiltLaw}
 use Rattle.pst_taken.proofs.Apart.{Tree, begin_apart}
 
@@ -20,7 +20,7 @@ all-published (x ∷ xs) all =
     let here : x.published ≡ true = all 0 x refl in
     rw here (let e = all-published xs (λ k f e. all (suc k) f e) in omega arith)
 
-module _ (s : Stored) (next : ℕ) (one : 1 ≤ next) (few : next ≤ 1048577) (two : 2 ≤ length s.places) (n : AreVersionsNested s next) (b : AreForksOfVersions s) where
+module _ (s : Stored) (next : ℕ) (one : 1 ≤ next) (few : next ≤ 1048577) (two : 2 ≤ length s.places) (n : AreVersionsNested s next) (b : AreForksOfVersions s) (stretches : AreRelicsInside s) where
   abbrev row_of : ℕ → VersionRow Place
   row_of v = unwrap_or (slice_get s.versions v) (first_row s.start)
 
@@ -194,7 +194,7 @@ module _ (s : Stored) (next : ℕ) (one : 1 ≤ next) (few : next ≤ 1048577) (
         omega (arith, d);
     closed = λ k f x u. absurd (none_open f.place (record { forked = record { index = k; fork = f; at = x; place = refl }; unpublished = u }));
     apart = one_fork;
-    relics = b.relics;
+    relics = stretches;
     written = λ j k p f a x u e. none_open f.place (record { forked = record { index = k; fork = f; at = x; place = refl }; unpublished = u });
   }
 
@@ -232,4 +232,4 @@ module _ (s : Stored) (next : ℕ) (one : 1 ≤ next) (few : next ≤ 1048577) (
   }
 
 pub built_law : BuiltLaw
-built_law s next one few two n b = (nested s next one few two n b, versions s next one few two n b)
+built_law s next one few two n b r = (nested s next one few two n b r, versions s next one few two n b r)

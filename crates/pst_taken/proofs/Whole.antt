@@ -111,7 +111,7 @@ module _ (s : Stored) (next : ℕ) (t : IsTaken s next) where
 
   store : IsStore s
   store =
-      let b = built_law s next t.one t.few t.two t.versions t.forks in
+      let b = built_law s next t.one t.few t.two t.versions t.forks t.inside in
       record {
         valid = t.valid;
         nested = b.0;

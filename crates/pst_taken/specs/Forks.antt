@@ -24,12 +24,14 @@ pub record HasFork (s : Stored) (row : VersionRow Place) : Type 0 where
   pub at : slice_get s.forks index ≡ Some fork
   pub place : fork.place ≡ row.place
 
--- The forks are the versions after 0, one each, in the order of their runs, and none was asked for beside them; and each relic is a
--- stretch of the list of places.
+-- The forks are the versions after 0, one each, in the order of their runs, and none was asked for beside them.
 pub record AreForksOfVersions (s : Stored) : Type 0 where
   pub of : (k : ℕ) (f : Fork) → slice_get s.forks k ≡ Some f → IsForkFor s k f
   pub all : (v : ℕ) (row : VersionRow Place) → slice_get s.versions (suc v) ≡ Some row → HasFork s row
   pub rising : (j k : ℕ) (f g : Fork) (a : slice_get s.forks j ≡ Some f) (b : slice_get s.forks k ≡ Some g) → j < k → (of j f a).row.run.0 < (of k g b).row.run.0
   pub many : length s.versions ≡ suc (length s.forks)
   pub calls : s.calls ≡ length s.forks
-  pub relics : (k : ℕ) (p : Place) → slice_get s.relics k ≡ Some p → (begin_of s p < end_of s p) × (end_of s p ≤ end_of s s.start)
+
+-- each relic is a stretch of the list of places
+abbrev pub AreRelicsInside : Stored → Type 0
+AreRelicsInside s = (k : ℕ) (p : Place) → slice_get s.relics k ≡ Some p → (begin_of s p < end_of s p) × (end_of s p ≤ end_of s s.start)

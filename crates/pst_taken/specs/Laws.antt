@@ -4,7 +4,7 @@ use Rattle.pst_meaning.specs.Arena.{Arena}
 use Rattle.pst_meaning.specs.Store.{Stored, AreNested, AreVersions, IsStore}
 use Rattle.pst_ruled.specs.Versions.{AreVersionsNested}
 use Rattle.pst_taken.specs.Chains.{AreRecordChains, ChainsGive}
-use Rattle.pst_taken.specs.Forks.{AreForksOfVersions}
+use Rattle.pst_taken.specs.Forks.{AreForksOfVersions, AreRelicsInside}
 use Rattle.pst_taken.specs.Taken.{IsTaken}
 
 -- Nodes in chains cover the lives of their records.
@@ -13,7 +13,7 @@ ChainsLaw = (w : Arena) (end : ℕ) → AreRecordChains w end → ChainsGive w e
 
 -- Where versions are nested as in an image and the forks are these versions, forks and versions are as a store keeps them.
 abbrev pub BuiltLaw : Type 0
-BuiltLaw = (s : Stored) (next : ℕ) → 1 ≤ next → next ≤ 1048577 → 2 ≤ length s.places → AreVersionsNested s next → AreForksOfVersions s → AreNested s × AreVersions s
+BuiltLaw = (s : Stored) (next : ℕ) → 1 ≤ next → next ≤ 1048577 → 2 ≤ length s.places → AreVersionsNested s next → AreForksOfVersions s → AreRelicsInside s → AreNested s × AreVersions s
 
 -- A store that is made of an image keeps what a store keeps.
 abbrev pub TakenIsStoreLaw : Type 0

@@ -16,7 +16,7 @@ use Rattle.pst_meaning.specs.declared.place.Place.{Place}
 use Rattle.pst_meaning.specs.Store.{Node, Stored, arena, begin_of, end_of, AreWide, bound, loads}
 use Rattle.pst_ruled.specs.Versions.{AreVersionsNested}
 use Rattle.pst_taken.specs.Chains.{AreRecordChains, AreRecordEnds}
-use Rattle.pst_taken.specs.Forks.{AreForksOfVersions}
+use Rattle.pst_taken.specs.Forks.{AreForksOfVersions, AreRelicsInside}
 
 -- each base value of a row and each value that is stamped in it is of its slot's kind
 pub record HasKinds (t : TypeShape) (ty : ℕ → TypeNo) (row : RowValue) : Type 0 where
@@ -36,7 +36,7 @@ pub record HasRelic (s : Stored) (i : ℕ) : Type 0 where
 
 -- A store that is made of an image, where `next` is the number of its next run: few runs, places, and nodes for what was counted;
 -- versions and their forks; rows that are well formed, as wide as their types and of their slots' kinds; chains of nodes, of one type
--- each, and type 0 for the root record alone; pointers and entries that match; and a relic for each record.
+-- each, and type 0 for the root record alone; pointers and entries that match; and relics that are stretches of places, one for each record.
 pub record IsTaken (s : Stored) (next : ℕ) : Type 0 where
   pub valid : IsValid s.shape
   pub one : 1 ≤ next
@@ -55,5 +55,6 @@ pub record IsTaken (s : Stored) (next : ℕ) : Type 0 where
   pub root_type_is : (arena s).ty 0 ≡ root_type
   pub root_alone : (i : ℕ) → i < length s.nodes → (arena s).ty i ≡ root_type → (arena s).name i ≡ root_name
   pub segments : AreSegmentsMirrored (arena s).chart
+  pub inside : AreRelicsInside s
   pub relics : (i : ℕ) → i < length s.nodes → HasRelic s i
   pub bounded : length s.nodes + potential (loads s) ≤ bound s.counts
