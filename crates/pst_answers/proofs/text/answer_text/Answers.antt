@@ -1,4 +1,4 @@
-use Rattle.std.proofs.Common.{◌≡◌, ◌∙◌, ap, sym, refl, subst, arith, List, ℕ, [], ◌∷◌, ◌++◌, append-nil}
+use Rattle.std.proofs.Common.{◌≡◌, ◌∙◌, ap, sym, refl, subst, arith, [], ◌∷◌, ◌++◌, append-nil}
 use Rattle.std.proofs.KnownBytes.{Appends-nil, Appends-trans}
 use Rattle.pst_io.specs.Text.{lines_of}
 use Rattle.pst_answers.specs.Pieces.{pieces_from, state_after, IsAll}
@@ -26,8 +26,10 @@ returns-in-None-clause-answered g c = λ m h stands.
     let whole : lines_of c.args.text.now ≡ given = first ∙ ap (λ l. given ++ lines_of l) c.in-None.ensures.lines ∙ append-nil given in (
       out,
       written,
-      subst (λ l. IsAll (pieces_from s h l) out) (sym whole) all,
-      subst (λ l. g.X.Session.leaves m c.answering.held (state_after s h l)) (sym whole) (c.known.ensures.leaves m _ now),
+      (
+        subst (λ l. IsAll (pieces_from s h l) out) (sym whole) all,
+        subst (λ l. g.X.Session.leaves m c.answering.held (state_after s h l)) (sym whole) (c.known.ensures.leaves m _ now),
+      ),
     )
 
 pub returns-in-Err-clause-answered : goal.returns-in-Err-clause-answered

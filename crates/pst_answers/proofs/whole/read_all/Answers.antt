@@ -1,4 +1,4 @@
-use Rattle.std.proofs.Common.{◌≡◌, ◌∙◌, ap, sym, arith, inr, true, Ok, Err, [], ◌∷◌, ◌++◌, append-nil}
+use Rattle.std.proofs.Common.{◌≡◌, ◌∙◌, ap, sym, arith, inr, Ok, Err, [], ◌∷◌, ◌++◌, append-nil}
 use Rattle.pst_io.specs.Text.{line_text}
 use Rattle.pst_io.proofs.Handing.{hands_none, hands_then, gives_none, gives_then}
 use Rattle.pst_answers.proofs.Reading.{until_fault, hands_as, opens, near_fresh, still_near}
@@ -33,7 +33,7 @@ returns-in-Err-keep_line-clause-stopped g c =
     let r = c.in-Ok-true.ensures in
     let is = ap (λ b. Ok b) c.in-Ok-true.field-0-test in
     let line = c.next.new.self.line in
-    (given ++ line ∷ [], gives_then _ _ _ _ _ _ given (line ∷ []) p (r.line is), inr (still_near c.reading.lines.input c.next.new.self.input c.reading.invariant.near (r.ahead is)))
+    (given ++ line ∷ [], (gives_then _ _ _ _ _ _ given (line ∷ []) p (r.line is), inr (still_near c.reading.lines.input c.next.new.self.input c.reading.invariant.near (r.ahead is))))
 
 pub reading-preserved : goal.reading-preserved
 reading-preserved g c =
