@@ -14,9 +14,11 @@ pub fn order_of<O: Walked + Drop>(alloc: Global, places: u32) -> Result<O, NoMem
     ensures { IfOk result (λ order. O.places order ≡ places_of places) }
 {
     let mut order = O::new(alloc)?;
+    order.numbered();
     let mut last = order.first();
     for _ in 1..places {
         last = order.insert_after(last)?;
+        order.numbered();
     }
     Ok(order)
 }
