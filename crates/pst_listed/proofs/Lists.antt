@@ -1,5 +1,9 @@
 -- Lists that grow by one at the end.
-use Rattle.std.proofs.Common.{◌≡◌, ℕ, zero, suc, ◌+◌, ◌<◌, ◌≤◌, List, [], ◌∷◌, ◌++◌, length, get_or, map, take, slice_index, refl, sym, ap, ◌∙◌, subst, arith}
+use Rattle.std.proofs.Common.{◌≡◌, ℕ, zero, suc, ◌+◌, ◌<◌, List, [], ◌∷◌, ◌++◌, length, get_or, slice_get, Some, map, take, refl, sym, ap, ap₂, ◌∙◌, arith}
+use Rattle.std.proofs.lemmas.List.{map-append, map_more, take_more, length-take-le}
+use Rattle.pst_queue.specs.declared.links.Link.TheVariants.{Out}
+use Rattle.pst_nodes.specs.declared.node.Node.{Node}
+use Rattle.pst_nodes.specs.Arena.{link_at}
 use Rattle.pst_base.specs.declared.shape.TypeShape.{TypeShape}
 use Rattle.pst_rows.specs.declared.content.Content.{Content}
 use Rattle.pst_meaning.specs.Arena.{listed}
@@ -18,3 +22,30 @@ pub contents-snoc : (t : TypeShape) (g : ℕ) (ns : List ℕ) (n : ℕ) → cont
 contents-snoc t g [] n = ap (λ k. content_of t k n ∷ []) (let p : g ≡ g + 0 = omega arith in p)
 contents-snoc t g (m ∷ ns) n =
     ap (λ cs. content_of t g m ∷ cs) (contents-snoc t (suc g) ns n ∙ ap (λ k. contents_from t (suc g) ns ++ content_of t k n ∷ []) (let p : suc g + length ns ≡ g + suc (length ns) = omega arith in p))
+
+-- so it is of a list that is made slot by slot
+pub contents-step : (t : TypeShape) (ns : List ℕ) (i : ℕ) (xs ys : List Content) (x : Content) → ys ≡ xs ++ x ∷ [] → i < length ns → xs ≡ contents_from t 0 (take i ns) → x ≡ content_of t i (get_or ns i 0) → ys ≡ contents_from t 0 (take (i + 1) ns)
+contents-step t ns i xs ys x grown l so_far is =
+    let many : length (take i ns) ≡ i = length-take-le i ns (omega (arith, l)) in
+    grown ∙ ap (λ (zs : List Content). zs ++ x ∷ []) so_far ∙ ap (λ z. contents_from t 0 (take i ns) ++ z ∷ []) (is ∙ ap (λ k. content_of t k (get_or ns i 0)) (sym many))
+    ∙ sym (contents-snoc t 0 (take i ns) (get_or ns i 0)) ∙ ap (contents_from t 0) (sym (take_more ns i 0 l))
+
+pub there-at : {A : Type 0} (xs : List A) (i : ℕ) (x : A) → i < length xs → x ≡ get_or xs i x → slice_get xs i ≡ Some x
+there-at [] i x l is = absurd (omega arith)
+there-at (y ∷ ys) zero x l is = ap Some (sym is)
+there-at (y ∷ ys) (suc i) x l is = there-at ys i x (omega (arith, l)) is
+
+-- so it is of what is seen of a list that is made item by item
+pub seen-step : {A B C : Type 0} (g : A → C) (f : B → C) (ps : List B) (i : ℕ) (p : B) (xs ys : List A) (x : A) → ys ≡ xs ++ x ∷ [] → i < length ps → p ≡ get_or ps i p → map g xs ≡ map f (take i ps) → g x ≡ f p → map g ys ≡ map f (take (i + 1) ps)
+seen-step g f ps i p xs ys x grown l item so_far is =
+    ap (map g) grown ∙ map-append g xs (x ∷ []) ∙ ap₂ (λ zs z. zs ++ z ∷ []) so_far (is ∙ ap f item) ∙ sym (map_more f ps i p l)
+
+-- a node more that waits for nothing
+out-push : (ns : List Node) (n : Node) → ((i : ℕ) → link_at ns i ≡ Out) → n.link ≡ Out → (i : ℕ) → link_at (ns ++ n ∷ []) i ≡ Out
+out-push [] n all here zero = here
+out-push [] n all here (suc i) = refl
+out-push (m ∷ ns) n all here zero = all 0
+out-push (m ∷ ns) n all here (suc i) = out-push ns n (λ j. all (suc j)) here i
+
+pub out-step : (ns ms : List Node) (n : Node) → ms ≡ ns ++ n ∷ [] → ((i : ℕ) → link_at ns i ≡ Out) → n.link ≡ Out → (i : ℕ) → link_at ms i ≡ Out
+out-step ns ms n grown all here i = ap (λ (ks : List Node). link_at ks i) grown ∙ out-push ns n all here i
