@@ -14,8 +14,9 @@ listed-snoc zero f = refl
 listed-snoc (suc n) f = ap (λ xs. f 0 ∷ xs) (listed-snoc n (λ k. f (suc k)))
 
 -- one more of them
-pub listed-step : {A : Type 0} (n : ℕ) (f : ℕ → A) (xs ys : List A) (x : A) → ys ≡ xs ++ x ∷ [] → xs ≡ listed n f → x ≡ f n → ys ≡ listed (suc n) f
-listed-step n f xs ys x grown so_far is = grown ∙ ap (λ (zs : List _). zs ++ x ∷ []) so_far ∙ ap (λ z. listed n f ++ z ∷ []) is ∙ sym (listed-snoc n f)
+pub listed-step : {A : Type 0} (n : ℕ) (f : ℕ → A) (xs ys : List A) (x : A) → ys ≡ xs ++ x ∷ [] → xs ≡ listed n f → x ≡ f n → ys ≡ listed (n + 1) f
+listed-step n f xs ys x grown so_far is =
+    grown ∙ ap (λ (zs : List _). zs ++ x ∷ []) so_far ∙ ap (λ z. listed n f ++ z ∷ []) is ∙ sym (listed-snoc n f) ∙ ap (λ k. listed k f) (let next : suc n ≡ n + 1 = omega arith in next)
 
 -- the contents of one slot more
 pub contents-snoc : (t : TypeShape) (g : ℕ) (ns : List ℕ) (n : ℕ) → contents_from t g (ns ++ n ∷ []) ≡ contents_from t g ns ++ content_of t (g + length ns) n ∷ []
