@@ -1,18 +1,14 @@
 -- A script goes on alike.
-use Rattle.std.proofs.Common.{◌≡◌, ◌≢◌, ℕ, zero, suc, ◌+◌, ◌<◌, ◌≤◌, Option, Some, None, true, false, List, [], ◌∷◌, ◌++◌, length, slice_get, map, refl, sym, ap, ◌∙◌, subst, ◌⊎◌, inl, inr, ⊎_elim, arith, append-nil, append_assoc}
-use Rattle.std.specs.Prelude.{slice_set, count_by, not, nat_le, nat_lt}
+use Rattle.std.proofs.Common.{◌≡◌, ℕ, ◌<◌, ◌≤◌, Option, Some, None, List, [], ◌∷◌, ◌++◌, slice_get, map, refl, sym, ap, ◌∙◌, subst, inl, inr, ⊎_elim, arith, append-nil, append_assoc}
+use Rattle.std.specs.Prelude.{not, nat_le, nat_lt}
 use Rattle.std.proofs.lemmas.Bool.{cases_lt}
-use Rattle.pst_base.specs.Heap.{Heap}
-use Rattle.pst_base.specs.declared.names.Kind.{Kind}
 use Rattle.pst_base.specs.declared.names.RunNo.{RunNo}
 use Rattle.pst_base.specs.declared.names.VersionNo.{VersionNo}
 use Rattle.pst_program.specs.declared.meaning.Ended.{Ended}
 use Rattle.pst_program.specs.declared.meaning.Ended.TheVariants.{Stopped, Done, Trapped}
 use Rattle.pst_program.specs.Outcome.{Outcome}
-use Rattle.pst_script.specs.declared.command.Call.{Call}
 use Rattle.pst_script.specs.declared.command.Command.{Command}
 use Rattle.pst_script.specs.declared.command.Command.TheVariants as command
-use Rattle.pst_script.specs.declared.reply.Reply.{Reply}
 use Rattle.pst_script.specs.declared.reply.Reply.TheVariants as answer
 use Rattle.pst_script.specs.declared.reply.Refusal.{Refusal}
 use Rattle.pst_script.specs.declared.reply.Refusal.TheVariants as because
@@ -21,10 +17,10 @@ use Rattle.pst_history.specs.declared.history.Descent.{Descent}
 use Rattle.pst_history.specs.declared.history.NamedCall.{NamedCall}
 use Rattle.pst_history.specs.declared.history.TheConstants.{RUNS, OPEN_RUNS}
 use Rattle.pst_history.specs.Meaning.{Meaning, when, kinds_refusal}
-use Rattle.pst_history.specs.History.{History, begun, run_at, next_run, is_open, is_open_run, heap_of, version_count, outcome_of, first, version_refusal, call_refusal, runs_refusal, open_refusal, run_refusal, calls_refusal, is_full_run, refusal, call_of, new_run, opened, with_run, granted_more, called_more, closed_run, dropped_run, with_version, end_of, parent_of, closed, changed, unless, after, ended_as, ended, queried_as, stepped, step_reply, close_reply, answered, unless_refused, reply, with_numbered, counts_of}
+use Rattle.pst_history.specs.History.{History, run_at, next_run, is_open_run, outcome_of, first, version_refusal, call_refusal, runs_refusal, open_refusal, run_refusal, calls_refusal, is_full_run, refusal, call_of, new_run, opened, with_run, granted_more, called_more, closed_run, dropped_run, with_version, end_of, parent_of, closed, changed, unless, after, ended_as, ended, queried_as, stepped, step_reply, close_reply, answered, unless_refused, reply, with_numbered}
 use Rattle.pst_history.specs.Sound.{IsSoundHistory}
 use Rattle.pst_history.proofs.Lists.{slice_get-of_append}
-use Rattle.pst_goes_on.specs.TakenUp.{taken_up, further, anew, AreAlike, NoneOpen}
+use Rattle.pst_goes_on.specs.TakenUp.{further, anew, AreAlike, NoneOpen}
 use Rattle.pst_goes_on.specs.Laws.{BeginsLaw, RepliesLaw, StaysLaw}
 use Rattle.pst_goes_on.proofs.SameParts.{same-next, later-run, earlier-run, same-heap, same-count, same-counts, same-open, same-set}
 
@@ -217,14 +213,14 @@ module _ (m : Meaning) (h0 : History) (sound : IsSoundHistory m h0) (none : None
   closed-alike n l =
       let same = later-run m h0 sound none b runs versions later n l in
       subst (λ o. AreAlike m h0 (with_version (with_run old n closed_run o) n (parent_of o) (end_of m old n o)) (closed m new n)) (sym same)
-          (subst (λ z. AreAlike m h0 (with_version (with_run old n closed_run (run_at new n)) n (parent_of (run_at new n)) z) (closed m new n)) (sym (same-end n (run_at new n)))
-          (version-alike m h0 (with_run old n closed_run (run_at new n)) (with_run new n closed_run (run_at new n)) (with-alike n closed_run l (run_at new n)) n l (parent_of (run_at new n)) (end_of m new n (run_at new n))))
+      (subst (λ z. AreAlike m h0 (with_version (with_run old n closed_run (run_at new n)) n (parent_of (run_at new n)) z) (closed m new n)) (sym (same-end n (run_at new n)))
+      (version-alike m h0 (with_run old n closed_run (run_at new n)) (with_run new n closed_run (run_at new n)) (with-alike n closed_run l (run_at new n)) n l (parent_of (run_at new n)) (end_of m new n (run_at new n))))
 
 -- a run that is opened and closed at once
 line-alike : (m : Meaning) (h0 : History) → IsSoundHistory m h0 → NoneOpen h0 → (x y : History) → AreAlike m h0 x y → (n k : ℕ) → n ≡ k → next_run h0 ≤ k → AreAlike m h0 (closed m x n) (closed m y k)
 line-alike m h0 sound none x y a n k e l =
     subst (λ n. AreAlike m h0 (closed m x n) (closed m y k)) (sym e)
-        (subst (λ y. AreAlike m h0 (closed m x k) (closed m y k)) (sym a.new_is) (subst (λ x. AreAlike m h0 (closed m x k) (closed m (anew m h0 a.budget a.runs a.versions) k)) (sym a.old_is) (closed-alike m h0 sound none a.budget a.runs a.versions a.later k l)))
+    (subst (λ y. AreAlike m h0 (closed m x k) (closed m y k)) (sym a.new_is) (subst (λ x. AreAlike m h0 (closed m x k) (closed m (anew m h0 a.budget a.runs a.versions) k)) (sym a.old_is) (closed-alike m h0 sound none a.budget a.runs a.versions a.later k l)))
 
 module _ (m : Meaning) (h0 : History) (sound : IsSoundHistory m h0) (none : NoneOpen h0) (b : ℕ) (runs : List Run) (versions : List Descent) (later : (i : ℕ) (v : Descent) → slice_get versions i ≡ Some v → next_run h0 ≤ v.run.0) where
   abbrev one : History

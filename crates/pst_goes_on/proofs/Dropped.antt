@@ -1,5 +1,5 @@
 -- A history with its open runs dropped.
-use Rattle.std.proofs.Common.{◌≡◌, ℕ, zero, suc, ◌+◌, ◌≤◌, Option, Some, None, Bool, true, false, cond, List, [], ◌∷◌, ◌++◌, map, length, slice_get, refl, sym, ap, ◌∙◌, subst, arith}
+use Rattle.std.proofs.Common.{◌≡◌, ℕ, suc, ◌+◌, Option, Some, None, false, cond, List, [], ◌∷◌, ◌++◌, map, length, slice_get, refl, sym, ap, ◌∙◌, subst, arith}
 use Rattle.std.specs.Prelude.{count_by, slice_index_or}
 use Rattle.std.specs.Option.{option_map, option_and_then}
 use Rattle.std.proofs.lemmas.List.{length-map}
@@ -12,10 +12,10 @@ use Rattle.pst_history.specs.declared.history.RunState.{RunState}
 use Rattle.pst_history.specs.declared.history.RunState.TheVariants.{Open, Closed, Dropped}
 use Rattle.pst_history.specs.declared.history.Descent.{Descent}
 use Rattle.pst_history.specs.Meaning.{Meaning}
-use Rattle.pst_history.specs.History.{History, Opening, index_from, numbered, is_open, is_open_state, next_run, work_of, made_by, heaps_from, heaps_of, heap_of, total_counts, run_counts, outcome_of, counts_of, dropped_run}
-use Rattle.pst_history.specs.Sound.{IsSoundHistory, IsSoundRun, IsSoundVersion, IsOpening}
+use Rattle.pst_history.specs.History.{History, Opening, index_from, numbered, is_open, is_open_state, next_run, work_of, made_by, heaps_of, heap_of, total_counts, run_counts, counts_of, dropped_run}
+use Rattle.pst_history.specs.Sound.{IsSoundHistory, IsSoundRun, IsSoundVersion}
 use Rattle.pst_history.proofs.Heaps.{heaps_from-same}
-use Rattle.pst_history.proofs.Sums.{counted-same, count_by-cons, unit_of}
+use Rattle.pst_history.proofs.Sums.{count_by-cons, unit_of}
 use Rattle.pst_goes_on.specs.TakenUp.{taken_up, NoneOpen, dropped_if_open, all_dropped}
 
 got : (rs : List Run) (i : ℕ) → slice_get (map dropped_if_open rs) i ≡ option_map dropped_if_open (slice_get rs i)
@@ -120,7 +120,7 @@ none-counted : (rs : List Run) → count_by is_open (map dropped_if_open rs) ≡
 none-counted [] = refl
 none-counted (r ∷ rs) =
     let here : count_by is_open (dropped_if_open r ∷ map dropped_if_open rs) ≡ unit_of false + count_by is_open (map dropped_if_open rs) =
-        count_by-cons is_open (dropped_if_open r) (map dropped_if_open rs) ∙ ap (λ b. unit_of b + count_by is_open (map dropped_if_open rs)) (not-open r) in
+    count_by-cons is_open (dropped_if_open r) (map dropped_if_open rs) ∙ ap (λ b. unit_of b + count_by is_open (map dropped_if_open rs)) (not-open r) in
     let rest = none-counted rs in
     omega arith
 

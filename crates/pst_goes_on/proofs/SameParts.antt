@@ -1,14 +1,12 @@
 -- What a history and the one that is taken up from it have alike.
-use Rattle.std.proofs.Common.{◌≡◌, ◌≢◌, ℕ, zero, suc, ◌+◌, ◌<◌, ◌≤◌, Option, Some, None, true, false, cond, List, [], ◌∷◌, ◌++◌, length, slice_get, map, refl, sym, ap, ◌∙◌, subst, ◌⊎◌, inl, inr, ⊎_elim, arith, length-append, append-nil}
+use Rattle.std.proofs.Common.{◌≡◌, ℕ, zero, suc, ◌+◌, ◌<◌, ◌≤◌, Option, Some, None, false, List, [], ◌∷◌, ◌++◌, length, slice_get, refl, sym, ap, ◌∙◌, arith, length-append}
 use Rattle.std.specs.Prelude.{slice_set, count_by, get_or}
 use Rattle.std.specs.Option.{option_and_then}
-use Rattle.std.proofs.lemmas.Bool.{cases_lt}
-use Rattle.std.proofs.lemmas.Option.{slice_get_within}
 use Rattle.pst_base.specs.declared.names.Counts.{Counts}
 use Rattle.pst_base.specs.Counts.{counts_plus}
 use Rattle.pst_base.specs.Heap.{Heap, initial_heap}
 use Rattle.pst_base.proofs.CountLemmas.{counts_plus-assoc, counts_plus-comm}
-use Rattle.pst_program.specs.Outcome.{Outcome, no_counts}
+use Rattle.pst_program.specs.Outcome.{no_counts}
 use Rattle.pst_history.specs.declared.history.Run.{Run}
 use Rattle.pst_history.specs.declared.history.Descent.{Descent}
 use Rattle.pst_history.specs.Meaning.{Meaning}
@@ -16,9 +14,9 @@ use Rattle.pst_history.specs.History.{History, index_from, numbered, with_index,
 use Rattle.pst_history.specs.Sound.{IsSoundHistory}
 use Rattle.pst_history.proofs.Lists.{slice_get-before}
 use Rattle.pst_history.proofs.Heaps.{length-heaps_from, heap_of-given}
-use Rattle.pst_history.proofs.Numbered.{index-at, index-below, at-number, numbered-at, numbered-within}
+use Rattle.pst_history.proofs.Numbered.{index-at, index-below, at-number, numbered-at}
 use Rattle.pst_history.proofs.Sums.{unit_of, count_by-cons, counted-same, counts_plus-none}
-use Rattle.pst_goes_on.specs.TakenUp.{taken_up, further, anew, NoneOpen}
+use Rattle.pst_goes_on.specs.TakenUp.{further, anew, NoneOpen}
 
 -- ---- lists
 

@@ -1,13 +1,12 @@
 -- A script behind an image.
-use Rattle.std.proofs.Common.{◌≡◌, ℕ, Option, Some, None, true, List, [], ◌∷◌, ◌++◌, refl, sym, ap, ◌∙◌, subst, Result, Ok, Err}
-use Rattle.std.specs.Option.{option_map, option_to_list}
-use Rattle.pst_base.specs.declared.shape.TypeShape.{TypeShape}
+use Rattle.std.proofs.Common.{◌≡◌, ℕ, Option, Some, None, List, [], ◌∷◌, ◌++◌, refl, sym, ap, ◌∙◌, subst, Result, Ok, Err}
+use Rattle.std.specs.Option.{option_to_list}
 use Rattle.pst_base.specs.Shape.{IsValid}
 use Rattle.pst_judge.specs.Pages.{routines_in}
 use Rattle.pst_script.specs.declared.command.Command.{Command}
 use Rattle.pst_script.specs.declared.command.LineFault.{LineFault}
 use Rattle.pst_script.specs.declared.command.LineFault.TheVariants.{Line, Number, Memory}
-use Rattle.pst_script.specs.Commands.{reading, in_range}
+use Rattle.pst_script.specs.Commands.{reading}
 use Rattle.pst_script.specs.Texts.{text_of}
 use Rattle.pst_script.proofs.CommandLemmas.{one_way}
 use Rattle.pst_answers.specs.Pieces.{pieces_from, state_after}

@@ -56,9 +56,9 @@ GoesOnLaw = (m n : Meaning) → MeaningAlike m n → IsLawful n → (first : Mea
 pub record GoesOnFrom (syntax : ProgramText) (named : NamedProgram) (before behind : List (List ℕ)) : Type 0 where
   pub read : IsReadAgain syntax named
   pub same : (first : Meaning → Opening)
-    → first (direct (routines_in read.program)) ≡ taken_up (direct (routines_in named)) (left_by (direct (routines_in named)) before)
-    → replies_from first (direct (routines_in read.program)) behind
-    ≡ replies_on (direct (routines_in read.program)) (all_dropped (left_by (direct (routines_in read.program)) before)) behind
+      → first (direct (routines_in read.program)) ≡ taken_up (direct (routines_in named)) (left_by (direct (routines_in named)) before)
+      → replies_from first (direct (routines_in read.program)) behind
+      ≡ replies_on (direct (routines_in read.program)) (all_dropped (left_by (direct (routines_in read.program)) before)) behind
 
 -- so it is for each accepted program
 abbrev pub ProgramGoesOnLaw : Type 0
