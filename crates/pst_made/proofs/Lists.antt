@@ -6,10 +6,6 @@ use Rattle.std.proofs.lemmas.Bool.{eq-eqb, ne_eqb}
 use Rattle.pst_order.specs.Places.{rank}
 use Rattle.pst_meaning.specs.Arena.{listed}
 
-pub length-listed : {A : Type 0} (n : ℕ) (f : ℕ → A) → length (listed n f) ≡ n
-length-listed zero f = refl
-length-listed (suc n) f = ap suc (length-listed n (λ k. f (suc k)))
-
 -- where the places differ, each stands where it is listed
 pub rank-listed : (n : ℕ) (f : ℕ → ℕ) → ((a b : ℕ) → f a ≡ f b → a ≡ b) → (k : ℕ) → k < n → rank (listed n f) (f k) ≡ k
 rank-listed zero f one k l = absurd (omega arith)

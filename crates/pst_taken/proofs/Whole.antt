@@ -25,20 +25,9 @@ use Rattle.pst_taken.specs.Taken.{HasKinds, IsTaken}
 use Rattle.pst_taken.specs.Laws.{TakenIsStoreLaw}
 use Rattle.pst_taken.proofs.Built.{built_law}
 use Rattle.pst_taken.proofs.Chains.{chains_law}
+use Rattle.pst_taken.proofs.Held.{at_all}
 
 -- ---- kinds
-
--- what is stamped is the content of a stamp of the slot
-stamped-is : (r : ℕ → ℕ) (es : List Stamp) (g n : ℕ) (c : Content) → stamp_at r es g n ≡ Some c → (k : ℕ) × (e : Stamp) × (slice_get es k ≡ Some e) × (e.slot.0 ≡ g) × (e.content ≡ c)
-stamped-is r [] g n c x = absurd (cc)
-stamped-is r (e ∷ es) g n c x = elim (eqb e.slot.0 g && eqb (r e.place.0) n) as (λ b. (eqb e.slot.0 g && eqb (r e.place.0) n) ≡ b → cond b (Some e.content) (stamp_at r es g n) ≡ Some c → (k : ℕ) × (f : Stamp) × (slice_get (e ∷ es) k ≡ Some f) × (f.slot.0 ≡ g) × (f.content ≡ c)) [
-  | true ↦ λ q y. (0, e, refl, eqb-true e.slot.0 g (first (eqb e.slot.0 g) (eqb (r e.place.0) n) q), cc)
-  | false ↦ λ q y. (let z = stamped-is r es g n c y in (suc z.0, z.1, z.2, z.3, z.4))
-] refl x
-  where
-    first : (a b : Bool) → (a && b) ≡ true → a ≡ true
-    first true b q = refl
-    first false b q = q
 
 module _ (r : ℕ → ℕ) (t : TypeShape) (ty : ℕ → TypeNo) (row : RowValue) (wide : length row.slots ≡ width t) (h : HasKinds t ty row) where
   base-kind : (g : ℕ) → HasKind t ty g (base_in row g)
@@ -54,18 +43,8 @@ module _ (r : ℕ → ℕ) (t : TypeShape) (ty : ℕ → TypeNo) (row : RowValue
       past (x ∷ xs) zero l = absurd (omega arith)
       past (x ∷ xs) (suc g) l = past xs g (omega arith)
 
-  forced : (g : ℕ) (o : Option Content) (before : Content) → HasKind t ty g before → ((c : Content) → o ≡ Some c → HasKind t ty g c) → HasKind t ty g (unwrap_or o before)
-  forced g None before k s = k
-  forced g (Some c) before k s = s c refl
-
-  stamp-kind : (g n : ℕ) (c : Content) → stamps_in r row g n ≡ Some c → HasKind t ty g c
-  stamp-kind g n c x =
-      let z = stamped-is r row.stamps g n c x in
-      subst (HasKind t ty g) z.4 (subst (λ (g : ℕ). HasKind t ty g z.1.content) z.3 (h.stamps z.0 z.1 z.2))
-
   content-kind : (g n : ℕ) → HasKind t ty g (content_in r row g n)
-  content-kind g zero = forced g (stamps_in r row g 0) (base_in row g) (base-kind g) (stamp-kind g 0)
-  content-kind g (suc n) = forced g (stamps_in r row g (suc n)) (in_force (stamps_in r row g) (base_in row g) n) (content-kind g n) (stamp-kind g (suc n))
+  content-kind = at_all r row (HasKind t ty) base-kind h.stamps
 
 -- ---- the store
 
