@@ -1,18 +1,14 @@
 -- A store that is made of an image keeps what a store keeps.
-use Rattle.std.proofs.Common.{◌≡◌, ℕ, zero, suc, ◌<◌, ◌≤◌, Option, Some, None, Bool, true, false, ◌&&◌, cond, eqb, List, [], ◌∷◌, length, map, refl, sym, ap, ◌∙◌, subst, inr, ⊎_elim, arith}
-use Rattle.std.specs.Prelude.{slice_get, get_or, unwrap_or}
+use Rattle.std.proofs.Common.{◌≡◌, ℕ, zero, suc, ◌<◌, ◌≤◌, true, cond, List, [], ◌∷◌, length, map, refl, sym, ap, ◌∙◌, subst, inr, ⊎_elim, arith}
+use Rattle.std.specs.Prelude.{get_or}
 use Rattle.std.proofs.lemmas.Bool.{cases_lt}
-use Rattle.std.proofs.lemmas.Bool.{eqb-true}
 use Rattle.pst_base.specs.declared.names.TypeNo.{TypeNo}
 use Rattle.pst_base.specs.declared.shape.TypeShape.{TypeShape}
 use Rattle.pst_base.specs.Shape.{type_at, root_type}
 use Rattle.pst_order.specs.Places.{rank}
-use Rattle.pst_rows.specs.declared.content.Content.{Content}
 use Rattle.pst_rows.specs.declared.content.Content.TheVariants.{Null}
 use Rattle.pst_rows.specs.declared.content.Slot.{Slot}
-use Rattle.pst_rows.specs.declared.content.Stamp.{Stamp}
-use Rattle.pst_rows.specs.Timeline.{in_force}
-use Rattle.pst_rows.specs.Values.{RowValue, base_in, stamp_at, stamps_in, content_in, no_slot}
+use Rattle.pst_rows.specs.Values.{RowValue, base_in, content_in, no_slot}
 use Rattle.pst_mirror.specs.Charts.{is_alive}
 use Rattle.pst_mirror.specs.Kinds.{HasKind}
 use Rattle.pst_mirror.proofs.ChartLemmas.{alive, charts_steady, charts_tiled}
