@@ -10,7 +10,7 @@ use Rattle.pst_answers.specs.declared.stop.Stop.TheVariants as stop
 use Rattle.pst_io.specs.Lines.{LinesState, IsOpen, not_begun}
 use Rattle.pst_answers.specs.declared.stop.Stop.{Stop}
 use Rattle.pst_answers.specs.Pieces.{Answering, pieces_from, state_after, IsAll}
-use Rattle.pst_answers.specs.Sessions.{StopsAtReply, HeldAtReply, StopsAnswering}
+use Rattle.pst_answers.specs.Sessions.{StopsAtReply, HeldAtReply, StopsAnswering, StopsInText}
 use Rattle.pst_answers.specs.Reading.{GivesPast, GivesUntil, IsNear, stop_of}
 use Rattle.pst_answers.proofs.Writing.{state_more, in_reply, before_reply, breaks_in}
 
@@ -49,6 +49,17 @@ until_reply m h leaves breaks stop.Memory a left b left' given line done out all
     (g, inr (near, before_reply m h given line done out all none, breaks_in m h breaks given line kept))
 until_reply m h leaves breaks stop.Read a left b left' given line done out all never kept g near = absurd never
 until_reply m h leaves breaks stop.TooLong a left b left' given line done out all never kept g near = absurd never
+
+-- answering stopped at a line of a text
+pub stops_at : {A : Type 0} (m : Answering A) (h : A) (leaves breaks : A → Type 0) (s : Stop) (all given behind : List (List ℕ)) (line done out : List ℕ)
+    → IsAll (pieces_from m h given) done → StopsAtReply s (m.reply (state_after m h given) line) out → HeldAtReply m leaves breaks s (state_after m h given) line → all ≡ (given ++ line ∷ []) ++ behind
+    → StopsInText m h leaves breaks s all (done ++ out)
+stops_at m h leaves breaks stop.Write all given behind line done out said (piece, is, part) kept first =
+    (given ++ line ∷ [], behind, first, in_reply m h given line piece done out said is part, state_more m h leaves given line kept)
+stops_at m h leaves breaks stop.Memory all given behind line done out said none kept first =
+    (given ++ line ∷ [], behind, first, before_reply m h given line done out said none, breaks_in m h breaks given line kept)
+stops_at m h leaves breaks stop.Read all given behind line done out said never kept first = absurd never
+stops_at m h leaves breaks stop.TooLong all given behind line done out said never kept first = absurd never
 
 -- less than one read is held beyond a line that was handed out
 pub still_near : (a b : InputState) → IsNear a → length b.held ≤ max (length a.held) (MOST_READ - 1) → IsNear b

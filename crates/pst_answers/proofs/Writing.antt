@@ -28,6 +28,10 @@ all_more m a given line done out all more =
     ap (λ l. l ++ out) all ∙ ap (λ l. concat (pieces_from m a given) ++ l) more
     ∙ sym (ap concat (pieces-push m a given line) ∙ concat-append (pieces_from m a given) (option_to_list reply))
 
+-- one line further
+pub line_more : (all given behind rest : List (List ℕ)) (line : List ℕ) → all ≡ given ++ rest → rest ≡ line ∷ behind → all ≡ (given ++ line ∷ []) ++ behind
+line_more all given behind rest line p q = p ∙ ap (λ l. given ++ l) q ∙ sym (append_assoc given (line ∷ []) behind)
+
 -- what holds of the state after one line more
 pub state_more : {A : Type 0} (m : Answering A) (a : A) (P : A → Type 0) (given : List (List ℕ)) (line : List ℕ) → P (m.next (state_after m a given) line) → P (state_after m a (given ++ line ∷ []))
 state_more m a P given line p = subst P (sym (state_after-push m a given line)) p

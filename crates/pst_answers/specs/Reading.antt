@@ -1,11 +1,11 @@
 -- How reading the lines of an input goes on and stops.
 use Rattle.std.specs.Prelude.{◌≡◌, ℕ, ◌<◌, ◌⊎◌, List, [], ◌∷◌, ◌++◌, ⊤, Option, Some, None, length}
-use Rattle.std.specs.Io.KnownBytes.{Consumes}
+use Rattle.std.specs.Io.KnownBytes.{Consumes, IsAtEnd}
 use Rattle.pst_io.specs.declared.room.TheConstants.{MOST_INPUT, MOST_READ}
 use Rattle.pst_io.specs.declared.fault.LinesFault.{LinesFault}
 use Rattle.pst_io.specs.declared.fault.LinesFault.TheVariants as fault
 use Rattle.pst_io.specs.Text.{lines_of}
-use Rattle.pst_io.specs.Input.{InputState, Gives, IsOver, IsCutOff, bytes_read, pending}
+use Rattle.pst_io.specs.Input.{InputState, Hands, Gives, IsOver, IsCutOff, bytes_read, pending}
 use Rattle.pst_answers.specs.declared.stop.Stop.{Stop}
 use Rattle.pst_answers.specs.declared.stop.Stop.TheVariants.{Read, Write, TooLong, Memory}
 use Rattle.pst_answers.specs.Input.{cut, cut_of}
@@ -50,3 +50,7 @@ pub record ReadsText (a : InputState) (left : Option (List ℕ)) (b : InputState
   pub told : IsTextOf (pending a left) (pending b left') text separator
   pub found : IsOver b ⊎ ((more : List (List ℕ)) → cut (lines ++ more) ≡ Some (record { text = text; separator = separator; script = more }))
   pub near : IsNear b
+
+-- between the two states all of the input was handed out, and these are its bytes
+abbrev pub HandsAll : InputState → Option (List ℕ) → InputState → Option (List ℕ) → List ℕ → Type 0
+HandsAll a left b left' bytes = Hands a left b left' bytes × IsOver b × IsAtEnd left'

@@ -1,5 +1,5 @@
 -- What a session stands for, and what comes of answering lines by it.
-use Rattle.std.specs.Prelude.{◌≡◌, ℕ, ◌⊎◌, List, [], Option, Some, Result, Ok, Err, MatchResult}
+use Rattle.std.specs.Prelude.{◌≡◌, ℕ, ◌⊎◌, List, [], ◌++◌, Option, Some, Result, Ok, Err, MatchResult}
 use Rattle.std.specs.List.{concat}
 use Rattle.std.specs.Option.{option_to_list}
 use Rattle.std.specs.Io.KnownBytes.{Appends, IsAtEnd}
@@ -71,3 +71,25 @@ abbrev pub AnswersScript : {T U S K : Type 0} → Rules → (leaves breaks : Mea
     → (left : S → Option (List ℕ)) → LinesState → S → LinesState → S → (taken : K → Option (List ℕ)) → (old new : K) → Meaning → History → Type 0
 AnswersScript rules leaves breaks held result left lines source lines' source' taken old new m h =
     HasTaken taken old new (Answers (script_of rules m) h (leaves m held) (breaks m held) result lines.input (left source) lines'.input (left source'))
+
+-- ---- the lines of a text, of which nothing is read
+
+-- Where answering the lines of a text stopped: in the reply to the last of these first ones, or before it, where there was no room.
+abbrev pub StopsInText : {A : Type 0} → Answering A → A → (leaves breaks : A → Type 0) → Stop → List (List ℕ) → List ℕ → Type 0
+StopsInText m h leaves breaks stop.Write lines out =
+    (given : List (List ℕ)) × (behind : List (List ℕ)) × (lines ≡ given ++ behind) × StopsInReply m h given out × leaves (state_after m h given)
+StopsInText m h leaves breaks stop.Memory lines out =
+    (given : List (List ℕ)) × (behind : List (List ℕ)) × (lines ≡ given ++ behind) × StopsBeforeReply m h given out × BreaksIn m h breaks given
+StopsInText m h leaves breaks stop.Read lines out = ⊥
+StopsInText m h leaves breaks stop.TooLong lines out = ⊥
+
+-- what comes of answering the lines of a text
+abbrev pub AnswersText : {A T : Type 0} → Answering A → A → (leaves breaks : A → Type 0) → Result T Stop → List (List ℕ) → List ℕ → Type 0
+AnswersText m h leaves breaks (Ok done) lines out = IsAll (pieces_from m h lines) out × leaves (state_after m h lines)
+AnswersText m h leaves breaks (Err s) lines out = StopsInText m h leaves breaks s lines out
+
+-- so it is on a history of a program for a session with these rules and for what it holds then, and for a sink, as it was and is
+abbrev pub AnswersLines : {T U K : Type 0} → Rules → (leaves breaks : Meaning → T → History → Type 0) → (held : T) → Result U Stop → List (List ℕ)
+    → (taken : K → Option (List ℕ)) → (old new : K) → Meaning → History → Type 0
+AnswersLines rules leaves breaks held result lines taken old new m h =
+    HasTaken taken old new (AnswersText (script_of rules m) h (leaves m held) (breaks m held) result lines)

@@ -55,7 +55,7 @@ pub fn read_text<S: Source>(
 }
 
 /// Puts a line to the end of the text, with its line feed if one ended it.
-fn keep_line(text: &mut Vec<u8>, line: &[u8], fed: bool) -> Result<(), NoMemory>
+pub(crate) fn keep_line(text: &mut Vec<u8>, line: &[u8], fed: bool) -> Result<(), NoMemory>
     ensures { OnOk result (text.new.items ≡ text.old.items ++ line_text line.now fed) }
 {
     text.extend_from_slice(line)?;

@@ -13,11 +13,14 @@ use Rattle.pst_rows.specs.declared.content.Stamp.{Stamp}
 use Rattle.pst_rows.specs.Rows.{no_stamp}
 use Rattle.pst_rows.specs.Values.{base_in}
 use Rattle.pst_rows.specs.Parts.{value_of}
-use Rattle.pst_meaning.specs.Arena.{Arena, heap_at}
+use Rattle.pst_meaning.specs.declared.place.Place.{Place}
+use Rattle.pst_meaning.specs.Arena.{Arena, heap_at, listed}
 use Rattle.pst_meaning.specs.Store.{Node, Stored, arena_of}
 use Rattle.pst_form.specs.declared.parts.StampPart.{StampPart}
 use Rattle.pst_form.specs.declared.parts.NodePart.{NodePart}
 use Rattle.pst_form.specs.declared.parts.ImageParts.{ImageParts}
+use Rattle.pst_image_nodes.specs.Nodes.{node_at}
+use Rattle.pst_image_nodes.specs.declared.ends.Chain.{Chain}
 
 -- in a pointer slot: null, or the node whose number is one less
 abbrev pub pointer_content : ℕ → Content
@@ -89,3 +92,11 @@ pub record IsShort (n : Node) : Type 0 where
 -- those in all nodes of a store are
 abbrev pub AreShort : Stored → Type 0
 AreShort s = (i : ℕ) (n : Node) → slice_get s.nodes i ≡ Some n → IsShort n
+
+-- so many places, each named by its position
+abbrev pub places_of : ℕ → List ℕ
+places_of n = listed n (λ k. k)
+
+-- the place over which the record of a chain lives: from where its head begins to where its last node ends
+abbrev pub relic_of : List NodePart → Chain → Place
+relic_of ks c = record { number = 0; begin = record { 0 = (node_at ks c.head.0).lo }; end = record { 0 = (node_at ks c.last.0).hi } }

@@ -11,7 +11,7 @@ use Rattle.pst_jobs.specs.declared.job.Job.TheVariants.{Run, Replay, Line, Check
 use Rattle.pst_jobs.specs.declared.job.Question.{Question}
 use Rattle.pst_jobs.specs.declared.job.Question.TheVariants.{Dump, Changed}
 use Rattle.pst_jobs.specs.declared.job.Task.{Task}
-use Rattle.pst_jobs.specs.declared.job.Task.TheVariants.{Input, Bench, Ask, Pack}
+use Rattle.pst_jobs.specs.declared.job.Task.TheVariants.{Input, Bench, Ask, Pack, Resume}
 use Rattle.pst_jobs.specs.declared.status.Status.{Status}
 use Rattle.pst_jobs.specs.declared.status.Status.TheVariants as status
 
@@ -35,10 +35,13 @@ long_number word = passing fits_64_bits (written_number word)
 abbrev pub version_number : List ℕ → Option VersionNo
 version_number word = option_map (λ n. record { 0 = n }) (passing fits_32_bits (written_number word))
 
--- one word, which names a job or is `pack`; or `bench` and its number; or `dump` and a version; or `changed`, a version and a path
+-- one word, which names a job or is `pack` or `resume`; or `bench` and its number; or `dump` and a version; or `changed`, a version and a path
 abbrev pub task_of : List (List ℕ) → Option Task
 task_of [] = None
-task_of (word ∷ []) = if bytes_eq word (codes "pack") then Some Pack else option_map Input (job_named word)
+task_of (word ∷ []) =
+    if bytes_eq word (codes "pack") then Some Pack
+    else (if bytes_eq word (codes "resume") then Some Resume
+    else option_map Input (job_named word))
 task_of (word ∷ number ∷ []) =
     if bytes_eq word (codes "bench") then option_map Bench (long_number number)
     else (if bytes_eq word (codes "dump") then option_map (λ v. Ask (Dump v)) (version_number number)
@@ -70,6 +73,10 @@ OnQuestion words Holds = (question : Question) → task_in words ≡ Some (Ask q
 -- where they ask for an image, this holds
 abbrev pub OnPack : List (String Global) → Type 0 → Type 0
 OnPack words Holds = task_in words ≡ Some Pack → Holds
+
+-- where they ask to go on from an image, this holds
+abbrev pub OnResume : List (String Global) → Type 0 → Type 0
+OnResume words Holds = task_in words ≡ Some Resume → Holds
 
 -- the number of a status, with which the program ends
 abbrev pub number_of : Status → ℕ

@@ -23,7 +23,8 @@ use Rattle.pst_ruled.specs.Parts.{content_number, link_number, version_part, sta
 use Rattle.pst_ruled.proofs.Nodes.{part_in}
 use Rattle.pst_denoted.specs.Denoted.{content_of, contents_from, stamp_of as stamp_made, link_of, node_of}
 use Rattle.pst_denoted.proofs.Numbers.{numbers_back}
-use Rattle.pst_made.proofs.Lists.{rank-listed, all_at, map-back, map-same}
+use Rattle.pst_denoted.proofs.Places.{rank-listed}
+use Rattle.pst_made.proofs.Lists.{all_at, map-back, map-same}
 use Rattle.pst_made.proofs.Given.{Given}
 
 -- ---- numbers of contents

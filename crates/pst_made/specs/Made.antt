@@ -3,25 +3,15 @@ use Rattle.std.specs.Prelude.{◌≡◌, ℕ, ◌+◌, ◌-◌, ◌<◌, List, m
 use Rattle.pst_base.specs.declared.shape.TypeShape.{TypeShape}
 use Rattle.pst_versions.specs.declared.rows.VersionRow.{VersionRow}
 use Rattle.pst_meaning.specs.declared.place.Place.{Place}
-use Rattle.pst_meaning.specs.Arena.{listed, heap_at}
+use Rattle.pst_meaning.specs.Arena.{heap_at}
 use Rattle.pst_meaning.specs.Store.{Stored, arena, IsRested}
-use Rattle.pst_form.specs.declared.parts.NodePart.{NodePart}
 use Rattle.pst_form.specs.declared.parts.ImageParts.{ImageParts}
-use Rattle.pst_image_nodes.specs.Nodes.{node_at}
 use Rattle.pst_image_nodes.specs.declared.ends.Chain.{Chain}
 use Rattle.pst_image_nodes.specs.Chains.{AreChains}
 use Rattle.pst_ruled.specs.Parts.{version_part, parts_of}
 use Rattle.pst_ruled.specs.Left.{IsLeftStore}
 use Rattle.pst_taken.specs.Forks.{AreForksOfVersions}
-use Rattle.pst_denoted.specs.Denoted.{nodes_of, heap_in}
-
--- so many places, each named by its position
-abbrev pub places_of : ℕ → List ℕ
-places_of n = listed n (λ k. k)
-
--- the place over which the record of a chain lives: from where its head begins to where its last node ends
-abbrev pub relic_of : List NodePart → Chain → Place
-relic_of ks c = record { number = 0; begin = record { 0 = (node_at ks c.head.0).lo }; end = record { 0 = (node_at ks c.last.0).hi } }
+use Rattle.pst_denoted.specs.Denoted.{nodes_of, heap_in, places_of, relic_of}
 
 -- The versions, each with its fork but version 0; a relic for each record; and the runs that took a number and have no fork.
 pub record IsMade (shape : List TypeShape) (p : ImageParts) (s : Stored) : Type 0 where

@@ -9,11 +9,6 @@
 //!     let store: Store = rebuild(alloc, &program.shape, &parts)?;
 #![tactic(auto)]
 
-mod contents;
-mod nodes;
-mod order;
 mod rebuild;
-mod records;
-mod versions;
 
 pub use rebuild::rebuild;

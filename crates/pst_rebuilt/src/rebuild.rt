@@ -8,15 +8,11 @@ ghost use Rattle.pst_form.specs.Bytes.{Fits};
 ghost use Rattle.pst_image_rules.specs.Rules.{IsJudged};
 ghost use Rattle.pst_made.specs.Made.{IsRebuilt};
 
-use crate::nodes::nodes_of;
-use crate::order::order_of;
-use crate::records::relics_of;
-use crate::versions::{forks_of, places_of, tree_of};
 use pst_arena::Listed;
 use pst_base::{NoMemory, Shape};
 use pst_form::ImageParts;
 use pst_image_tree::order_of_runs;
-use pst_made::made;
+use pst_listed::{forks_of, nodes_of, order_of, places_of, relics_of, tree_of};
 use pst_order::Walked;
 use pst_started::{Parts, Started};
 use pst_store::StoreOf;

@@ -61,6 +61,11 @@ has_read c input rest lines g most =
       rest = ap (λ l. Some l) (sym (dropped input rest g.hands.bytes (bytes_read c) f));
     }
 
+-- the same, where the source may tell nothing more
+pub some_read : (c : InputState) (input : List ℕ) (left : Option (List ℕ)) (lines : List (List ℕ)) → Gives fresh (Some input) c left lines → bytes_read c ≤ MOST_INPUT → (n : ℕ) × HasRead n input left
+some_read c input None lines g most = absurd g.hands.consumed
+some_read c input (Some rest) lines g most = (bytes_read c, has_read c input rest lines g most)
+
 -- how far reading came where these bytes were needed
 record Extent (count bytes total : ℕ) : Type 0 where
   reached : min bytes total ≤ count

@@ -6,7 +6,7 @@ use Rattle.pst_io.specs.Text.{whole_lines}
 use Rattle.pst_jobs.specs.declared.job.Job.{Job}
 use Rattle.pst_jobs.specs.declared.job.Job.TheVariants.{Run, Replay, Line, Check, Code}
 use Rattle.pst_jobs.specs.declared.job.Task.{Task}
-use Rattle.pst_jobs.specs.declared.job.Task.TheVariants.{Input, Bench, Ask, Pack}
+use Rattle.pst_jobs.specs.declared.job.Task.TheVariants.{Input, Bench, Ask, Pack, Resume}
 use Rattle.pst_judge.specs.declared.page.Page.{Page}
 use Rattle.pst_judge.specs.declared.page.Page.TheVariants.{Canonical, Listing}
 use Rattle.pst_jobs.specs.declared.status.Status.{Status}
@@ -138,11 +138,12 @@ IsComplete WriteFault = ⊥
 IsComplete Usage = ⊥
 IsComplete TooLong = ⊥
 
--- What the words ask for needs no more of the input than may be read: the bench needs nothing, and a question and an image need
--- what `run` does. They ask for something.
+-- What the words ask for needs no more of the input than may be read: the bench needs nothing, a question and an image need what
+-- `run` does, and so does a script behind an image. They ask for something.
 abbrev pub IsServable : Option Task → List ℕ → Type 0
 IsServable None input = ⊥
 IsServable (Some (Input job)) input = IsWithin job input
 IsServable (Some (Bench number)) input = Unit {0}
 IsServable (Some (Ask question)) input = IsWithin Run input
 IsServable (Some Pack) input = IsWithin Run input
+IsServable (Some Resume) input = length input ≤ MOST_INPUT

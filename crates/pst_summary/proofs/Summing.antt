@@ -7,7 +7,7 @@ use Rattle.pst_history.specs.History.{History}
 use Rattle.pst_answers.specs.Pieces.{Answering, state_after, AfterSome}
 use Rattle.pst_answers.specs.Script.{Rules, answer_of, next_of, script_of}
 use Rattle.pst_summary.specs.Bench.{printed_by, printed_from}
-use Rattle.pst_answers.proofs.Writing.{state_more}
+use Rattle.pst_answers.proofs.Writing.{line_more, state_more}
 
 printed_from-push : (rules : Rules) (m : Meaning) (h : History) (given : List (List ℕ)) (line : List ℕ)
     → printed_from rules m h (given ++ line ∷ []) ≡ printed_from rules m h given ++ printed_by (answer_of rules m (state_after (script_of rules m) h given) (reading line))
@@ -22,10 +22,6 @@ pub sum_more : (rules : Rules) (m : Meaning) (h : History) (given : List (List �
 sum_more rules m h given line sum all before more =
     let now = printed_by (answer_of rules m (state_after (script_of rules m) h given) (reading line)) in
     more ∙ ap (λ n. fold ◌+ℤ◌ n now) before ∙ sym (ap (fold ◌+ℤ◌ (pos 0)) (printed_from-push rules m h given line) ∙ fold-append ◌+ℤ◌ (pos 0) (printed_from rules m h given) now)
-
--- one line further
-pub line_more : (all given behind rest : List (List ℕ)) (line : List ℕ) → all ≡ given ++ rest → rest ≡ line ∷ behind → all ≡ (given ++ line ∷ []) ++ behind
-line_more all given behind rest line p q = p ∙ ap (λ l. given ++ l) q ∙ sym (append_assoc given (line ∷ []) behind)
 
 -- there was no room in a line
 pub broken_at : {A : Type 0} (m : Answering A) (a : A) (P : A → Type 0) (all given behind rest : List (List ℕ)) (line : List ℕ) → all ≡ given ++ rest → rest ≡ line ∷ behind

@@ -1,6 +1,6 @@
 //! The bench: a large script is carried out, and a summary of what came of it is written.
 
-ghost use Rattle.std.specs.Prelude.{◌≡◌, ◌≤◌, ◌⊎◌, ◌+◌, ◌+ℤ◌, ◌<◌, ◌^◌, [], ◌∷◌, length, pos, fold, None, MatchOption, IfOk, IfSome, OnOk, OnErr};
+ghost use Rattle.std.specs.Prelude.{◌≡◌, ◌≤◌, ◌⊎◌, ◌+◌, ◌+ℤ◌, ◌<◌, ◌^◌, length, pos, fold, None, IfOk, OnOk, OnErr};
 ghost use Rattle.pst_io.specs.Causes.{Rose};
 ghost use Rattle.pst_io.specs.Text.{lines_of};
 ghost use Rattle.pst_program.specs.View.{routines_of};
@@ -17,8 +17,7 @@ ghost use Rattle.pst_answers.specs.Pieces.{state_after, AfterSome};
 ghost use Rattle.pst_answers.specs.Script.{by_tree, answer_of, next_of, script_of};
 ghost use Rattle.pst_answers.specs.Sessions.{HasTaken, StandForSome, OnEachHistory};
 
-use memchr::memchr;
-use pst_answers::{Session, reply_to, say};
+use pst_answers::{Session, reply_to, say, split_line};
 use pst_arena::FatNodes;
 use pst_base::{NoMemory, Text};
 use pst_bench::bench_script;
@@ -68,20 +67,6 @@ fn add_all(sum: i64, numbers: &[i64]) -> Result<i64, NoMemory>
         }
     }
     Ok(all)
-}
-
-/// The first line of a text, and what is behind its line feed. None where the text is empty.
-fn split_line(text: &[u8]) -> Option<(&[u8], &[u8])>
-    ensures lines { MatchOption result (text.now ≡ []) (λ x. lines_of text.now ≡ x.0.now ∷ lines_of x.1.now) }
-    ensures shorter { IfSome result (λ x. length x.1.now < length text.now) }
-{
-    if text.is_empty() {
-        return None;
-    }
-    match memchr(b'\n', text) {
-        None => Some((text, &[])),
-        Some(feed) => Some((&text[..feed], &text[feed + 1..])),
-    }
 }
 
 /// Carries a line out, and adds the numbers that it printed to a sum.

@@ -3,8 +3,8 @@ use Rattle.std.proofs.lemmas.Int.{to_z-of_z}
 use Rattle.pst_io.specs.Text.{lines_of}
 use Rattle.pst_answers.specs.Pieces.{state_after}
 use Rattle.pst_answers.specs.Script.{script_of}
-use Rattle.pst_summary.proofs.Summing.{broken_at, line_more, of_error, sum_more}
-use Rattle.pst_answers.proofs.Writing.{state_more}
+use Rattle.pst_summary.proofs.Summing.{broken_at, of_error, sum_more}
+use Rattle.pst_answers.proofs.Writing.{line_more, state_more}
 use Rattle.pst_summary.proofs.summary.sum_lines.Goals as goal
 
 pub sum_line-requires : goal.sum_line-requires

@@ -2,7 +2,7 @@
 
 ghost use Rattle.std.specs.Prelude.{◌≡◌, ◌<◌, ◌^◌, IfOk, length, ℕ};
 ghost use Rattle.pst_image_tree.specs.Versions.{IsOrderOfRuns};
-ghost use Rattle.pst_rebuilt.specs.Rebuilding.{AreOfVersions, HaveParents, HasNumbers, place_in, places_in, rows_in, forks_in};
+ghost use Rattle.pst_listed.specs.Listing.{AreOfVersions, HaveParents, HasNumbers, place_in, places_in, rows_in, forks_in};
 
 use pst_base::{NoMemory, VersionNo};
 use pst_form::VersionPart;

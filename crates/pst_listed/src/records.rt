@@ -2,7 +2,7 @@
 
 ghost use Rattle.std.specs.Prelude.{◌≡◌, ◌<◌, ◌^◌, IfOk, length, map};
 ghost use Rattle.pst_image_nodes.specs.Chains.{HaveLives, EndBelow, AreInChains, AreChains};
-ghost use Rattle.pst_made.specs.Made.{relic_of as relic_in};
+ghost use Rattle.pst_denoted.specs.Denoted.{relic_of as relic_in};
 ghost use Rattle.pst_image_nodes.specs.declared.ends.Chain.{Chain as ItsChain};
 ghost use Rattle.std.specs.Prelude.{List};
 

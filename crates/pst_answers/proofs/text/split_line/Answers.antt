@@ -2,7 +2,7 @@ use Rattle.std.proofs.Common.{◌+◌, ◌∷◌, ◌∙◌, ap, sym, refl, subs
 use Rattle.std.proofs.lemmas.List.{take_rest}
 use Rattle.pst_io.specs.Text.{lines_of, IsFirstFeed}
 use Rattle.pst_io.proofs.TextLemmas.{lines_of-feed, lines_of-unfed, split_at_feed, first_feed, no_feed}
-use Rattle.pst_summary.proofs.summary.split_line.Goals as goal
+use Rattle.pst_answers.proofs.text.split_line.Goals as goal
 
 pub returns-in-None-clause-lines : goal.returns-in-None-clause-lines
 returns-in-None-clause-lines c =

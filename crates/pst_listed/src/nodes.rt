@@ -5,7 +5,7 @@ ghost use Rattle.pst_queue.specs.declared.links.Link.TheVariants.{Out};
 ghost use Rattle.pst_joint.specs.Seen.{seen, seen_node};
 ghost use Rattle.pst_nodes.specs.Arena.{link_at};
 ghost use Rattle.pst_denoted.specs.Denoted.{link_of as denoted_link, node_of as denoted_node, nodes_of as denoted_nodes};
-ghost use Rattle.pst_rebuilt.specs.Rebuilding.{HasFew, AreFew};
+ghost use Rattle.pst_listed.specs.Listing.{HasFew, AreFew};
 
 use crate::contents::{put_bases, put_stamps};
 use pst_base::{NoMemory, NodeId, Shape};
