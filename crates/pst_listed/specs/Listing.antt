@@ -48,8 +48,16 @@ places_in vs numbers = listed (length vs) (λ v. place_in (version_at vs v) (get
 abbrev pub no_place : Place
 no_place = record { number = 0; begin = record { 0 = 0 }; end = record { 0 = 0 } }
 
+-- the row of a version
+abbrev pub row_in : List VersionPart → List Place → ℕ → VersionRow Place
+row_in vs places v = record { parent = (version_at vs v).parent; run = (version_at vs v).run; place = get_or places v no_place }
+
 abbrev pub rows_in : List VersionPart → List Place → List (VersionRow Place)
-rows_in vs places = listed (length vs) (λ v. record { parent = (version_at vs v).parent; run = (version_at vs v).run; place = get_or places v no_place })
+rows_in vs places = listed (length vs) (row_in vs places)
+
+-- its fork: published, and made from the place of its parent
+abbrev pub fork_in : List VersionPart → List Place → ℕ → Fork
+fork_in vs places v = record { place = get_or places v no_place; from = get_or places (parent_of vs v) no_place; published = true }
 
 abbrev pub forks_in : List VersionPart → List Place → (by_run : List ℕ) → List Fork
-forks_in vs places by_run = map (λ v. record { place = get_or places v no_place; from = get_or places (parent_of vs v) no_place; published = true }) by_run
+forks_in vs places by_run = map (fork_in vs places) by_run

@@ -1,0 +1,4 @@
+pub mod SameParts
+pub mod Commands
+pub mod Dropped
+pub mod Scripts

@@ -1,0 +1,5 @@
+pub mod Endings
+pub mod Typing
+pub mod Histories
+pub mod Meanings
+pub mod Canonical

@@ -1,0 +1,8 @@
+use Rattle.std.proofs.Common.{◌≡◌, get_or}
+use Rattle.pst_meaning.specs.Arena.{listed}
+use Rattle.pst_image_tree.specs.Versions.{version_at}
+use Rattle.pst_listed.specs.Listing.{row_in}
+use Rattle.pst_listed.proofs.versions.tree_of.Given as goal
+
+abbrev pub invariant-loop-number : goal.invariant-loop-number
+invariant-loop-number l = l.tree ≡ listed l.number (row_in l.versions l.places)
