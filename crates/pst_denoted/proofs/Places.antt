@@ -1,5 +1,5 @@
 -- Places that are named by their positions.
-use Rattle.std.proofs.Common.{◌≡◌, ℕ, zero, suc, ◌<◌, List, ◌∷◌, cond, refl, ap, ◌∙◌, arith}
+use Rattle.std.proofs.Common.{◌≡◌, ℕ, zero, suc, ◌<◌, ◌∷◌, cond, refl, ap, ◌∙◌, arith}
 use Rattle.std.proofs.lemmas.Bool.{eq-eqb, ne_eqb}
 use Rattle.pst_order.specs.Places.{rank}
 use Rattle.pst_meaning.specs.Arena.{listed}
@@ -11,4 +11,3 @@ rank-listed (suc n) f one zero l = ap (λ b. cond b 0 (suc (rank (listed n (λ k
 rank-listed (suc n) f one (suc k) l =
     ap (λ b. cond b 0 (suc (rank (listed n (λ k. f (suc k))) (f (suc k))))) (ne_eqb (f 0) (f (suc k)) (λ e. let z : 0 ≡ suc k = one 0 (suc k) e in omega (arith, z)))
     ∙ ap suc (rank-listed n (λ k. f (suc k)) (λ a b e. let z : suc a ≡ suc b = one (suc a) (suc b) e in omega (arith, z)) k (omega (arith, l)))
-

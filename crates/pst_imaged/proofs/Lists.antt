@@ -1,6 +1,7 @@
 -- Lists that are made item by item.
-use Rattle.std.proofs.Common.{◌≡◌, ℕ, zero, suc, Some, IfSome, slice_get, ◌+◌, ◌<◌, ◌≤◌, List, [], ◌∷◌, ◌++◌, length, get_or, map, take, refl, sym, ap, ap₂, ◌∙◌, subst, arith}
+use Rattle.std.proofs.Common.{◌≡◌, ℕ, zero, suc, Some, IfSome, slice_get, ◌+◌, ◌<◌, ◌≤◌, List, [], ◌∷◌, ◌++◌, length, get_or, map, take, refl, sym, ap, ap₂, ◌∙◌, subst, ⊎_elim, arith}
 use Rattle.std.specs.List.{AllByRecursion}
+use Rattle.std.proofs.lemmas.Bool.{cases_eq}
 use Rattle.std.proofs.lemmas.List.{map_more, take_all, length-map, get_or-map}
 
 -- one more, at the end
@@ -47,3 +48,10 @@ pub seen_at : {A B : Type 0} (g : A → B) (xs : List A) (i : ℕ) (x : A) → i
 seen_at g [] i x l is = absurd (omega arith)
 seen_at g (y ∷ ys) zero x l is = ap Some (ap g (sym is))
 seen_at g (y ∷ ys) (suc i) x l is = seen_at g ys i x (omega arith) is
+
+-- what is so of each item before an index and of the one there is so of one more
+pub one_more : {A : Type 0} (P : A → Type 0) (xs : List A) (k : ℕ) (x : A) → slice_get xs k ≡ Some x → P x → ((i : ℕ) (y : A) → i < k → slice_get xs i ≡ Some y → P y) → (i : ℕ) (y : A) → i < k + 1 → slice_get xs i ≡ Some y → P y
+one_more P xs k x at here before i y l e = ⊎_elim
+    (λ (q : i ≡ k). let there : slice_get xs i ≡ Some x = ap (slice_get xs) q ∙ at in let same : x ≡ y = cc in subst P same here)
+    (λ (ne : i ≡ k → ⊥). before i y (omega (arith, l, ne)) e)
+    (cases_eq i k)

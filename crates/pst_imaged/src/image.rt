@@ -6,6 +6,7 @@ ghost use Rattle.pst_form.specs.Bytes.{Fits, image_bytes};
 ghost use Rattle.pst_image_rules.specs.Rules.{IsJudged};
 ghost use Rattle.pst_ruled.specs.Parts.{parts_of as shown_parts};
 ghost use Rattle.pst_ruled.specs.Left.{AreNumbers, IsLeftStore};
+ghost use Rattle.pst_denoted.specs.Denoted.{AreShort};
 
 use crate::nodes::nodes_of;
 use crate::positions::{place_count, positions_of};
@@ -30,6 +31,7 @@ fn parts_of<O: Walked + Drop, N: Listed>(
     requires numbers { AreNumbers next_run.0 budget }
     ensures parts { IfOk result (λ parts. IsSomeAnd store.now (λ s. parts ≡ shown_parts s text.now next_run.0 budget)) }
     ensures fits { IfOk result Fits }
+    ensures short { IfOk result (λ _. IsSomeAnd store.now AreShort) }
 {
     store.whole();
     let positions = positions_of(alloc, store.order())?;
@@ -58,6 +60,7 @@ pub fn pack<O: Walked + Drop, N: Listed>(
     requires numbers { AreNumbers next_run.0 budget }
     ensures image { IfOk result (λ image. IsSomeAnd store.now (λ s. image ≡ image_bytes (shown_parts s text.now next_run.0 budget))) }
     ensures fits { IfOk result (λ _. IsSomeAnd store.now (λ s. Fits (shown_parts s text.now next_run.0 budget))) }
+    ensures short { IfOk result (λ _. IsSomeAnd store.now AreShort) }
     ensures rules { IsSomeAnd store.now (λ s. IsJudged s.shape (shown_parts s text.now next_run.0 budget) None) }
 {
     store.whole();

@@ -11,6 +11,7 @@ ghost use Rattle.pst_meaning.specs.Store.{Node as Seen};
 ghost use Rattle.pst_form.specs.Bytes.{Fits64, FitsNode, FitsStamp};
 ghost use Rattle.pst_ruled.specs.Narrow.{IsNarrow, IsSmallContent};
 ghost use Rattle.pst_ruled.specs.Parts.{content_number as number_of, link_number as number_of_link, stamp_part as part_of_stamp, node_part as part_of_node};
+ghost use Rattle.pst_denoted.specs.Denoted.{IsShort, IsShortContent};
 ghost use Rattle.pst_imaged.specs.Positions.{position_in};
 
 use crate::positions::position;
@@ -25,6 +26,7 @@ fn content_number(content: Content) -> u64
     requires { IsSmallContent content }
     ensures number { result ≡ number_of content }
     ensures fits { Fits64 result }
+    ensures short { IsShortContent content }
 {
     match content {
         Content::Number(n) => n.cast_unsigned(),
@@ -53,6 +55,7 @@ fn stamp_part(stamp: Stamp, positions: &[u32]) -> StampPart
     requires small { IsSmallContent stamp.content }
     ensures part { result ≡ part_of_stamp (position_in positions.now) stamp }
     ensures fits { FitsStamp result }
+    ensures short { IsShortContent stamp.content }
 {
     StampPart {
         slot: stamp.slot,
@@ -67,6 +70,7 @@ fn bases_of(alloc: Global, row: &Row) -> Result<Items<u64>, NoMemory>
     requires small { (g : ℕ) → g < length (shown row.now).slots → IsSmallContent (base_in (shown row.now) g) }
     ensures bases { IfOk result (λ bases. bases ≡ map (λ c. number_of c.content) (shown row.now).slots) }
     ensures fits { IfOk result (AllByRecursion Fits64) }
+    ensures short { IfOk result (λ _. (g : ℕ) → g < length (shown row.now).slots → IsShortContent (base_in (shown row.now) g)) }
 {
     let mut bases = Vec::new(alloc);
     for slot in 0..row.width() {
@@ -82,6 +86,7 @@ fn stamps_of(alloc: Global, row: &Row, positions: &[u32]) -> Result<Items<StampP
     ensures stamps { IfOk result (λ stamps. stamps ≡ map (part_of_stamp (position_in positions.now)) (shown row.now).stamps) }
     ensures fits { IfOk result (AllByRecursion FitsStamp) }
     ensures count { IfOk result (λ stamps. length stamps < 2 ^ 64) }
+    ensures short { IfOk result (λ _. (k : ℕ) → k < length (shown row.now).stamps → IsShortContent (get_or (shown row.now).stamps k no_stamp).content) }
 {
     let mut stamps = Vec::new(alloc);
     for stamp in row.stamps() {
@@ -103,6 +108,7 @@ fn node_part(alloc: Global, node: &Node, positions: &[u32]) -> Result<NodePart, 
     requires narrow { IsNarrow (seen_node node.now) }
     ensures part { IfOk result (λ part. part ≡ part_of_node (position_in positions.now) (seen_node node.now)) }
     ensures fits { IfOk result FitsNode }
+    ensures short { IfOk result (λ _. IsShort (seen_node node.now)) }
 {
     head_fits(node.name, node.ty);
     Ok(NodePart {
@@ -126,6 +132,7 @@ pub fn nodes_of(
     requires narrow { (i : ℕ) (n : Seen) → slice_get (seen nodes.now.list.items) i ≡ Some n → IsNarrow n }
     ensures parts { IfOk result (λ parts. parts ≡ map (part_of_node (position_in positions.now)) (seen nodes.now.list.items)) }
     ensures fits { IfOk result (AllByRecursion FitsNode) }
+    ensures short { IfOk result (λ _. (i : ℕ) (n : Seen) → slice_get (seen nodes.now.list.items) i ≡ Some n → IsShort n) }
 {
     let mut parts = Vec::new(alloc);
     for node in &nodes.list {

@@ -11,6 +11,7 @@ use Rattle.pst_rows.specs.Parts.{slots_from}
 use Rattle.pst_versions.specs.declared.rows.VersionRow.{VersionRow}
 use Rattle.pst_meaning.specs.declared.place.Place.{Place}
 use Rattle.pst_meaning.specs.Store.{Node, Stored}
+use Rattle.pst_meaning.proofs.RecordLaws.{length-listed}
 use Rattle.pst_meaning.proofs.Places.{slice_get-below, slice_get-mapped}
 use Rattle.pst_form.specs.declared.parts.VersionPart.{VersionPart}
 use Rattle.pst_form.specs.declared.parts.NodePart.{NodePart}
@@ -22,7 +23,6 @@ use Rattle.pst_ruled.specs.Parts.{content_number, link_number, version_part, sta
 use Rattle.pst_ruled.proofs.Nodes.{part_in}
 use Rattle.pst_denoted.specs.Denoted.{content_of, contents_from, stamp_of as stamp_made, link_of, node_of}
 use Rattle.pst_denoted.proofs.Numbers.{numbers_back}
-use Rattle.pst_meaning.proofs.RecordLaws.{length-listed}
 use Rattle.pst_denoted.proofs.Places.{rank-listed}
 use Rattle.pst_made.proofs.Lists.{all_at, map-back, map-same}
 use Rattle.pst_made.proofs.Given.{Given}

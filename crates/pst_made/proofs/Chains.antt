@@ -21,8 +21,7 @@ use Rattle.pst_image_nodes.specs.Chains.{IsRootName, IsSameName, LeadsBy, Leads,
 use Rattle.pst_ruled.proofs.Nodes.{of_node-there}
 use Rattle.pst_taken.specs.Chains.{ComesAfter, Itself, Beyond, AreRecordChains}
 use Rattle.pst_taken.specs.Taken.{HasRelic}
-use Rattle.pst_denoted.specs.Denoted.{link_of}
-use Rattle.pst_made.specs.Made.{relic_of}
+use Rattle.pst_denoted.specs.Denoted.{link_of, relic_of}
 use Rattle.pst_made.proofs.Given.{Given}
 use Rattle.pst_made.proofs.Back.{placed, node_count, node_is, fits_node, lo_placed, hi_placed}
 use Rattle.pst_made.proofs.Rows.{there, type_is}

@@ -1,4 +1,5 @@
 pub mod Apart
 pub mod Built
 pub mod Chains
+pub mod Held
 pub mod Whole

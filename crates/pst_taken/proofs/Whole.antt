@@ -1,18 +1,14 @@
 -- A store that is made of an image keeps what a store keeps.
-use Rattle.std.proofs.Common.{◌≡◌, ℕ, zero, suc, ◌<◌, ◌≤◌, Option, Some, None, Bool, true, false, ◌&&◌, cond, eqb, List, [], ◌∷◌, length, map, refl, sym, ap, ◌∙◌, subst, inr, ⊎_elim, arith}
-use Rattle.std.specs.Prelude.{slice_get, get_or, unwrap_or}
+use Rattle.std.proofs.Common.{◌≡◌, ℕ, zero, suc, ◌<◌, ◌≤◌, true, cond, List, [], ◌∷◌, length, map, refl, sym, ap, ◌∙◌, subst, inr, ⊎_elim, arith}
+use Rattle.std.specs.Prelude.{get_or}
 use Rattle.std.proofs.lemmas.Bool.{cases_lt}
-use Rattle.std.proofs.lemmas.Bool.{eqb-true}
 use Rattle.pst_base.specs.declared.names.TypeNo.{TypeNo}
 use Rattle.pst_base.specs.declared.shape.TypeShape.{TypeShape}
 use Rattle.pst_base.specs.Shape.{type_at, root_type}
 use Rattle.pst_order.specs.Places.{rank}
-use Rattle.pst_rows.specs.declared.content.Content.{Content}
 use Rattle.pst_rows.specs.declared.content.Content.TheVariants.{Null}
 use Rattle.pst_rows.specs.declared.content.Slot.{Slot}
-use Rattle.pst_rows.specs.declared.content.Stamp.{Stamp}
-use Rattle.pst_rows.specs.Timeline.{in_force}
-use Rattle.pst_rows.specs.Values.{RowValue, base_in, stamp_at, stamps_in, content_in, no_slot}
+use Rattle.pst_rows.specs.Values.{RowValue, base_in, content_in, no_slot}
 use Rattle.pst_mirror.specs.Charts.{is_alive}
 use Rattle.pst_mirror.specs.Kinds.{HasKind}
 use Rattle.pst_mirror.proofs.ChartLemmas.{alive, charts_steady, charts_tiled}
@@ -25,20 +21,9 @@ use Rattle.pst_taken.specs.Taken.{HasKinds, IsTaken}
 use Rattle.pst_taken.specs.Laws.{TakenIsStoreLaw}
 use Rattle.pst_taken.proofs.Built.{built_law}
 use Rattle.pst_taken.proofs.Chains.{chains_law}
+use Rattle.pst_taken.proofs.Held.{at_all}
 
 -- ---- kinds
-
--- what is stamped is the content of a stamp of the slot
-stamped-is : (r : ℕ → ℕ) (es : List Stamp) (g n : ℕ) (c : Content) → stamp_at r es g n ≡ Some c → (k : ℕ) × (e : Stamp) × (slice_get es k ≡ Some e) × (e.slot.0 ≡ g) × (e.content ≡ c)
-stamped-is r [] g n c x = absurd (cc)
-stamped-is r (e ∷ es) g n c x = elim (eqb e.slot.0 g && eqb (r e.place.0) n) as (λ b. (eqb e.slot.0 g && eqb (r e.place.0) n) ≡ b → cond b (Some e.content) (stamp_at r es g n) ≡ Some c → (k : ℕ) × (f : Stamp) × (slice_get (e ∷ es) k ≡ Some f) × (f.slot.0 ≡ g) × (f.content ≡ c)) [
-  | true ↦ λ q y. (0, e, refl, eqb-true e.slot.0 g (first (eqb e.slot.0 g) (eqb (r e.place.0) n) q), cc)
-  | false ↦ λ q y. (let z = stamped-is r es g n c y in (suc z.0, z.1, z.2, z.3, z.4))
-] refl x
-  where
-    first : (a b : Bool) → (a && b) ≡ true → a ≡ true
-    first true b q = refl
-    first false b q = q
 
 module _ (r : ℕ → ℕ) (t : TypeShape) (ty : ℕ → TypeNo) (row : RowValue) (wide : length row.slots ≡ width t) (h : HasKinds t ty row) where
   base-kind : (g : ℕ) → HasKind t ty g (base_in row g)
@@ -54,18 +39,8 @@ module _ (r : ℕ → ℕ) (t : TypeShape) (ty : ℕ → TypeNo) (row : RowValue
       past (x ∷ xs) zero l = absurd (omega arith)
       past (x ∷ xs) (suc g) l = past xs g (omega arith)
 
-  forced : (g : ℕ) (o : Option Content) (before : Content) → HasKind t ty g before → ((c : Content) → o ≡ Some c → HasKind t ty g c) → HasKind t ty g (unwrap_or o before)
-  forced g None before k s = k
-  forced g (Some c) before k s = s c refl
-
-  stamp-kind : (g n : ℕ) (c : Content) → stamps_in r row g n ≡ Some c → HasKind t ty g c
-  stamp-kind g n c x =
-      let z = stamped-is r row.stamps g n c x in
-      subst (HasKind t ty g) z.4 (subst (λ (g : ℕ). HasKind t ty g z.1.content) z.3 (h.stamps z.0 z.1 z.2))
-
   content-kind : (g n : ℕ) → HasKind t ty g (content_in r row g n)
-  content-kind g zero = forced g (stamps_in r row g 0) (base_in row g) (base-kind g) (stamp-kind g 0)
-  content-kind g (suc n) = forced g (stamps_in r row g (suc n)) (in_force (stamps_in r row g) (base_in row g) n) (content-kind g n) (stamp-kind g (suc n))
+  content-kind = at_all r row (HasKind t ty) base-kind h.stamps
 
 -- ---- the store
 
