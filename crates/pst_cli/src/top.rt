@@ -4,9 +4,10 @@ ghost use Rattle.std.specs.Prelude.{◌≡◌, ◌↔◌, ◌≤◌, Some, None,
 ghost use Rattle.pst_io.specs.Causes.{Rose};
 ghost use Rattle.pst_io.specs.Lines.{not_begun};
 ghost use Rattle.pst_jobs.specs.declared.job.Job.{Job};
-ghost use Rattle.pst_jobs.specs.Jobs.{task_in, OnJob, OnBench, OnQuestion, OnPack};
+ghost use Rattle.pst_jobs.specs.Jobs.{task_in, OnJob, OnBench, OnQuestion, OnPack, OnResume};
 ghost use Rattle.pst_asking.specs.Asking.{AskRow};
 ghost use Rattle.pst_packing.specs.Packing.{PackRow};
+ghost use Rattle.pst_resuming.specs.Resuming.{ResumeRow, resumed_in};
 ghost use Rattle.pst_summary.specs.Bench.{BenchRow, bench_lines};
 ghost use Rattle.pst_samples.specs.declared.TheConstants.{RING};
 ghost use Rattle.pst_line.specs.Store.{IsEmpty};
@@ -25,6 +26,7 @@ use pst_judge::Page;
 use pst_line::calls::LineCalls;
 use pst_order::{Order, Walked};
 use pst_packing::pack_input;
+use pst_resuming::resume_input;
 use pst_samples::ring;
 use pst_serving::{print, serve, status_of};
 use pst_sessions::{Lining, Replaying, Running};
@@ -34,11 +36,16 @@ use std::alloc::Global;
 
 /// Does everything that the program does.
 ///
-/// The words are `run`, `replay`, `line`, `check`, `code` or `pack`, or `bench` and a number, or `dump` and a version, or `changed`, a version
-/// and a path.
+/// The words are `run`, `replay`, `line`, `check`, `code`, `pack` or `resume`, or `bench` and a number, or `dump` and a version, or `changed`,
+/// a version and a path.
 ///
 /// For `bench` nothing is read: the script of the bench with that number is carried out for the program of a ring, and a summary of
 /// what came of it is written as one piece.
+///
+/// For `resume` the input is an image, as `pack` writes it, and directly behind it a script. It is read to its end first, and the image is
+/// judged: one of which a rule fails is answered by the line `refused image RULE` alone, with the number of the first rule that does, from 0
+/// to 9, and the store stays as it was. Else the store becomes that of the image, and each line of the script is carried out and answered as
+/// for `run`, with the image as the opening.
 ///
 /// Otherwise the input up to its separator line, or to its end, is read first, and the program is judged: a refused one is answered
 /// by the line of its fault alone. For `check` its canonical text is written then, and for `code` the listing of its code. For `run`,
@@ -76,8 +83,11 @@ pub fn persist<S: Source, K: Sink, O: Walked + Drop, N: Listed, L: LineCalls>(
     // What packing has read and written, and what the store is left in: as after `run`, and its image.
     ensures packed { OnPack words.now (HasRow S.left source.old source.new K.taken sink.old sink.new (PackRow result (kept_in store.old store.new Job.Run) store.new)) }
 
-    // Only `run`, the bench, the questions and `pack` work over the store, and only `line` over the line store: every other word leaves them
-    // as they were handed in, whatever the source tells.
+    // What resuming has read and written, and what the store is left in: that of the image, after the script behind it.
+    ensures resumed { OnResume words.now (HasRow S.left source.old source.new K.taken sink.old sink.new (ResumeRow result (resumed_in store.old store.new))) }
+
+    // Only `run`, the bench, the questions, `pack` and `resume` work over the store, and only `line` over the line store: every other word
+    // leaves them as they were handed in, whatever the source tells.
     ensures tree { works_over_store (task_in words.now) ≡ false → store.new ≡ store.old }
     ensures line { (task_in words.now ≡ Some (Task.Input Job.Line) → ⊥) → line.new ≡ line.old }
 
@@ -101,6 +111,7 @@ pub fn persist<S: Source, K: Sink, O: Walked + Drop, N: Listed, L: LineCalls>(
         Some(Task::Ask(question)) => ask(alloc, question, path_in(words), source, sink, store),
         Some(Task::Bench(number)) => { bench(alloc, ring().as_bytes(), number, sink, store) }
         Some(Task::Pack) => pack_input(alloc, source, sink, store),
+        Some(Task::Resume) => resume_input(alloc, source, sink, store),
     }
 }
 
