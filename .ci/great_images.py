@@ -115,19 +115,20 @@ def in_no_order(count):
 
 # ---- pointers and their entries
 
+# How many places further on along a ring the records are that one holds.
+STRIDES = [1 + k * k * 37 for k in range(16)]
 KNOT = b'language 2\nrecord Knot 16 { ptr to: Knot * 16; }\n'
 
 
 def knots(length):
     """Each record has 16 pointers, and is held by 16, the last pointers in the first inverse slots."""
     count = (length - 256) // (NODE + 32 * NUMBER)
-    strides = [1 + k * k * 37 for k in range(16)]
 
     def node(k):
         if k == 0:
             return [0, 0, 0, 0, 3, 0, *ROOT_OF_NONE]
-        pointers = [(k - 1 + stride) % count + 2 for stride in strides]
-        entries = [((k - 1 - stride) % count + 2) * ENTRY + slot for slot, stride in enumerate(strides)]
+        pointers = [(k - 1 + stride) % count + 2 for stride in STRIDES]
+        entries = [((k - 1 - stride) % count + 2) * ENTRY + slot for slot, stride in enumerate(STRIDES)]
         return [1, k - 1, 1, 0, 3, 0, 32, *pointers, *reversed(entries), 0]
     return image(KNOT, 4, count + 1, node)
 
@@ -178,28 +179,31 @@ def stamped(length):
         yield coded([number for k in range(start, min(start + 65536, count)) for number in (0, k + 1, k)])
 
 
-RING = b"""record Link 3 { val key: int; ptr next: Link; ptr back: Link; }
+FULL = """language 2
+record Link {limit} {{ val key: int; ptr to: Link * {pointers}; }}
 root first: Link;
-proc set(n: int) {
+proc set(n: int) {{
   first.key = n;
-}
+}}
 """
 
 
-def full_ring(length):
-    """A ring of records whose nodes have as many stamped values as they may have, anywhere. A write splits one of them, which stamps its
-    neighbours, so that each of these is split, and so on."""
-    draw, last = random.Random('ring'), MOST_PLACES - 5
-    count = (length - 512) // (NODE + 6 * NUMBER + 10 * STAMPED)
+def full(length, strides):
+    """Records around a ring that hold those so many places further on, in nodes with as many stamped values as they may have, anywhere. A
+    write splits one of them, which stamps its neighbours, so that each of these is split, and so on."""
+    draw, last, pointers = random.Random('full'), MOST_PLACES - 5, len(strides)
+    room = 2 * (2 * pointers + 1)
+    count = (length - 512) // (NODE + (2 * pointers + 2) * NUMBER + room * STAMPED)
 
     def link(k):
         if k == 0:
             return [0, 0, 0, 0, last, 0, 2, 2, 0, 0]
-        next_one, last_one = k % count + 1, (k - 2) % count + 1
-        places = sorted(draw.sample(range(1, last), 10))
-        return [1, k, 1, 0, last, 0, 6, k, next_one + 1, last_one + 1, (last_one + 1) * ENTRY + 1, (next_one + 1) * ENTRY + 2,
-                ENTRY if k == 1 else 0, 10, *(number for place in places for number in (0, place, draw.randrange(U64)))]
-    return image(RING, last + 1, count + 1, link)
+        held = [(k - 1 + stride) % count + 2 for stride in strides]
+        entries = [((k - 1 - stride) % count + 2) * ENTRY + slot for slot, stride in enumerate(strides, 1)]
+        places = sorted(draw.sample(range(1, last), room))
+        return [1, k, 1, 0, last, 0, 2 * pointers + 2, k, *held, ENTRY if k == 1 else 0, *entries, room,
+                *(number for place in places for number in (0, place, draw.randrange(U64)))]
+    return image(FULL.format(limit=pointers + 1, pointers=pointers).encode(), last + 1, count + 1, link)
 
 
 # ---- counts at their ends
@@ -229,6 +233,7 @@ def refused(rule):
 
 
 ACCEPTED = 'stats\n', 0, [stats()]
+SPLIT = 'run 0 set 7\nstats\n', 0, ['version 1\n', stats(1)]
 # How much memory an image may take in MiB: 12 times its length. A text alone may take more.
 ROOM, TEXT_ROOM = 12 * 64, 32 * 64
 # What, how it is made for a number of bytes, the lines behind it, the status, the answer, and the memory.
@@ -246,6 +251,7 @@ GREAT = [
     ('an image of names that are all alike', lambda length: named(length, lambda k, count: (1, 7)), *refused(5), ROOM),
     ('an image of names that fall', lambda length: named(length, lambda k, count: (1, count - k)), *ACCEPTED, ROOM),
     ('an image of names that rise and fall', lambda length: named(length, lambda k, count: (1, min(2 * k, 2 * (count - k) + 1))), *ACCEPTED, ROOM),
-    ('an image of a ring, each node of which a write splits', full_ring, 'run 0 set 7\nstats\n', 0, ['version 1\n', stats(1)], ROOM),
+    ('an image of a ring, each node of which a write splits', lambda length: full(length, [1, -1]), *SPLIT, ROOM),
+    ('an image of records that hold 15, each node of which a write splits', lambda length: full(length, STRIDES[:15]), *SPLIT, ROOM),
     *((f'an image with {count} as the number of {place}', lambda length, place=place, count=count: counted(place, count, length), *refused(0), ROOM)
       for place, counts in COUNTS.items() for count in counts)]

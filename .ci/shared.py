@@ -3,6 +3,7 @@
 PERSIST names the program, where it is not the one built here.
 """
 import functools
+import glob
 import os
 import re
 import resource
@@ -334,3 +335,15 @@ def all_cases():
     """The cases of all files."""
     programs = {name: text_of(body, {}) for name, _, body in bodies_of('programs')}
     return [Case(file, name, at, body, programs) for file in case_files() for name, at, body in bodies_of(file)]
+
+
+def worked():
+    """Inputs with their names: those of the cases, of examples/ and of the documents."""
+    for case in all_cases():
+        if ['run'] in case.words and not case.wrong:
+            yield case.at, case.given
+    for path in sorted(glob.glob(f'{TOP}/examples/*.persist')):
+        yield path[len(TOP) + 1:], read(path[len(TOP) + 1:]).encode()
+    for page in ('README.md', 'docs/NOTATION.md'):
+        for number, body in enumerate(re.findall(r'^```run\n(.*?)^```$', read(page), re.S | re.M), 1):
+            yield f'{page}, input {number}', body.encode()
