@@ -43,7 +43,7 @@ pub struct Unpacked<O: Walked + Drop, N: Listed> {
 
 /// The program of which a text is the canonical one, or None where there is no such program.
 fn program_of_own_text(alloc: Global, text: &[u8]) -> Result<Option<Program>, NoMemory>
-    ensures found { IfOk result (λ found. MatchOption found (λ program. IsOwnText text.now (program_of program)) ((named : NamedProgram) → IsOwnText text.now named → ⊥)) }
+    ensures found { IfOk result (λ found. MatchOption found ((named : NamedProgram) → IsOwnText text.now named → ⊥) (λ program. IsOwnText text.now (program_of program))) }
     ensures typed { IfOk result (λ found. IfSome found (λ program. IsTyped (routines_of program))) }
 {
     if u32::MAX as usize <= text.len() {
