@@ -12,6 +12,7 @@ use Rattle.pst_form.proofs.Forms.{one_form}
 use Rattle.pst_image_rules.specs.declared.rule.Rule.{Rule}
 use Rattle.pst_image_rules.specs.declared.rule.Rule.TheVariants.{Form, Text, Ranges, Versions, Nodes, Chains, Pointers, Entries, Capacity, Bound}
 use Rattle.pst_image_rules.specs.Rules.{IsFirstFailed, IsJudged, Holds}
+use Rattle.pst_unpacked.specs.Laws.{NeverBothLaw}
 use Rattle.pst_unpacked.specs.Unpacked.{IsOwnText, IsAccepted, FailsLater, FailsIn, HasNoForm, FailsFirst}
 
 -- the program and the tree of a verdict, or others where it is refused
@@ -67,7 +68,7 @@ module _ (p : ImageParts) (named : NamedProgram) (own : IsOwnText p.text named) 
   none_fails Capacity f = no_later Capacity f
   none_fails Bound f = no_later Bound f
 
-pub never_both : (bytes : List ℕ) (p : ImageParts) (named : NamedProgram) (len : ℕ) (rule : Rule) → IsAccepted bytes p named len → FailsFirst bytes rule → ⊥
+pub never_both : NeverBothLaw
 never_both bytes p named len rule a f = ⊎_elim
     (λ (none : (rule ≡ Form) × HasNoForm bytes). none.1 p len a.form)
     (λ (some : (q : ImageParts) × (n : ℕ) × HasForm bytes q n × FailsIn q rule).

@@ -102,7 +102,6 @@ pub fn unpack<O: Walked + Drop, N: Listed>(
     ensures typed { IfOk result (λ u. IsTyped (routines_of u.program)) }
     ensures rested { IfOk result (λ u. queue_in u.store ≡ []) }
     ensures bad { (rule : Rule) → result ≡ Err (Bad rule) → FailsFirst bytes.now rule }
-    ensures accepts { (p : ImageParts) (named : NamedProgram) (length : ℕ) → IsAccepted bytes.now p named length → (rule : Rule) → result ≡ Err (Bad rule) → ⊥ }
 {
     let Image { parts, length } = image_at(alloc, bytes)?;
     let program = judged_program(alloc, &parts)?;
