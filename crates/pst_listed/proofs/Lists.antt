@@ -1,5 +1,5 @@
 -- Lists that grow by one at the end.
-use Rattle.std.proofs.Common.{◌≡◌, ℕ, zero, suc, ◌+◌, ◌<◌, List, [], ◌∷◌, ◌++◌, length, get_or, slice_get, Some, map, take, refl, sym, ap, ap₂, ◌∙◌, arith}
+use Rattle.std.proofs.Common.{◌≡◌, ℕ, zero, suc, ◌+◌, ◌<◌, ◌≤◌, List, [], ◌∷◌, ◌++◌, length, get_or, slice_get, Some, map, take, refl, sym, ap, ap₂, ◌∙◌, arith}
 use Rattle.std.proofs.lemmas.List.{map-append, map_more, take_more, length-take-le}
 use Rattle.pst_queue.specs.declared.links.Link.TheVariants.{Out}
 use Rattle.pst_nodes.specs.declared.node.Node.{Node}
@@ -19,16 +19,16 @@ listed-step n f xs ys x grown so_far is =
     grown ∙ ap (λ (zs : List _). zs ++ x ∷ []) so_far ∙ ap (λ z. listed n f ++ z ∷ []) is ∙ sym (listed-snoc n f) ∙ ap (λ k. listed k f) (let next : suc n ≡ n + 1 = omega arith in next)
 
 -- the contents of one slot more
-pub contents-snoc : (t : TypeShape) (g : ℕ) (ns : List ℕ) (n : ℕ) → contents_from t g (ns ++ n ∷ []) ≡ contents_from t g ns ++ content_of t (g + length ns) n ∷ []
-contents-snoc t g [] n = ap (λ k. content_of t k n ∷ []) (let p : g ≡ g + 0 = omega arith in p)
+contents-snoc : (t : TypeShape) (g : ℕ) (ns : List ℕ) (n : ℕ) → contents_from t g (ns ++ n ∷ []) ≡ contents_from t g ns ++ content_of t (g + length ns) n ∷ []
+contents-snoc t g [] n = ap (λ k. content_of t k n ∷ []) (let same : g ≡ g + 0 = omega arith in same)
 contents-snoc t g (m ∷ ns) n =
-    ap (λ cs. content_of t g m ∷ cs) (contents-snoc t (suc g) ns n ∙ ap (λ k. contents_from t (suc g) ns ++ content_of t k n ∷ []) (let p : suc g + length ns ≡ g + suc (length ns) = omega arith in p))
+    ap (λ cs. content_of t g m ∷ cs) (contents-snoc t (suc g) ns n ∙ ap (λ k. contents_from t (suc g) ns ++ content_of t k n ∷ []) (let same : suc g + length ns ≡ g + suc (length ns) = omega arith in same))
 
 -- so it is of a list that is made slot by slot
 pub contents-step : (t : TypeShape) (ns : List ℕ) (i : ℕ) (xs ys : List Content) (x : Content) → ys ≡ xs ++ x ∷ [] → i < length ns → xs ≡ contents_from t 0 (take i ns) → x ≡ content_of t i (get_or ns i 0) → ys ≡ contents_from t 0 (take (i + 1) ns)
 contents-step t ns i xs ys x grown l so_far is =
-    let many : length (take i ns) ≡ i = length-take-le i ns (omega (arith, l)) in
-    grown ∙ ap (λ (zs : List Content). zs ++ x ∷ []) so_far ∙ ap (λ z. contents_from t 0 (take i ns) ++ z ∷ []) (is ∙ ap (λ k. content_of t k (get_or ns i 0)) (sym many))
+    let many : i ≡ 0 + length (take i ns) = omega (arith, length-take-le i ns (let le : i ≤ length ns = omega (arith, l) in le)) in
+    grown ∙ ap (λ (zs : List Content). zs ++ x ∷ []) so_far ∙ ap (λ z. contents_from t 0 (take i ns) ++ z ∷ []) (is ∙ ap (λ k. content_of t k (get_or ns i 0)) many)
     ∙ sym (contents-snoc t 0 (take i ns) (get_or ns i 0)) ∙ ap (contents_from t 0) (sym (take_more ns i 0 l))
 
 pub there-at : {A : Type 0} (xs : List A) (i : ℕ) (x : A) → i < length xs → x ≡ get_or xs i x → slice_get xs i ≡ Some x

@@ -1,10 +1,9 @@
 -- A list of places that are named by their positions, and one more behind the last.
-use Rattle.std.proofs.Common.{◌≡◌, ◌≢◌, cond, ℕ, zero, suc, ◌<◌, ◌≤◌, List, [], ◌∷◌, ◌++◌, length, refl, sym, ap, ◌∙◌, subst, ⊎_elim, arith}
+use Rattle.std.proofs.Common.{◌≡◌, ◌≢◌, cond, ℕ, suc, ◌<◌, ◌≤◌, List, [], ◌∷◌, ◌++◌, length, refl, sym, ap, ◌∙◌, subst, ⊎_elim, arith}
 use Rattle.std.proofs.lemmas.Bool.{cases_eq, cases_lt, ne_eqb}
 use Rattle.std.proofs.lemmas.List.Edits.{insert_end}
 use Rattle.std.specs.List.{insert}
-use Rattle.pst_order.specs.Places.{rank, IsIn, AreNumbered, AreDistinct, AreBelow, IsInsertedAfter}
-use Rattle.pst_meaning.specs.Arena.{listed}
+use Rattle.pst_order.specs.Places.{rank, IsIn, AreNumbered, AreBelow, IsInsertedAfter}
 use Rattle.pst_meaning.proofs.RecordLaws.{length-listed}
 use Rattle.pst_denoted.specs.Denoted.{places_of}
 use Rattle.pst_denoted.proofs.Places.{rank-listed}

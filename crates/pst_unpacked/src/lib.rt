@@ -10,7 +10,7 @@
 #![tactic(auto)]
 
 mod fault;
-mod unpack;
+mod taking;
 
 pub use fault::ImageFault;
-pub use unpack::{Unpacked, unpack};
+pub use taking::{Unpacked, unpack};

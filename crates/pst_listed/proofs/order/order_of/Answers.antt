@@ -1,4 +1,4 @@
-use Rattle.std.proofs.Common.{◌≡◌, suc, ◌+◌, ap, sym, subst, ◌∙◌, arith, ℕ}
+use Rattle.std.proofs.Common.{◌≡◌, suc, ◌+◌, ap, sym, ◌∙◌, arith}
 use Rattle.pst_denoted.specs.Denoted.{places_of}
 use Rattle.pst_listed.proofs.Placing.{one_place, only_place, last_there, place_count, next_place}
 use Rattle.pst_listed.proofs.order.order_of.Goals as goal

@@ -3,4 +3,4 @@ use Rattle.pst_denoted.specs.Denoted.{relic_of as relic_in}
 use Rattle.pst_listed.proofs.records.relics_of.Given as goal
 
 abbrev pub invariant-loop-chain : goal.invariant-loop-chain
-invariant-loop-chain l = l.relics.items ≡ map (relic_in l.nodes) (take l.chain-index l.chains_of)
+invariant-loop-chain l = l.relics.items ≡ map (relic_in l.nodes) (take l.chain-index l.chain-items)

@@ -1,6 +1,5 @@
-use Rattle.std.proofs.Common.{◌≡◌, get_or}
+use Rattle.std.proofs.Common.{◌≡◌}
 use Rattle.pst_meaning.specs.Arena.{listed}
-use Rattle.pst_image_tree.specs.Versions.{version_at}
 use Rattle.pst_listed.specs.Listing.{row_in}
 use Rattle.pst_listed.proofs.versions.tree_of.Given as goal
 
