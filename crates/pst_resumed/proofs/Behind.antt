@@ -76,16 +76,16 @@ packed : (input image : List ℕ) → IsPacked input image → Packed input imag
 packed input image (old, new, left, (within, reads, (verdict, judged, w))) = packed_by input image old new verdict judged w
 
 module _ (input image : List ℕ) (k : Packed input image) where
-  history : History
+  abbrev history : History
   history = left_by (meaning k.named) (cut_of input).script
 
-  parts : ImageParts
+  abbrev parts : ImageParts
   parts = parts_of k.is.there (canonical k.syntax) (next_run history) history.budget
 
-  again : IsReadAgain k.syntax k.named
+  abbrev again : IsReadAgain k.syntax k.named
   again = canonical_law (cut_of input).text k.syntax k.named k.judged
 
-  programs : Programs input
+  abbrev programs : Programs input
   programs = record { syntax = k.syntax; named = k.named; judged = k.judged; read = again }
 
   -- its parts stand at the front of the image, whatever stands behind
@@ -104,6 +104,7 @@ module _ (input image : List ℕ) (k : Packed input image) where
   }
 
   opened : opening_in k.named.shape parts ≡ taken_up (meaning k.named) history
+  unfolding direct
   opened = is_taken_up (meaning k.named) k.store (canonical k.syntax) image history (script-start (meaning k.named) (cut_of input).script) k.left k.is
 
 pub accepted_law : PackedIsAcceptedLaw
@@ -112,7 +113,7 @@ accepted_law input image behind w short =
     record { programs = programs input image k; parts = parts input image k; accepted = is_accepted input image k behind (short k.syntax k.named k.judged); opening = opened input image k }
 
 pub never_refused_law : NeverRefusedLaw
-never_refused_law input image behind out w short (old, new, left, (reads, (rule, fails, written))) =
+never_refused_law input image behind out w short (old, new, left, (reads, (rule, fails, written, kept))) =
     let a = accepted_law input image behind w short in
     never_both (image ++ behind) a.parts a.programs.read.program (length image) rule a.accepted fails
 
@@ -148,9 +149,10 @@ resumed_law input image behind out w (old, new, left, (reads, a)) =
     let k = packed input image w in
     let p = parts input image k in
     let m = meaning k.named in
-    let read = again input image k in
-    let n = meaning read.program in
     let before = (cut_of input).script in
+    let go = program_goes_on_law (cut_of input).text k.syntax k.named before (lines_of behind) k.judged (valid (cut_of input).text k.syntax k.named k.judged) in
+    let read = go.read in
+    let n = meaning read.program in
     -- the image is that one, and the program too
     let (same, far) = one_form (image ++ behind) p a.image (length image) a.len (formed input image k behind) a.accepted.form in
     let own : Judged (canonical k.syntax) (Accepted a.accepted.text.syntax a.named) = subst (λ (q : ImageParts). Judged q.text (Accepted a.accepted.text.syntax a.named)) (sym same) a.accepted.text.judged in
@@ -163,10 +165,9 @@ resumed_law input image behind out w (old, new, left, (reads, a)) =
         (subst (λ (q : ImageParts). Answers read.program q (drop a.len (image ++ behind))) (sym same) (subst (λ (g : NamedProgram). Answers g a.image (drop a.len (image ++ behind))) (sym one) there)) in
     let opening : opening_in read.program.shape p ≡ taken_up m (left_by m before) = ap (λ (shape : List TypeShape). opening_in shape p) (sym read.alike.shape) ∙ opened input image k in
     -- and the script goes on
-    let go = program_goes_on_law (cut_of input).text k.syntax k.named before (lines_of behind) k.judged (valid (cut_of input).text k.syntax k.named k.judged) in
     let first : Meaning → Opening = λ x. taken_up m (left_by m before) in
     record {
-      programs = programs input image k;
+      programs = record { syntax = k.syntax; named = k.named; judged = k.judged; read = read };
       replies = here
           ∙ ap (λ (o : Opening). concat (pieces_from (script_of by_tree n) (begun o) (lines_of behind))) opening
           ∙ ap concat (pieces_same first n (lines_of behind) (begun (taken_up m (left_by m before))))

@@ -40,7 +40,9 @@ length-heaps m h = length-heaps_from m h.start.next_run h.runs h.start.heaps h.v
 
 same_descent : (v : Descent) (row : VersionRow Place) (r : ℕ → ℕ) → SameRow v row → descent_of (version_part r row) ≡ v
 same_descent v row r s =
-    ap (λ (n : RunNo). the (Descent) record { run = n; parent = row.parent }) s.run ∙ ap (λ (p : VersionNo). the (Descent) record { run = v.run; parent = p }) s.parent
+    let with_run : RunNo → Descent = λ n. record { run = n; parent = row.parent } in
+    let with_parent : VersionNo → Descent = λ p. record { run = v.run; parent = p } in
+    ap with_run s.run ∙ ap with_parent s.parent
 
 module _ (m : Meaning) (s : State Place NodeId) (h : History) (start : h.start ≡ opening m.shape) (holds : HoldsVersions m s h) (r : ℕ → ℕ) where
   one : length h.start.heaps ≡ 1
