@@ -12,14 +12,15 @@ use Rattle.pst_form.proofs.Forms.{one_form}
 use Rattle.pst_image_rules.specs.declared.rule.Rule.{Rule}
 use Rattle.pst_image_rules.specs.declared.rule.Rule.TheVariants.{Form, Text, Ranges, Versions, Nodes, Chains, Pointers, Entries, Capacity, Bound}
 use Rattle.pst_image_rules.specs.Rules.{IsFirstFailed, IsJudged, Holds}
+use Rattle.pst_unpacked.specs.Laws.{NeverBothLaw}
 use Rattle.pst_unpacked.specs.Unpacked.{IsOwnText, IsAccepted, FailsLater, FailsIn, HasNoForm, FailsFirst}
 
--- the program of a verdict, or another one where it is refused
-program_in : NamedProgram → Verdict → NamedProgram
+-- the program and the tree of a verdict, or others where it is refused
+abbrev program_in : NamedProgram → Verdict → NamedProgram
 program_in other (Accepted syntax named) = named
 program_in other (Refused fault) = other
 
-syntax_in : ProgramText → Verdict → ProgramText
+abbrev syntax_in : ProgramText → Verdict → ProgramText
 syntax_in other (Accepted syntax named) = syntax
 syntax_in other (Refused fault) = other
 
@@ -36,7 +37,7 @@ other_text text c s a h is differs b own = differs (is ∙ ap canonical (one_pro
 
 -- where a fault is found, there is no such program
 pub refused_text : (text : List ℕ) (v : Verdict) → Judged text v → ((s : ProgramText) (a : NamedProgram) → v ≡ Accepted s a → ⊥) → (b : NamedProgram) → IsOwnText text b → ⊥
-refused_text text v h no b own = no own.syntax b (one_verdict text v (Accepted own.syntax b) h own.judged)
+refused_text text v h never b own = never own.syntax b (one_verdict text v (Accepted own.syntax b) h own.judged)
 
 -- the first rule that fails, by its name
 pub failed : (p : ImageParts) (named : NamedProgram) (rule : Rule) → IsOwnText p.text named → IsFirstFailed named.shape p rule → FailsIn p rule
@@ -67,10 +68,10 @@ module _ (p : ImageParts) (named : NamedProgram) (own : IsOwnText p.text named) 
   none_fails Capacity f = no_later Capacity f
   none_fails Bound f = no_later Bound f
 
-pub never_both : (bytes : List ℕ) (p : ImageParts) (named : NamedProgram) (len : ℕ) (rule : Rule) → IsAccepted bytes p named len → FailsFirst bytes rule → ⊥
+pub never_both : NeverBothLaw
 never_both bytes p named len rule a f = ⊎_elim
     (λ (none : (rule ≡ Form) × HasNoForm bytes). none.1 p len a.form)
     (λ (some : (q : ImageParts) × (n : ℕ) × HasForm bytes q n × FailsIn q rule).
-    let same : p ≡ some.0 = (one_form bytes p some.0 len some.1.0 a.form some.1.1.0).0 in
-    none_fails p named a.text a.rules rule (subst (λ (q : ImageParts). FailsIn q rule) (sym same) some.1.1.1))
+    let same : p ≡ some.0 = (one_form bytes p some.0 len some.1 a.form some.2).0 in
+    none_fails p named a.text a.rules rule (subst (λ (q : ImageParts). FailsIn q rule) (sym same) some.3))
     f

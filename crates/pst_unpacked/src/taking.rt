@@ -43,7 +43,7 @@ pub struct Unpacked<O: Walked + Drop, N: Listed> {
 
 /// The program of which a text is the canonical one, or None where there is no such program.
 fn program_of_own_text(alloc: Global, text: &[u8]) -> Result<Option<Program>, NoMemory>
-    ensures found { IfOk result (λ found. MatchOption found (λ program. IsOwnText text.now (program_of program)) ((named : NamedProgram) → IsOwnText text.now named → ⊥)) }
+    ensures found { IfOk result (λ found. MatchOption found ((named : NamedProgram) → IsOwnText text.now named → ⊥) (λ program. IsOwnText text.now (program_of program))) }
     ensures typed { IfOk result (λ found. IfSome found (λ program. IsTyped (routines_of program))) }
 {
     if u32::MAX as usize <= text.len() {
@@ -102,7 +102,6 @@ pub fn unpack<O: Walked + Drop, N: Listed>(
     ensures typed { IfOk result (λ u. IsTyped (routines_of u.program)) }
     ensures rested { IfOk result (λ u. queue_in u.store ≡ []) }
     ensures bad { (rule : Rule) → result ≡ Err (Bad rule) → FailsFirst bytes.now rule }
-    ensures accepts { (p : ImageParts) (named : NamedProgram) (length : ℕ) → IsAccepted bytes.now p named length → (rule : Rule) → result ≡ Err (Bad rule) → ⊥ }
 {
     let Image { parts, length } = image_at(alloc, bytes)?;
     let program = judged_program(alloc, &parts)?;
