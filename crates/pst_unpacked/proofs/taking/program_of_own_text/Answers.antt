@@ -1,6 +1,6 @@
 use Rattle.std.proofs.Common.{◌≡◌, ◌∙◌, sym, ap, subst, ℕ, List}
 use Rattle.pst_judge.specs.Verdict.{Judged, Accepted}
-use Rattle.pst_notation.specs.Canonical.{canonical}
+use Rattle.pst_typing.specs.View.{program_of}
 use Rattle.pst_unpacked.proofs.Deciding.{other_text, refused_text}
 use Rattle.pst_unpacked.proofs.taking.program_of_own_text.Goals as goal
 
@@ -11,5 +11,5 @@ returns-in-Err-Fault-clause-found c named own =
 pub returns-clause-found : goal.returns-clause-found
 returns-clause-found c named own =
     let (syntax, judged, is) = c.in-Ok.ensures.verdict in
-    let here = subst (λ (t : List ℕ). Judged t (Accepted syntax _)) c.in_ok-from_slice.ensures.items judged in
-    other_text c.args.text.now _ syntax _ here is (λ e. c.is_same.ensures.differs c.if-is_same.false (c.as_slice.ensures ∙ e)) named own
+    let here = subst (λ (t : List ℕ). Judged t (Accepted syntax (program_of c.in-Ok.program))) c.in_ok-from_slice.ensures.items judged in
+    other_text c.args.text.now _ syntax (program_of c.in-Ok.program) here is (λ e. c.is_same.ensures.differs c.if-is_same.false (c.as_slice.ensures ∙ e)) named own
