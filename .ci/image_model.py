@@ -203,25 +203,41 @@ def coded(content):
 
 
 def fields_of(store):
+    """The numbers of a store's image by names, as `named` gives them."""
+    position = {place: k for k, place in enumerate(store.order)}
+    versions = []
+    for number in store.versions:
+        run = store.runs[number]
+        versions.append((run.parent, number, position[run.begin], position[run.end]))
+    nodes = []
+    for node in store.nodes:
+        head = *node.name, node.type, position[node.lo], position[node.hi], 0 if node.later is None else node.later + 1
+        stamped = [(slot, position[begin], coded(content)) for slot, row in enumerate(node.rows) for begin, content in row[1:]]
+        nodes.append((head, [coded(row[0][1]) for row in node.rows], stamped))
+    return named(store.text, (store.budget, len(store.runs), *store.counts.values(), len(store.order)), versions, nodes)
+
+
+def fields_in(image):
+    """The numbers of an image that was read."""
+    nodes = [((*it.name, it.type, it.lo, it.hi, 0 if it.later is None else it.later + 1), it.bases, it.stamped) for it in image.nodes]
+    return named(image.text, (image.budget, image.next_run, *image.counts, image.places), image.versions, nodes)
+
+
+def named(text, head, versions, nodes):
     """The numbers of an image by names, such as `budget`, `version 2 begin`, `node 0 base 1`, or `node 0 stamp 2` for that of the third
     stamped value of node 0."""
-    position = {place: k for k, place in enumerate(store.order)}
-    fields = {'length': len(store.text), 'budget': store.budget, 'next run': len(store.runs), **store.counts,
-              'places': len(store.order), 'versions': len(store.versions)}
-    for version, number in enumerate(store.versions):
-        run = store.runs[number]
-        told = {'parent': run.parent, 'run': number, 'begin': position[run.begin], 'end': position[run.end]}
-        fields.update((f'version {version} {name}', value) for name, value in told.items())
-    fields['nodes'] = len(store.nodes)
-    for x, node in enumerate(store.nodes):
-        told = {'run': node.name[0], 'ordinal': node.name[1], 'type': node.type, 'lo': position[node.lo], 'hi': position[node.hi],
-                'later': 0 if node.later is None else node.later + 1, 'slots': len(node.rows)}
-        told.update((f'base {slot}', coded(row[0][1])) for slot, row in enumerate(node.rows))
-        stamped = [(slot, position[begin], coded(content)) for slot, row in enumerate(node.rows) for begin, content in row[1:]]
-        told['stamped'] = len(stamped)
+    fields = {'length': len(text), **dict(zip(('budget', 'next run', 'records', 'pointers', 'values', 'places'), head)),
+              'versions': len(versions)}
+    for version, row in enumerate(versions):
+        fields.update((f'version {version} {name}', value) for name, value in zip(('parent', 'run', 'begin', 'end'), row))
+    fields['nodes'] = len(nodes)
+    for x, (told, bases, stamped) in enumerate(nodes):
+        fields.update((f'node {x} {name}', value) for name, value in zip(('run', 'ordinal', 'type', 'lo', 'hi', 'later'), told))
+        fields[f'node {x} slots'] = len(bases)
+        fields.update((f'node {x} base {slot}', base) for slot, base in enumerate(bases))
+        fields[f'node {x} stamped'] = len(stamped)
         for k, triple in enumerate(stamped):
-            told.update((f'{name} {k}', value) for name, value in zip(('slot', 'stamp', 'content'), triple))
-        fields.update((f'node {x} {name}', value) for name, value in told.items())
+            fields.update((f'node {x} {name} {k}', value) for name, value in zip(('slot', 'stamp', 'content'), triple))
     return fields
 
 

@@ -51,6 +51,7 @@ class Type:
         return self.targets[slot - self.values]
 
 
+@functools.lru_cache(maxsize=16)
 def types_of(text):
     """The types that a program in its canonical form declares: first that of the root record, then those of the records."""
     roots, records = [], []

@@ -3,6 +3,7 @@
 PERSIST names the program, where it is not the one built here.
 """
 import functools
+import glob
 import os
 import re
 import resource
@@ -174,11 +175,11 @@ def measured(words, given, taken, limit=0, by=None):
     return status, after.ru_utime - before.ru_utime + after.ru_stime - before.ru_stime, int(most) / 1024
 
 
-# ---- growths of memory that are refused
+# ---- growths of memory that are refused, and reads and writes that fail
 
 @functools.lru_cache(maxsize=None)
 def refuser():
-    """A folder with the library that refuses growths, built from refusing.c. It is there as long as the script runs."""
+    """A folder with the library that refuses growths and lets reads and writes fail, built from refusing.c. It is there as long as the script runs."""
     folder = tempfile.TemporaryDirectory(prefix='persist-')
     if subprocess.run(['gcc', '-O2', '-Wall', '-Wextra', '-shared', '-fPIC', '-o', f'{folder.name}/refusing.so',
                        f'{TOP}/.ci/refusing.c']).returncode != 0:
@@ -193,18 +194,23 @@ def need_gcc():
         sys.exit(0)
 
 
-def refusing(command, number, on=False, **how):
-    """Runs a program with this growth refused, and all later ones where that is asked for; with number 0 none is. Gives its status,
-    what it writes, and how many growths it asked for, or -1 where it did not tell."""
+def preloaded(command, settings, **how):
+    """Runs a program with the library, told by these settings. Gives its status, what it writes, and how many growths, reads and writes it
+    asked for, or -1 for each where it did not tell."""
     end, told = os.pipe()
-    env = {**os.environ, 'LD_PRELOAD': f'{refuser().name}/refusing.so', 'REFUSED': str(number), 'COUNTED': str(told)}
-    if on:
-        env['REFUSED_ON'] = '1'
+    env = {**os.environ, 'LD_PRELOAD': f'{refuser().name}/refusing.so', 'COUNTED': str(told), **{name: str(it) for name, it in settings.items()}}
     how.setdefault('stderr', subprocess.PIPE)
     run = subprocess.run(command, stdout=subprocess.PIPE, env=env, pass_fds=[told], **how)
     os.close(told)
     with os.fdopen(end) as counted:
-        return run.returncode, run.stdout, int(counted.read() or -1)
+        return run.returncode, run.stdout, [int(count) for count in counted.read().split() or 3 * [-1]]
+
+
+def refusing(command, number, on=False, **how):
+    """Runs a program with this growth refused, and all later ones where that is asked for; with number 0 none is. Gives its status,
+    what it writes, and how many growths it asked for."""
+    status, text, (growths, _, _) = preloaded(command, {'REFUSED': number, **({'REFUSED_ON': 1} if on else {})}, **how)
+    return status, text, growths
 
 
 # ---- the cases of crates/pst_cli_cases/data, written as its file `programs` says
@@ -329,3 +335,15 @@ def all_cases():
     """The cases of all files."""
     programs = {name: text_of(body, {}) for name, _, body in bodies_of('programs')}
     return [Case(file, name, at, body, programs) for file in case_files() for name, at, body in bodies_of(file)]
+
+
+def worked():
+    """Inputs with their names: those of the cases, of examples/ and of the documents."""
+    for case in all_cases():
+        if ['run'] in case.words and not case.wrong:
+            yield case.at, case.given
+    for path in sorted(glob.glob(f'{TOP}/examples/*.persist')):
+        yield path[len(TOP) + 1:], read(path[len(TOP) + 1:]).encode()
+    for page in ('README.md', 'docs/NOTATION.md'):
+        for number, body in enumerate(re.findall(r'^```run\n(.*?)^```$', read(page), re.S | re.M), 1):
+            yield f'{page}, input {number}', body.encode()

@@ -1,9 +1,9 @@
 -- What packing shows is what the store shows.
-use Rattle.std.proofs.Common.{◌≡◌, ℕ, ◌<◌, List, length, map, Option, Some, None, ap, arith, IfSome}
-use Rattle.std.specs.Prelude.{slice_get, IsSomeAnd, ◌^◌}
+use Rattle.std.proofs.Common.{◌≡◌, ℕ, ◌<◌, List, length, map, Option, Some, None, Result, Ok, Err, ap, arith, IfSome}
+use Rattle.std.specs.Prelude.{slice_get, IsSomeAnd, IfOk, ◌^◌}
 use Rattle.std.proofs.lemmas.List.{length-map}
 use Rattle.pst_order.specs.Places.{rank}
-use Rattle.pst_meaning.specs.Store.{Node, Stored, IsStore}
+use Rattle.pst_meaning.specs.Store.{Node, Stored, IsStore, arena}
 use Rattle.pst_image_rules.specs.Rules.{IsJudged}
 use Rattle.pst_store.specs.Whole.{IsSmall, nodes_in, state_in}
 use Rattle.pst_form.specs.Bytes.{FitsCounts}
@@ -12,6 +12,8 @@ use Rattle.pst_ruled.proofs.Narrow.{narrow_law}
 use Rattle.pst_ruled.specs.Parts.{parts_of}
 use Rattle.pst_ruled.specs.Left.{IsLeftStore, AreNumbers}
 use Rattle.pst_ruled.proofs.All.{rules_law}
+use Rattle.pst_denoted.specs.Denoted.{AreShort, arena_in}
+use Rattle.pst_denoted.proofs.Shown.{shown_denotes}
 use Rattle.pst_imaged.specs.Positions.{position_in, ArePositions}
 
 -- a table of positions is the rank
@@ -22,6 +24,13 @@ pub rules_hold : (o : Option Stored) (text : List ℕ) (next budget : ℕ) → I
     → IsSomeAnd o (λ s. IsJudged s.shape (parts_of s text next budget) None)
 rules_hold None text next budget h q left n = left
 rules_hold (Some s) text next budget h q left n = rules_law s text next budget h q.small left n
+
+-- what is packed denotes the nodes of the store
+pub denotes_its_nodes : {A E : Type 0} (r : Result A E) (o : Option Stored) (text : List ℕ) (next budget : ℕ) → IfSome o IsStore → IsSomeAnd o AreShort
+    → IfOk r (λ _. IsSomeAnd o (λ s. arena_in s.shape (parts_of s text next budget) ≡ arena s))
+denotes_its_nodes (Err e) o text next budget h short = tt
+denotes_its_nodes (Ok x) None text next budget h short = short
+denotes_its_nodes (Ok x) (Some s) text next budget h short = shown_denotes s text next budget h short
 
 -- the numbers in the nodes that are packed are small
 pub narrow_in : (o : Option Stored) (next : ℕ) → IfSome o IsStore → IsSomeAnd o (λ s. IsLeftStore s next) → (i : ℕ) (n : Node) → slice_get (nodes_in o) i ≡ Some n → IsNarrow n

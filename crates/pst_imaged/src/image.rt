@@ -1,12 +1,13 @@
 //! The image of a store.
 
 ghost use Rattle.std.specs.Prelude.{◌≡◌, [], IfOk, None, IsSomeAnd};
+ghost use Rattle.pst_meaning.specs.Store.{arena};
 ghost use Rattle.pst_store.specs.Whole.{queue_in};
 ghost use Rattle.pst_form.specs.Bytes.{Fits, image_bytes};
 ghost use Rattle.pst_image_rules.specs.Rules.{IsJudged};
 ghost use Rattle.pst_ruled.specs.Parts.{parts_of as shown_parts};
 ghost use Rattle.pst_ruled.specs.Left.{AreNumbers, IsLeftStore};
-ghost use Rattle.pst_denoted.specs.Denoted.{AreShort};
+ghost use Rattle.pst_denoted.specs.Denoted.{AreShort, arena_in};
 
 use crate::nodes::nodes_of;
 use crate::positions::{place_count, positions_of};
@@ -60,7 +61,7 @@ pub fn pack<O: Walked + Drop, N: Listed>(
     requires numbers { AreNumbers next_run.0 budget }
     ensures image { IfOk result (λ image. IsSomeAnd store.now (λ s. image ≡ image_bytes (shown_parts s text.now next_run.0 budget))) }
     ensures fits { IfOk result (λ _. IsSomeAnd store.now (λ s. Fits (shown_parts s text.now next_run.0 budget))) }
-    ensures short { IfOk result (λ _. IsSomeAnd store.now AreShort) }
+    ensures denotes { IfOk result (λ _. IsSomeAnd store.now (λ s. arena_in s.shape (shown_parts s text.now next_run.0 budget) ≡ arena s)) }
     ensures rules { IsSomeAnd store.now (λ s. IsJudged s.shape (shown_parts s text.now next_run.0 budget) None) }
 {
     store.whole();

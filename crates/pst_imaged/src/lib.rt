@@ -3,7 +3,7 @@
 //! Model: a store is the lists of `Stored` (`pst_meaning`), and an image is the bytes of its parts (`pst_form`, `pst_ruled`).
 //!
 //! Contract: `pack` gives the image of a store at rest that an engine left, with a text, the number of the next run and a budget. The
-//! image keeps all rules of one.
+//! image keeps all rules of one, and denotes the nodes of the store at each position (`pst_denoted`).
 //!
 //!     let image = pack(alloc, &store, text, session.next_run(), session.budget())?;
 #![tactic(auto)]

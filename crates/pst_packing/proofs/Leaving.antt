@@ -11,13 +11,15 @@ use Rattle.pst_active.specs.Stands.{machine_runs}
 use Rattle.pst_engine.specs.declared.engine.Engine.{Engine}
 use Rattle.pst_engine.specs.Stands.{EngineStands}
 use Rattle.pst_meaning.specs.declared.place.Place.{Place}
-use Rattle.pst_meaning.specs.Store.{Stored, IsStore}
+use Rattle.pst_meaning.specs.Arena.{Arena, heap_at}
+use Rattle.pst_meaning.specs.Store.{Stored, IsStore, arena, begin_of, state_of}
 use Rattle.pst_store.specs.Whole.{state_in}
 use Rattle.pst_form.specs.Bytes.{Fits, image_bytes}
 use Rattle.pst_image_rules.specs.Rules.{IsJudged}
 use Rattle.pst_ruled.specs.Parts.{parts_of}
 use Rattle.pst_ruled.specs.Left.{IsLeftStore, AreNumbers}
 use Rattle.pst_left.proofs.Left.{left_rules_law}
+use Rattle.pst_denoted.specs.Denoted.{arena_in}
 use Rattle.pst_packing.specs.Packing.{IsImage}
 
 module _ {H : Type 0} (m : Meaning) (parts : Parts) (engine : Engine H NodeId Place) (h : History) (start : h.start ≡ opening m.shape) where
@@ -46,9 +48,9 @@ module _ {H : Type 0} (m : Meaning) (parts : Parts) (engine : Engine H NodeId Pl
 
   pub imaged : (o : Option Stored) (next : RunNo) (budget : ℕ) (text image : List ℕ) → next ≡ engine.next_run → budget ≡ engine.budget → EngineStands m parts engine (state_in o) h
       → IsSomeAnd o (λ s. image ≡ image_bytes (parts_of s text next.0 budget)) → IsSomeAnd o (λ s. Fits (parts_of s text next.0 budget)) → IsSomeAnd o (λ s. IsJudged s.shape (parts_of s text next.0 budget) None)
-      → IsImage o text m.shape h image
-  imaged None next budget text image n c e b f j = absurd b
-  imaged (Some s) next budget text image n c e b f j =
+      → IsSomeAnd o (λ s. arena_in s.shape (parts_of s text next.0 budget) ≡ arena s) → IsImage o text m.shape h image
+  imaged None next budget text image n c e b f j d = absurd b
+  imaged (Some s) next budget text image n c e b f j d =
       let same_next : next.0 ≡ next_run h = ap (λ (r : RunNo). r.0) n ∙ e.same_next in
       let same_budget : budget ≡ h.budget = c ∙ e.same_budget in
       let P : ℕ → ℕ → Type 0 = λ n c. (image ≡ image_bytes (parts_of s text n c)) × Fits (parts_of s text n c) × IsJudged s.shape (parts_of s text n c) None in
@@ -59,4 +61,7 @@ module _ {H : Type 0} (m : Meaning) (parts : Parts) (engine : Engine H NodeId Pl
         bytes = all.0;
         fits = all.1;
         rules = subst (λ (shape : List TypeShape). IsJudged shape (parts_of s text (next_run h) h.budget) None) e.shape all.2;
+        denotes = λ p.
+            subst (λ (shape : List TypeShape). heap_at shape (arena_in shape (parts_of s text (next_run h) h.budget)) (begin_of s p) ≡ (state_of s).heap p) e.shape
+            (ap (λ (w : Arena). heap_at s.shape w (begin_of s p)) d);
       }

@@ -8,7 +8,8 @@ use Rattle.pst_io.specs.Lines.{LinesState}
 use Rattle.pst_history.specs.Meaning.{Meaning}
 use Rattle.pst_history.specs.History.{History, next_run}
 use Rattle.pst_history.specs.Direct.{direct}
-use Rattle.pst_meaning.specs.Store.{Stored}
+use Rattle.pst_meaning.specs.declared.place.Place.{Place}
+use Rattle.pst_meaning.specs.Store.{Stored, begin_of, state_of}
 use Rattle.pst_jobs.specs.declared.job.Job.TheVariants.{Run}
 use Rattle.pst_jobs.specs.declared.status.Status.{Status}
 use Rattle.pst_answers.specs.declared.stop.Stop.{Stop}
@@ -22,14 +23,17 @@ use Rattle.pst_asking.specs.Asking.{GivesAll, StopsAsking, OverRow, Over}
 use Rattle.pst_form.specs.Bytes.{Fits, image_bytes}
 use Rattle.pst_image_rules.specs.Rules.{IsJudged}
 use Rattle.pst_ruled.specs.Parts.{parts_of}
+use Rattle.pst_denoted.specs.Denoted.{heap_in}
 
--- The image of a store in a history, with a text: each number fits, and the rules hold for this shape.
+-- The image of a store in a history, with a text: each number fits, the rules hold for this shape, and where a place begins its nodes
+-- denote the heap that the store has there.
 pub record IsImage (store : Option Stored) (text : List ℕ) (shape : List TypeShape) (h : History) (image : List ℕ) : Type 0 where
   pub there : Stored
   pub is : store ≡ Some there
   pub bytes : image ≡ image_bytes (parts_of there text (next_run h) h.budget)
   pub fits : Fits (parts_of there text (next_run h) h.budget)
   pub rules : IsJudged shape (parts_of there text (next_run h) h.budget) None
+  pub denotes : (p : Place) → heap_in shape (parts_of there text (next_run h) h.budget) (begin_of there p) ≡ (state_of there).heap p
 
 -- these lines were carried out, and so much is written of the image with the program's canonical text
 abbrev pub Packs : Kept → Option Stored → (List ℕ → List ℕ → Type 0) → List (List ℕ) → Verdict → List ℕ → Type 0

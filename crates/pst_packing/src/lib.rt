@@ -5,7 +5,7 @@
 //!
 //! Contract: [`pack_input`] reads an input, carries its script out over a store as `run` does, writes no reply, and then writes the
 //! image of the store, with the program's canonical text, as one piece, or the line of the program's fault. The image keeps all rules
-//! of one. (This project's own form of keeping a store of fat nodes.)
+//! of one, and denotes the heaps of the store (`IsImage`). (This project's own form of keeping a store of fat nodes.)
 //!
 //!     let mut store: Store = Store::empty();
 //!     let status = pack_input(alloc, source, sink, &mut store);

@@ -1,2 +1,2 @@
 mod Taking
-mod Resuming
+mod Rows

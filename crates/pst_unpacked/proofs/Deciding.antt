@@ -1,5 +1,5 @@
 -- Of bytes one rule fails first, or all hold, and not both.
-use Rattle.std.proofs.Common.{◌≡◌, ℕ, List, None, refl, sym, ap, ◌∙◌, subst}
+use Rattle.std.proofs.Common.{◌≡◌, ℕ, ◌⊎◌, List, None, refl, sym, ap, ◌∙◌, subst, ⊎_elim}
 use Rattle.pst_tree.specs.Syntax.{ProgramText}
 use Rattle.pst_base.specs.declared.shape.TypeShape.{TypeShape}
 use Rattle.pst_typing.specs.Declarations.{NamedProgram}
@@ -11,15 +11,16 @@ use Rattle.pst_form.specs.Bytes.{HasForm}
 use Rattle.pst_form.proofs.Forms.{one_form}
 use Rattle.pst_image_rules.specs.declared.rule.Rule.{Rule}
 use Rattle.pst_image_rules.specs.declared.rule.Rule.TheVariants.{Form, Text, Ranges, Versions, Nodes, Chains, Pointers, Entries, Capacity, Bound}
-use Rattle.pst_image_rules.specs.Rules.{IsFirstFailed, Holds}
-use Rattle.pst_unpacked.specs.Unpacked.{IsOwnText, IsAccepted, FailsLater, HasOtherText, FailsFirst}
+use Rattle.pst_image_rules.specs.Rules.{IsFirstFailed, IsJudged, Holds}
+use Rattle.pst_unpacked.specs.Laws.{NeverBothLaw}
+use Rattle.pst_unpacked.specs.Unpacked.{IsOwnText, IsAccepted, FailsLater, FailsIn, HasNoForm, FailsFirst}
 
--- the program of a verdict, or another one where it is refused
-program_in : NamedProgram → Verdict → NamedProgram
+-- the program and the tree of a verdict, or others where it is refused
+abbrev program_in : NamedProgram → Verdict → NamedProgram
 program_in other (Accepted syntax named) = named
 program_in other (Refused fault) = other
 
-syntax_in : ProgramText → Verdict → ProgramText
+abbrev syntax_in : ProgramText → Verdict → ProgramText
 syntax_in other (Accepted syntax named) = syntax
 syntax_in other (Refused fault) = other
 
@@ -36,37 +37,41 @@ other_text text c s a h is differs b own = differs (is ∙ ap canonical (one_pro
 
 -- where a fault is found, there is no such program
 pub refused_text : (text : List ℕ) (v : Verdict) → Judged text v → ((s : ProgramText) (a : NamedProgram) → v ≡ Accepted s a → ⊥) → (b : NamedProgram) → IsOwnText text b → ⊥
-refused_text text v h no b own = no own.syntax b (one_verdict text v (Accepted own.syntax b) h own.judged)
+refused_text text v h never b own = never own.syntax b (one_verdict text v (Accepted own.syntax b) h own.judged)
 
-module _ (bytes : List ℕ) (p : ImageParts) (named : NamedProgram) (len : ℕ) where
-  pub failed : (rule : Rule) → HasForm bytes p len → IsOwnText p.text named → IsFirstFailed named.shape p rule → FailsFirst bytes rule
-  failed Form f t h = absurd (h.fails tt)
-  failed Text f t h = absurd (h.fails tt)
-  failed Ranges f t h = record { parts = p; named = named; len = len; form = f; text = t; first = h }
-  failed Versions f t h = record { parts = p; named = named; len = len; form = f; text = t; first = h }
-  failed Nodes f t h = record { parts = p; named = named; len = len; form = f; text = t; first = h }
-  failed Chains f t h = record { parts = p; named = named; len = len; form = f; text = t; first = h }
-  failed Pointers f t h = record { parts = p; named = named; len = len; form = f; text = t; first = h }
-  failed Entries f t h = record { parts = p; named = named; len = len; form = f; text = t; first = h }
-  failed Capacity f t h = record { parts = p; named = named; len = len; form = f; text = t; first = h }
-  failed Bound f t h = record { parts = p; named = named; len = len; form = f; text = t; first = h }
+-- the first rule that fails, by its name
+pub failed : (p : ImageParts) (named : NamedProgram) (rule : Rule) → IsOwnText p.text named → IsFirstFailed named.shape p rule → FailsIn p rule
+failed p named Form t h = absurd (h.fails tt)
+failed p named Text t h = absurd (h.fails tt)
+failed p named Ranges t h = record { named = named; text = t; first = h }
+failed p named Versions t h = record { named = named; text = t; first = h }
+failed p named Nodes t h = record { named = named; text = t; first = h }
+failed p named Chains t h = record { named = named; text = t; first = h }
+failed p named Pointers t h = record { named = named; text = t; first = h }
+failed p named Entries t h = record { named = named; text = t; first = h }
+failed p named Capacity t h = record { named = named; text = t; first = h }
+failed p named Bound t h = record { named = named; text = t; first = h }
 
-  no_later : (rule : Rule) → IsAccepted bytes p named len → FailsLater bytes rule → ⊥
-  no_later rule a f =
-      let same = (one_form bytes p f.parts len f.len a.form f.form).0 in
-      let own : IsOwnText f.parts.text named = subst (λ (q : ImageParts). IsOwnText q.text named) same a.text in
-      let one : named ≡ f.named = one_text f.parts.text named f.named own f.text in
-      let here : Holds named.shape f.parts rule = subst (λ (q : ImageParts). Holds named.shape q rule) same (a.rules rule) in
-      f.first.fails (subst (λ (n : NamedProgram). Holds n.shape f.parts rule) one here)
+module _ (p : ImageParts) (named : NamedProgram) (own : IsOwnText p.text named) (rules : IsJudged named.shape p None) where
+  no_later : (rule : Rule) → FailsLater p rule → ⊥
+  no_later rule f = f.first.fails (subst (λ (n : NamedProgram). Holds n.shape p rule) (one_text p.text named f.named own f.text) (rules rule))
 
-  pub never_both : (rule : Rule) → IsAccepted bytes p named len → FailsFirst bytes rule → ⊥
-  never_both Form a f = f p len a.form
-  never_both Text a f = f.other named (subst (λ (q : ImageParts). IsOwnText q.text named) (one_form bytes p f.parts len f.len a.form f.form).0 a.text)
-  never_both Ranges a f = no_later Ranges a f
-  never_both Versions a f = no_later Versions a f
-  never_both Nodes a f = no_later Nodes a f
-  never_both Chains a f = no_later Chains a f
-  never_both Pointers a f = no_later Pointers a f
-  never_both Entries a f = no_later Entries a f
-  never_both Capacity a f = no_later Capacity a f
-  never_both Bound a f = no_later Bound a f
+  none_fails : (rule : Rule) → FailsIn p rule → ⊥
+  none_fails Form f = f
+  none_fails Text f = f named own
+  none_fails Ranges f = no_later Ranges f
+  none_fails Versions f = no_later Versions f
+  none_fails Nodes f = no_later Nodes f
+  none_fails Chains f = no_later Chains f
+  none_fails Pointers f = no_later Pointers f
+  none_fails Entries f = no_later Entries f
+  none_fails Capacity f = no_later Capacity f
+  none_fails Bound f = no_later Bound f
+
+pub never_both : NeverBothLaw
+never_both bytes p named len rule a f = ⊎_elim
+    (λ (none : (rule ≡ Form) × HasNoForm bytes). none.1 p len a.form)
+    (λ (some : (q : ImageParts) × (n : ℕ) × HasForm bytes q n × FailsIn q rule).
+    let same : p ≡ some.0 = (one_form bytes p some.0 len some.1 a.form some.2).0 in
+    none_fails p named a.text a.rules rule (subst (λ (q : ImageParts). FailsIn q rule) (sym same) some.3))
+    f

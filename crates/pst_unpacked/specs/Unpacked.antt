@@ -1,5 +1,5 @@
 -- When bytes begin with an image that keeps all rules, and which rule fails first where they don't.
-use Rattle.std.specs.Prelude.{◌≡◌, ℕ, ◌<◌, List, length, None}
+use Rattle.std.specs.Prelude.{◌≡◌, ℕ, ◌<◌, ◌⊎◌, List, length, None}
 use Rattle.pst_base.specs.declared.names.RunNo.{RunNo}
 use Rattle.pst_program.specs.declared.program.Program.{Program}
 use Rattle.pst_typing.specs.View.{program_of}
@@ -32,31 +32,29 @@ pub record Tells (program : Program) (next_run : RunNo) (budget len : ℕ) (byte
   pub next_run_is : next_run ≡ p.next_run
   pub budget_is : budget ≡ p.budget
 
--- the bytes begin with an image whose text is its own, and this is the first rule that fails
-pub record FailsLater (bytes : List ℕ) (rule : Rule) : Type 0 where
-  pub parts : ImageParts
+-- the text of these parts is its own, and this is the first rule that fails
+pub record FailsLater (p : ImageParts) (rule : Rule) : Type 0 where
   pub named : NamedProgram
-  pub len : ℕ
-  pub form : HasForm bytes parts len
-  pub text : IsOwnText parts.text named
-  pub first : IsFirstFailed named.shape parts rule
+  pub text : IsOwnText p.text named
+  pub first : IsFirstFailed named.shape p rule
 
--- the bytes begin with an image whose text is no accepted program's own
-pub record HasOtherText (bytes : List ℕ) : Type 0 where
-  pub parts : ImageParts
-  pub len : ℕ
-  pub form : HasForm bytes parts len
-  pub other : (named : NamedProgram) → IsOwnText parts.text named → ⊥
+-- the first rule that fails of the parts of an image, which have the form of one
+abbrev pub FailsIn : ImageParts → Rule → Type 0
+FailsIn p Form = ⊥
+FailsIn p Text = (named : NamedProgram) → IsOwnText p.text named → ⊥
+FailsIn p Ranges = FailsLater p Ranges
+FailsIn p Versions = FailsLater p Versions
+FailsIn p Nodes = FailsLater p Nodes
+FailsIn p Chains = FailsLater p Chains
+FailsIn p Pointers = FailsLater p Pointers
+FailsIn p Entries = FailsLater p Entries
+FailsIn p Capacity = FailsLater p Capacity
+FailsIn p Bound = FailsLater p Bound
 
--- the first rule that fails of these bytes
+-- the bytes do not begin with an image
+abbrev pub HasNoForm : List ℕ → Type 0
+HasNoForm bytes = (p : ImageParts) (len : ℕ) → HasForm bytes p len → ⊥
+
+-- The first rule that fails of bytes: they do not begin with an image, or with one of whose parts this rule fails first.
 abbrev pub FailsFirst : List ℕ → Rule → Type 0
-FailsFirst bytes Form = (p : ImageParts) (len : ℕ) → HasForm bytes p len → ⊥
-FailsFirst bytes Text = HasOtherText bytes
-FailsFirst bytes Ranges = FailsLater bytes Ranges
-FailsFirst bytes Versions = FailsLater bytes Versions
-FailsFirst bytes Nodes = FailsLater bytes Nodes
-FailsFirst bytes Chains = FailsLater bytes Chains
-FailsFirst bytes Pointers = FailsLater bytes Pointers
-FailsFirst bytes Entries = FailsLater bytes Entries
-FailsFirst bytes Capacity = FailsLater bytes Capacity
-FailsFirst bytes Bound = FailsLater bytes Bound
+FailsFirst bytes rule = ((rule ≡ Form) × HasNoForm bytes) ⊎ ((p : ImageParts) × (len : ℕ) × HasForm bytes p len × FailsIn p rule)

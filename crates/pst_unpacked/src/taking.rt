@@ -1,21 +1,23 @@
 //! Images taken.
 
-ghost use Rattle.std.specs.Prelude.{◌≡◌, ℕ, [], Err, IfOk, IfSome, IsSomeAnd, MatchOption};
+ghost use Rattle.std.specs.Prelude.{◌≡◌, ℕ, ◌<◌, ◌^◌, [], Err, IfOk, IfSome, IsSomeAnd, MatchOption, None, length};
 ghost use Rattle.pst_store.specs.Whole.{queue_in};
 ghost use Rattle.pst_program.specs.View.{routines_of};
 ghost use Rattle.pst_program.specs.Typed.{IsTyped};
 ghost use Rattle.pst_typing.specs.View.{program_of};
 ghost use Rattle.pst_typing.specs.Declarations.{NamedProgram};
 ghost use Rattle.pst_form.specs.declared.parts.ImageParts.{ImageParts};
+ghost use Rattle.pst_form.specs.Bytes.{HasForm};
 ghost use Rattle.pst_image_rules.specs.declared.rule.Rule.{Rule};
+ghost use Rattle.pst_image_rules.specs.Rules.{IsJudged};
 ghost use Rattle.pst_made.specs.Made.{IsRebuilt};
 ghost use Rattle.pst_unpacked.specs.declared.fault.ImageFault.TheVariants.{Bad};
-ghost use Rattle.pst_unpacked.specs.Unpacked.{IsOwnText, IsAccepted, Tells, FailsFirst};
+ghost use Rattle.pst_unpacked.specs.Unpacked.{IsOwnText, IsAccepted, Tells, FailsIn, FailsFirst};
 
 use crate::fault::ImageFault;
 use pst_arena::Listed;
 use pst_base::{NoMemory, RunNo};
-use pst_form::{FormFault, read_image};
+use pst_form::{FormFault, Image, ImageParts, read_image};
 use pst_image_rules::{Rule, first_failed};
 use pst_judge::{NoProgram, canonical_program};
 use pst_order::Walked;
@@ -41,7 +43,7 @@ pub struct Unpacked<O: Walked + Drop, N: Listed> {
 
 /// The program of which a text is the canonical one, or None where there is no such program.
 fn program_of_own_text(alloc: Global, text: &[u8]) -> Result<Option<Program>, NoMemory>
-    ensures found { IfOk result (λ found. MatchOption found (λ program. IsOwnText text.now (program_of program)) ((named : NamedProgram) → IsOwnText text.now named → ⊥)) }
+    ensures found { IfOk result (λ found. MatchOption found ((named : NamedProgram) → IsOwnText text.now named → ⊥) (λ program. IsOwnText text.now (program_of program))) }
     ensures typed { IfOk result (λ found. IfSome found (λ program. IsTyped (routines_of program))) }
 {
     if u32::MAX as usize <= text.len() {
@@ -60,6 +62,35 @@ fn program_of_own_text(alloc: Global, text: &[u8]) -> Result<Option<Program>, No
     }
 }
 
+/// The image at the front of the bytes.
+fn image_at(alloc: Global, bytes: &[u8]) -> Result<Image, ImageFault>
+    ensures form { IfOk result (λ image. HasForm bytes.now image.parts image.length) }
+    ensures bad { (rule : Rule) → result ≡ Err (Bad rule) → FailsFirst bytes.now rule }
+{
+    match read_image(alloc, bytes) {
+        Ok(image) => Ok(image),
+        Err(FormFault::Form) => Err(ImageFault::Bad(Rule::Form)),
+        Err(FormFault::Memory) => Err(ImageFault::Memory),
+    }
+}
+
+/// The program of the parts of an image, where all rules hold.
+fn judged_program(alloc: Global, parts: &ImageParts) -> Result<Program, ImageFault>
+    requires few { length parts.now.versions < 2 ^ 32 }
+    ensures text { IfOk result (λ program. IsOwnText parts.now.text (program_of program)) }
+    ensures rules { IfOk result (λ program. IsJudged program.shape parts.now None) }
+    ensures typed { IfOk result (λ program. IsTyped (routines_of program)) }
+    ensures bad { (rule : Rule) → result ≡ Err (Bad rule) → FailsIn parts.now rule }
+{
+    let Some(program) = program_of_own_text(alloc, parts.text.as_slice())? else {
+        return Err(ImageFault::Bad(Rule::Text));
+    };
+    match first_failed(alloc, &program.shape, parts)? {
+        Some(rule) => Err(ImageFault::Bad(rule)),
+        None => Ok(program),
+    }
+}
+
 /// Takes the image at the front of the bytes; others may follow it.
 ///
 /// `Bad` comes exactly where a rule fails, with the first one that does. It takes the time of the rules and that by the image's length.
@@ -71,25 +102,14 @@ pub fn unpack<O: Walked + Drop, N: Listed>(
     ensures typed { IfOk result (λ u. IsTyped (routines_of u.program)) }
     ensures rested { IfOk result (λ u. queue_in u.store ≡ []) }
     ensures bad { (rule : Rule) → result ≡ Err (Bad rule) → FailsFirst bytes.now rule }
-    ensures accepts { (p : ImageParts) (named : NamedProgram) (length : ℕ) → IsAccepted bytes.now p named length → (rule : Rule) → result ≡ Err (Bad rule) → ⊥ }
 {
-    let image = match read_image(alloc, bytes) {
-        Ok(image) => image,
-        Err(FormFault::Form) => return Err(ImageFault::Bad(Rule::Form)),
-        Err(FormFault::Memory) => return Err(ImageFault::Memory),
-    };
-    let parts = &image.parts;
-    let Some(program) = program_of_own_text(alloc, parts.text.as_slice())? else {
-        return Err(ImageFault::Bad(Rule::Text));
-    };
-    if let Some(rule) = first_failed(alloc, &program.shape, parts)? {
-        return Err(ImageFault::Bad(rule));
-    }
+    let Image { parts, length } = image_at(alloc, bytes)?;
+    let program = judged_program(alloc, &parts)?;
     Ok(Unpacked {
-        store: rebuild(alloc, &program.shape, parts)?,
+        store: rebuild(alloc, &program.shape, &parts)?,
         program,
         next_run: parts.next_run,
         budget: parts.budget,
-        length: image.length,
+        length,
     })
 }

@@ -54,7 +54,7 @@ returns-in-Ok-pack-clause-found g c =
       all,
       left,
       imaged m _ c.carry_script.new.session.engine h (script-start m lines) c.carry_script.new.held c.next_run.result c.budget.result c.args.text.now c.in-Ok-pack.image c.next_run.ensures c.budget.ensures now.stands
-          c.in-Ok-pack.ensures.image c.in-Ok-pack.ensures.fits c.pack.ensures.rules,
+          c.in-Ok-pack.ensures.image c.in-Ok-pack.ensures.fits c.pack.ensures.rules c.in-Ok-pack.ensures.denotes,
     )
 
 pub returns-clause-found : goal.returns-clause-found

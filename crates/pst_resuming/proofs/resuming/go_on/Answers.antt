@@ -10,7 +10,7 @@ use Rattle.pst_sessions.proofs.Keeping.{meaning_shape}
 use Rattle.pst_image_rules.specs.declared.rule.Rule.TheVariants.{Ranges}
 use Rattle.pst_resuming.specs.Resuming.{resumed_in}
 use Rattle.pst_resuming.proofs.Taking.{opens_in, opening_is}
-use Rattle.pst_resuming.proofs.Resuming.{behind, script_stops}
+use Rattle.pst_resuming.proofs.Rows.{behind, script_stops}
 use Rattle.pst_resuming.proofs.resuming.go_on.Goals as goal
 
 pub over-requires-clause-next : goal.over-requires-clause-next

@@ -1,5 +1,5 @@
 use Rattle.std.proofs.Common.{◌∙◌}
-use Rattle.pst_resuming.proofs.Resuming.{line_stopped}
+use Rattle.pst_resuming.proofs.Rows.{line_stopped}
 use Rattle.pst_resuming.proofs.resuming.refuse_image.Goals as goal
 
 pub returns-clause-refused : goal.returns-clause-refused

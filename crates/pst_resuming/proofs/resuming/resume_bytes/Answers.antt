@@ -1,7 +1,7 @@
 use Rattle.std.proofs.Common.{refl, sym, ap, ◌∙◌, inl, [], Err}
 use Rattle.std.proofs.KnownBytes.{Appends-nil}
 use Rattle.pst_resuming.specs.Resuming.{resumed_in}
-use Rattle.pst_resuming.proofs.Resuming.{line_resumes}
+use Rattle.pst_resuming.proofs.Rows.{line_resumes}
 use Rattle.pst_resuming.proofs.resuming.resume_bytes.Goals as goal
 
 pub returns-in-Err-Memory-clause-resumed : goal.returns-in-Err-Memory-clause-resumed

@@ -1,6 +1,6 @@
 use Rattle.std.proofs.Common.{ap, Err, refl}
 use Rattle.pst_resuming.specs.Resuming.{resumed_in}
-use Rattle.pst_resuming.proofs.Resuming.{unread, read_whole, never_read, never_usage}
+use Rattle.pst_resuming.proofs.Rows.{unread, read_whole, never_read, never_usage}
 use Rattle.pst_resuming.proofs.resuming.resume_input.Goals as goal
 
 pub returns-in-Err-clause-resumed : goal.returns-in-Err-clause-resumed
