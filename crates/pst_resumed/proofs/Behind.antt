@@ -2,7 +2,6 @@
 use Rattle.std.proofs.Common.{◌≡◌, ℕ, ◌<◌, List, [], ◌∷◌, ◌++◌, drop, length, Option, Some, None, Result, Ok, Err, refl, sym, ap, ◌∙◌, subst}
 use Rattle.std.specs.Option.{option_to_list}
 use Rattle.std.specs.List.{concat}
-use Rattle.std.proofs.lemmas.List.{drop-append-le}
 use Rattle.std.proofs.Math.Seq.{drop-append_seam}
 use Rattle.pst_base.specs.declared.shape.TypeShape.{TypeShape}
 use Rattle.pst_base.specs.Shape.{IsValid}
@@ -34,16 +33,15 @@ use Rattle.pst_image_rules.specs.Rules.{IsJudged}
 use Rattle.pst_ruled.specs.Parts.{parts_of}
 use Rattle.pst_lineless.specs.Laws.{IsReadAgain}
 use Rattle.pst_lineless.proofs.Canonical.{canonical_law}
-use Rattle.pst_goes_on.specs.TakenUp.{taken_up, all_dropped}
-use Rattle.pst_goes_on.specs.Laws.{left_by, replies_on}
+use Rattle.pst_goes_on.specs.TakenUp.{taken_up}
+use Rattle.pst_goes_on.specs.Laws.{left_by}
 use Rattle.pst_goes_on.proofs.Scripts.{program_goes_on_law}
-use Rattle.pst_unpacked.specs.Unpacked.{IsOwnText, IsAccepted}
+use Rattle.pst_unpacked.specs.Unpacked.{IsAccepted}
 use Rattle.pst_unpacked.proofs.Deciding.{one_program, never_both}
 use Rattle.pst_packing.specs.Packing.{IsImage, PacksWhole}
 use Rattle.pst_packing.proofs.Starts.{script-start}
 use Rattle.pst_resuming.specs.Opening.{opening_in}
-use Rattle.pst_resuming.specs.Resuming.{AnswersBehind, resumed_in}
-use Rattle.pst_resumed.specs.Laws.{IsPacked, HasShortText, Programs, PackedIsAcceptedLaw, ResumedLaw, NeverRefusedLaw}
+use Rattle.pst_resumed.specs.Laws.{IsPacked, Programs, PackedIsAcceptedLaw, ResumedLaw, NeverRefusedLaw}
 use Rattle.pst_resumed.proofs.Openings.{is_taken_up}
 
 -- ---- what was packed
@@ -110,7 +108,7 @@ module _ (input image : List ℕ) (k : Packed input image) where
 pub accepted_law : PackedIsAcceptedLaw
 accepted_law input image behind w short =
     let k = packed input image w in
-    record { programs = programs input image k; parts = parts input image k; accepted = is_accepted input image k behind (short k.syntax k.named k.judged); opening = opened input image k }
+    record { programs = programs input image k; parts = parts input image k; accepted = is_accepted input image k behind (short k.syntax k.named k.judged); opening = ap (λ (shape : List TypeShape). opening_in shape (parts input image k)) (sym (again input image k).alike.shape) ∙ opened input image k }
 
 pub never_refused_law : NeverRefusedLaw
 never_refused_law input image behind out w short (old, new, left, (reads, (rule, fails, written, kept))) =
@@ -161,8 +159,8 @@ resumed_law input image behind out w (old, new, left, (reads, a)) =
     let Answers : NamedProgram → ImageParts → List ℕ → Type 0 = λ g q b. out ≡ concat (pieces_from (script_of by_tree (meaning g)) (begun (opening_in g.shape q)) (lines_of b)) in
     let there : Answers a.named a.image (drop a.len (image ++ behind)) = a.answered.0 in
     let here : Answers read.program p behind =
-        subst (λ (b : List ℕ). Answers read.program p b) (ap (λ (l : ℕ). drop l (image ++ behind)) (sym far) ∙ drop-append_seam image behind)
-        (subst (λ (q : ImageParts). Answers read.program q (drop a.len (image ++ behind))) (sym same) (subst (λ (g : NamedProgram). Answers g a.image (drop a.len (image ++ behind))) (sym one) there)) in
+    subst (λ (b : List ℕ). Answers read.program p b) (ap (λ (l : ℕ). drop l (image ++ behind)) (sym far) ∙ drop-append_seam image behind)
+    (subst (λ (q : ImageParts). Answers read.program q (drop a.len (image ++ behind))) (sym same) (subst (λ (g : NamedProgram). Answers g a.image (drop a.len (image ++ behind))) (sym one) there)) in
     let opening : opening_in read.program.shape p ≡ taken_up m (left_by m before) = ap (λ (shape : List TypeShape). opening_in shape p) (sym read.alike.shape) ∙ opened input image k in
     -- and the script goes on
     let first : Meaning → Opening = λ x. taken_up m (left_by m before) in

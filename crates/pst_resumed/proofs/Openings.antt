@@ -1,5 +1,5 @@
 -- The image of a store in a history is the opening that is taken up from that history.
-use Rattle.std.proofs.Common.{◌≡◌, ℕ, ◌+◌, zero, suc, List, [], ◌∷◌, ◌++◌, map, drop, length, Option, Some, slice_get, refl, sym, ap, ◌∙◌, subst, arith}
+use Rattle.std.proofs.Common.{◌≡◌, ℕ, suc, List, [], ◌∷◌, ◌++◌, map, drop, length, Option, Some, slice_get, refl, sym, ap, ◌∙◌, subst, arith}
 use Rattle.std.proofs.lemmas.Option.{get_or_from_slice_get}
 use Rattle.pst_base.specs.declared.names.RunNo.{RunNo}
 use Rattle.pst_base.specs.declared.names.VersionNo.{VersionNo}
@@ -14,7 +14,7 @@ use Rattle.pst_history.specs.History.{History, Opening, opening, next_run, heaps
 use Rattle.pst_history.proofs.Heaps.{length-heaps_from}
 use Rattle.pst_active.specs.Stands.{HoldsVersions, SameRow}
 use Rattle.pst_meaning.specs.declared.place.Place.{Place}
-use Rattle.pst_meaning.specs.Store.{Stored, begin_of, state_of}
+use Rattle.pst_meaning.specs.Store.{Stored, state_of}
 use Rattle.pst_order.specs.Places.{rank}
 use Rattle.pst_store.specs.Whole.{state_in}
 use Rattle.pst_sessions.specs.Storing.{IsLeft}
@@ -52,7 +52,7 @@ module _ (m : Meaning) (s : State Place NodeId) (h : History) (start : h.start �
   descents [] e = absurd (let many = holds.many in let l = ap length e in let o = one in omega arith)
   descents (first ∷ rows) e = mapped descent_of (version_part r) rows h.versions (let many = holds.many in let l = ap length e in let o = one in omega arith) (λ i row v at found.
       same_descent v row r (holds.rows i v row found (
-        subst (λ (n : ℕ). slice_get s.versions n ≡ Some row) (let o = one in omega arith) (subst (λ (rs : List (VersionRow Place)). slice_get rs (suc i) ≡ Some row) (sym e) at)
+      subst (λ (n : ℕ). slice_get s.versions n ≡ Some row) (let o = one in omega arith) (subst (λ (rs : List (VersionRow Place)). slice_get rs (suc i) ≡ Some row) (sym e) at)
       )))
 
   heaps : (denoted : ℕ → Heap) → ((p : Place) → denoted (r p.begin.0) ≡ s.heap p) → map (λ (v : VersionPart). denoted v.begin) (map (version_part r) s.versions) ≡ heaps_of m h

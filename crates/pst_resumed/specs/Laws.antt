@@ -58,7 +58,7 @@ pub record IsAcceptedBefore (input image behind : List ℕ) : Type 0 where
   pub accepted : IsAccepted (image ++ behind) parts programs.read.program (length image)
   pub opening :
       let m = direct (routines_in programs.named) in
-      opening_in programs.named.shape parts ≡ taken_up m (left_by m (cut_of input).script)
+      opening_in programs.read.program.shape parts ≡ taken_up m (left_by m (cut_of input).script)
 
 -- What is written are the replies to the script behind, under the program read again, after the script of the input, of which the open
 -- runs are dropped.
