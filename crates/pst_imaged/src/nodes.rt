@@ -72,7 +72,7 @@ fn bases_of(alloc: Global, row: &Row) -> Result<Items<u64>, NoMemory>
     ensures fits { IfOk result (AllByRecursion Fits64) }
     ensures short { IfOk result (λ _. (g : ℕ) → g < length (shown row.now).slots → IsShortContent (base_in (shown row.now) g)) }
 {
-    let mut bases = Vec::new(alloc);
+    let mut bases = Vec::with_capacity(alloc, row.width())?;
     for slot in 0..row.width() {
         bases.push(content_number(row.base(SlotNo(slot as u16))))?;
     }
@@ -88,7 +88,7 @@ fn stamps_of(alloc: Global, row: &Row, positions: &[u32]) -> Result<Items<StampP
     ensures count { IfOk result (λ stamps. length stamps < 2 ^ 64) }
     ensures short { IfOk result (λ _. (k : ℕ) → k < length (shown row.now).stamps → IsShortContent (get_or (shown row.now).stamps k no_stamp).content) }
 {
-    let mut stamps = Vec::new(alloc);
+    let mut stamps = Vec::with_capacity(alloc, row.stamps().len())?;
     for stamp in row.stamps() {
         stamps.push(stamp_part(*stamp, positions))?;
     }
@@ -134,7 +134,7 @@ pub fn nodes_of(
     ensures fits { IfOk result (AllByRecursion FitsNode) }
     ensures short { IfOk result (λ _. (i : ℕ) (n : Seen) → slice_get (seen nodes.now.list.items) i ≡ Some n → IsShort n) }
 {
-    let mut parts = Vec::new(alloc);
+    let mut parts = Vec::with_capacity(alloc, nodes.list.len())?;
     for node in &nodes.list {
         parts.push(node_part(alloc, node, positions)?)?;
     }

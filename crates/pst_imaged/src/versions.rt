@@ -48,7 +48,7 @@ pub fn versions_of<O: Order + Drop, N: FatNodes>(
     ensures parts { IfOk result (λ parts. parts ≡ map (part_of_version (position_in positions.now)) (state_in store.now).versions) }
     ensures fits { IfOk result (AllByRecursion FitsVersion) }
 {
-    let mut parts = Vec::new(alloc);
+    let mut parts = Vec::with_capacity(alloc, store.count() as usize)?;
     for version in 0..store.count() {
         parts.push(version_part(store, VersionNo(version), positions))?;
     }
