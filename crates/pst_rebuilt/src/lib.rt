@@ -9,6 +9,6 @@
 //!     let store: Store = rebuild(alloc, &program.shape, &parts)?;
 #![tactic(auto)]
 
-mod rebuild;
+mod building;
 
-pub use rebuild::rebuild;
+pub use building::rebuild;

@@ -1,5 +1,5 @@
 -- Which row of the table holds.
-use Rattle.std.proofs.Common.{◌≡◌, ℕ, ◌≤◌, inl, inr, List, [], ◌++◌, length, drop, refl, sym, ap, ◌∙◌, subst, arith, Option, None, Some, Result, Ok, Err, append-nil}
+use Rattle.std.proofs.Common.{◌≡◌, ℕ, ◌≤◌, inl, inr, List, [], ◌++◌, length, drop, refl, sym, ap, ◌∙◌, subst, arith, Option, None, Some, Result, Err, append-nil}
 use Rattle.std.specs.Prelude.{IfSome}
 use Rattle.std.specs.Io.KnownBytes.{Appends}
 use Rattle.std.proofs.KnownBytes.{Appends-nil}
@@ -73,7 +73,7 @@ script_stops stop.TooLong k input out w = absurd w.answered
 stopped : (k : Resumed) (s : Stop) (c : InputState) (input : List ℕ) (left : Option (List ℕ)) (lines : List (List ℕ)) → k.untouched → (s ≡ stop.Write → ⊥) → GivesUntil s fresh (Some input) c left lines → bytes_read c ≤ MOST_INPUT
     → ResumeRow (status_of s) k input left []
 stopped k stop.Read c input left lines same unwritten g most = ((refl, same), some_read c input left lines g.0 most)
-stopped k stop.TooLong c input left lines same unwritten g most = let long = long_row (λ o. Unit {0}) c input left lines g.0 g.1 tt in ((refl, same), long.0, long.1.0)
+stopped k stop.TooLong c input left lines same unwritten g most = let long = long_row (λ o. Unit {0}) c input left lines g.0 g.1 tt in ((refl, same), long.0, long.1)
 stopped k stop.Write c input left lines same unwritten g most = absurd (unwritten refl)
 stopped k stop.Memory c input left lines same unwritten g most = inl ((refl, same), some_read c input left lines g.0 most)
 
@@ -119,22 +119,3 @@ read_whole k status a b None left' sink sink' bytes new h few w = tt
 read_whole k status a b (Some input) left' sink sink' bytes new h few (out, written, w) =
     let all = whole b input left' bytes (subst (λ v. HandsAll v (Some input) b left' bytes) new h) few in
     (out, written, row status k input left' out all.read (subst (λ l. Resumes status k l out) all.same w))
-
--- an input that was read to its end fails no further read
-pub never_read : (status : Status) (k : Resumed) (input out : List ℕ) → Resumes status k input out → status ≡ ReadFault → ⊥
-never_read ReadFault k input out never e = never
-never_read Done k input out w e = cc
-never_read Refused k input out w e = cc
-never_read WriteFault k input out w e = cc
-never_read Memory k input out w e = cc
-never_read TooLong k input out w e = cc
-never_read Usage k input out w e = cc
-
-pub never_usage : (status : Status) (k : Resumed) (input out : List ℕ) → Resumes status k input out → status ≡ Usage → ⊥
-never_usage Usage k input out never e = never
-never_usage Done k input out w e = cc
-never_usage Refused k input out w e = cc
-never_usage WriteFault k input out w e = cc
-never_usage Memory k input out w e = cc
-never_usage TooLong k input out w e = cc
-never_usage ReadFault k input out w e = cc

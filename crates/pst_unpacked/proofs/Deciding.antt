@@ -1,10 +1,13 @@
 -- Of bytes one rule fails first, or all hold, and not both.
-use Rattle.std.proofs.Common.{◌≡◌, ℕ, ◌⊎◌, List, None, refl, sym, ap, ◌∙◌, subst, ⊎_elim}
+use Rattle.std.proofs.Common.{◌≡◌, ℕ, ◌⊎◌, List, None, Result, Ok, Err, refl, sym, ap, ◌∙◌, subst, ⊎_elim}
 use Rattle.pst_tree.specs.Syntax.{ProgramText}
 use Rattle.pst_base.specs.declared.shape.TypeShape.{TypeShape}
 use Rattle.pst_typing.specs.Declarations.{NamedProgram}
 use Rattle.pst_notation.specs.Canonical.{canonical}
-use Rattle.pst_judge.specs.Verdict.{Verdict, Judged, Accepted, Refused}
+use Rattle.pst_judge.specs.declared.fault.Fault.{Fault}
+use Rattle.pst_judge.specs.declared.judge.NoProgram.{NoProgram}
+use Rattle.pst_judge.specs.declared.judge.NoProgram.TheVariants.{Fault as TheFault}
+use Rattle.pst_judge.specs.Verdict.{Verdict, Judged, Accepted, Refused, IsNoProgram, IsAccepted as WasAccepted}
 use Rattle.pst_judge.proofs.Verdicts.{one_verdict}
 use Rattle.pst_form.specs.declared.parts.ImageParts.{ImageParts}
 use Rattle.pst_form.specs.Bytes.{HasForm}
@@ -12,6 +15,8 @@ use Rattle.pst_form.proofs.Forms.{one_form}
 use Rattle.pst_image_rules.specs.declared.rule.Rule.{Rule}
 use Rattle.pst_image_rules.specs.declared.rule.Rule.TheVariants.{Form, Text, Ranges, Versions, Nodes, Chains, Pointers, Entries, Capacity, Bound}
 use Rattle.pst_image_rules.specs.Rules.{IsFirstFailed, IsJudged, Holds}
+use Rattle.pst_unpacked.specs.declared.fault.ImageFault.{ImageFault}
+use Rattle.pst_unpacked.specs.declared.fault.ImageFault.TheVariants.{Bad, Memory}
 use Rattle.pst_unpacked.specs.Laws.{NeverBothLaw}
 use Rattle.pst_unpacked.specs.Unpacked.{IsOwnText, IsAccepted, FailsLater, FailsIn, HasNoForm, FailsFirst}
 
@@ -36,8 +41,19 @@ pub other_text : (text canonical_text : List ℕ) (s : ProgramText) (a : NamedPr
 other_text text c s a h is differs b own = differs (is ∙ ap canonical (one_program text s own.syntax a b h own.judged).1 ∙ own.own)
 
 -- where a fault is found, there is no such program
-pub refused_text : (text : List ℕ) (v : Verdict) → Judged text v → ((s : ProgramText) (a : NamedProgram) → v ≡ Accepted s a → ⊥) → (b : NamedProgram) → IsOwnText text b → ⊥
-refused_text text v h never b own = never own.syntax b (one_verdict text v (Accepted own.syntax b) h own.judged)
+pub refused_text : (text given : List ℕ) (why : NoProgram) (fault : Fault) → given ≡ text → why ≡ TheFault fault → IsNoProgram given why → (b : NamedProgram) → IsOwnText text b → ⊥
+refused_text text given why fault same is none b own =
+    let here : Judged text (Refused fault) = subst (λ (t : List ℕ). Judged t (Refused fault)) same (subst (IsNoProgram given) is none) in
+    subst WasAccepted (one_verdict text (Accepted own.syntax b) (Refused fault) own.judged here) tt
+
+-- the name of the rule of an answer
+abbrev rule_in : {A : Type 0} → Result A ImageFault → Rule
+rule_in (Ok a) = Form
+rule_in (Err (Bad rule)) = rule
+rule_in (Err Memory) = Form
+
+pub same_rule : {A : Type 0} (p : ImageParts) (one other : Rule) (a b : Result A ImageFault) → a ≡ Err (Bad one) → b ≡ Err (Bad other) → FailsIn p one → a ≡ b → FailsIn p other
+same_rule p one other a b is_a is_b h e = subst (FailsIn p) (ap rule_in (sym is_a ∙ e ∙ is_b)) h
 
 -- the first rule that fails, by its name
 pub failed : (p : ImageParts) (named : NamedProgram) (rule : Rule) → IsOwnText p.text named → IsFirstFailed named.shape p rule → FailsIn p rule

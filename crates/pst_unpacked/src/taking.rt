@@ -1,6 +1,6 @@
 //! Images taken.
 
-ghost use Rattle.std.specs.Prelude.{◌≡◌, ℕ, ◌<◌, ◌^◌, [], Err, IfOk, IfSome, IsSomeAnd, MatchOption, None, length};
+ghost use Rattle.std.specs.Prelude.{◌≡◌, ℕ, ◌<◌, ◌^◌, [], Err, IfOk, IfSome, IsSomeAnd, MatchOption, None, length, true, false};
 ghost use Rattle.pst_store.specs.Whole.{queue_in};
 ghost use Rattle.pst_program.specs.View.{routines_of};
 ghost use Rattle.pst_program.specs.Typed.{IsTyped};
@@ -41,6 +41,14 @@ pub struct Unpacked<O: Walked + Drop, N: Listed> {
     pub length: usize,
 }
 
+/// Whether two texts are the same.
+fn is_same(one: &[u8], other: &[u8]) -> bool
+    ensures same { result ≡ true → one.now ≡ other.now }
+    ensures differs { result ≡ false → one.now ≡ other.now → ⊥ }
+{
+    one == other
+}
+
 /// The program of which a text is the canonical one, or None where there is no such program.
 fn program_of_own_text(alloc: Global, text: &[u8]) -> Result<Option<Program>, NoMemory>
     ensures found { IfOk result (λ found. MatchOption found ((named : NamedProgram) → IsOwnText text.now named → ⊥) (λ program. IsOwnText text.now (program_of program))) }
@@ -53,7 +61,7 @@ fn program_of_own_text(alloc: Global, text: &[u8]) -> Result<Option<Program>, No
         Err(NoProgram::Memory) => Err(NoMemory),
         Err(NoProgram::Fault(_)) => Ok(None),
         Ok((canonical, program)) => {
-            if canonical.as_slice() == text {
+            if is_same(canonical.as_slice(), text) {
                 Ok(Some(program))
             } else {
                 Ok(None)

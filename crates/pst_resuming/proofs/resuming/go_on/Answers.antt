@@ -58,7 +58,7 @@ returns-clause-resumed g c =
     let m = meaning_of u.program in
     let o = opening_of (state_in u.store) u.next_run.0 u.budget in
     let k = resumed_in c.args.store.now c.answer_text.new.held in
-    let s = c.in-Err-answer_text.stop in
+    let s = c.in-Err.stop in
     let same = opening_is u.program.shape p u.store u.next_run u.budget tells.next_run_is tells.budget_is is c.whole.ensures.store in
-    let (out, written, w) = c.in-Err-answer_text.ensures.answered m (begun o) c.in-Ok.ensures.stands in
+    let (out, written, w) = c.in-Err.ensures.answered m (begun o) c.in-Ok.ensures.stands in
     (out, written, rw c.status_of.ensures (script_stops s k c.args.bytes.now out (behind k (Err s) c.args.bytes.now out p u.program u.length o (take_rest c.args.bytes.now u.length) tells.accepted same w)))

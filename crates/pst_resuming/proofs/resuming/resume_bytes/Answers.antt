@@ -1,4 +1,4 @@
-use Rattle.std.proofs.Common.{refl, sym, ap, ◌∙◌, inl, [], Err}
+use Rattle.std.proofs.Common.{refl, ap, inl, [], Err}
 use Rattle.std.proofs.KnownBytes.{Appends-nil}
 use Rattle.pst_resuming.specs.Resuming.{resumed_in}
 use Rattle.pst_resuming.proofs.Rows.{line_resumes}

@@ -1,6 +1,6 @@
 use Rattle.std.proofs.Common.{ap, Err, refl}
 use Rattle.pst_resuming.specs.Resuming.{resumed_in}
-use Rattle.pst_resuming.proofs.Rows.{unread, read_whole, never_read, never_usage}
+use Rattle.pst_resuming.proofs.Rows.{unread, read_whole}
 use Rattle.pst_resuming.proofs.resuming.resume_input.Goals as goal
 
 pub returns-in-Err-clause-resumed : goal.returns-in-Err-clause-resumed
@@ -14,4 +14,4 @@ pub returns-clause-resumed : goal.returns-clause-resumed
 returns-clause-resumed g c =
     let r = c.in-Ok.ensures in
     read_whole (resumed_in c.args.store.now c.resume_bytes.new.store) c.resume_bytes.result c.new-lines.result.input c.read_all.new.lines.input _ _ _ _ c.in-Ok.bytes.items (ap (λ s. s.input) c.new-lines.ensures) r.whole r.few
-    c.resume_bytes.ensures.resumed
+    (rw c.as_slice.ensures.value at c.resume_bytes.ensures.resumed)

@@ -33,19 +33,22 @@ fn parts_of<O: Walked + Drop, N: Listed>(
     let versions = parts.versions.as_slice();
     let by_run = order_of_runs(alloc, versions, parts.next_run.0)?;
     let places = places_of(alloc, versions, &by_run)?;
+    let tree = tree_of(alloc, versions, &places)?;
     let forks = forks_of(alloc, versions, &places, &by_run)?;
     let calls = by_run.len() as u32;
+    let relics = relics_of(alloc, parts.nodes.as_slice())?;
     let order: O = order_of(alloc, parts.places)?;
-    let nodes = nodes_of(alloc, shape, parts.nodes.as_slice())?;
+    let list = nodes_of(alloc, shape, parts.nodes.as_slice())?;
+    let nodes = N::of_list(alloc, shape, &order, list)?;
     Ok(Parts {
         shape: shape.copy(alloc)?,
-        nodes: N::of_list(alloc, shape, &order, nodes)?,
         order,
+        nodes,
         start: places[0],
-        versions: tree_of(alloc, versions, &places)?,
+        versions: tree,
         forks,
         calls,
-        relics: relics_of(alloc, parts.nodes.as_slice())?,
+        relics,
         // Each run before the next one took a number. Those without a version left no fork.
         spent: parts.next_run.0 - 1 - calls,
         counts: parts.counts,
