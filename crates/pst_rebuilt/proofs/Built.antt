@@ -12,6 +12,7 @@ use Rattle.pst_meaning.specs.Store.{Node, Noted, Stored, arena, end_of, IsStore,
 use Rattle.pst_meaning.proofs.Places.{slice_get-below}
 use Rattle.pst_arena.specs.Calls.{AreNodes as AreArenaNodes, AreWaiting, IsOverFull, arena_at}
 use Rattle.pst_started.specs.Calls.{AreCounted, IsKept}
+use Rattle.pst_form.specs.declared.parts.VersionPart.{VersionPart}
 use Rattle.pst_form.specs.declared.parts.NodePart.{NodePart}
 use Rattle.pst_form.specs.declared.parts.ImageParts.{ImageParts}
 use Rattle.pst_form.specs.Bytes.{Fits, FitsNode}
@@ -28,7 +29,7 @@ use Rattle.pst_made.proofs.Lists.{all_at}
 use Rattle.pst_made.proofs.Given.{given}
 use Rattle.pst_made.proofs.Bounds.{small}
 use Rattle.pst_made.proofs.Rebuilt.{made_is_store, made_is_rebuilt}
-use Rattle.pst_listed.specs.Listing.{HasFew, AreFew, HaveParents, no_place, rows_in, forks_in}
+use Rattle.pst_listed.specs.Listing.{HasFew, AreFew, HasNumbers, HaveParents, no_place, places_in, rows_in, forks_in}
 use Rattle.pst_rebuilt.proofs.Counting.{few}
 use Rattle.pst_rebuilt.proofs.Forks.{have_parents, AreListed, start_is, versions_back, first_is, forks_are}
 
@@ -82,6 +83,18 @@ module _ (shape : List TypeShape) (p : ImageParts) (valid : IsValid shape) (fits
 
   pub are_few : AreFew shape p.nodes
   are_few i k e = subst (HasFew shape) (get_or_from_slice_get p.nodes i k no_node e) (has_few i (slice_get-below p.nodes i k e))
+
+  -- the lists, as they were made of slices
+  pub listed : (vs : List VersionPart) (by_run slice : List ℕ) (places : List Place) → vs ≡ p.versions → slice ≡ by_run → IsOrderOfRuns vs by_run
+      → (numbers : List ℕ) × HasNumbers (length vs) slice numbers × (places ≡ places_in vs numbers) → AreListed p.versions p.places p.next_run.0 by_run places
+  listed vs by_run slice places e d order found = record {
+    some = range.some_version;
+    nested = nested;
+    order = subst (λ (vs : List VersionPart). IsOrderOfRuns vs by_run) e order;
+    numbers = found.0;
+    has = subst (λ (vs : List VersionPart). HasNumbers (length vs) by_run found.0) e (subst (λ (r : List ℕ). HasNumbers (length vs) r found.0) d found.1);
+    places_are = found.2 ∙ ap (λ (vs : List VersionPart). places_in vs found.0) e;
+  }
 
   module _ (by_run : List ℕ) (places : List Place) (h : AreListed p.versions p.places p.next_run.0 by_run places) (chains : List Chain) (are : AreChains p.nodes chains) where
     -- the store, with what is noted beside its nodes

@@ -25,6 +25,12 @@ turned f zero g (y ∷ ys) d e h = absurd (omega (arith, e))
 turned f (suc n) g [] d e h = absurd (omega (arith, e))
 turned f (suc n) g (y ∷ ys) d e h = ap₂ (λ z zs. z ∷ zs) (h 0 (omega arith)) (turned f n (λ k. g (suc k)) ys d (omega (arith, e)) (λ k l. h (suc k) (omega (arith, l))))
 
+-- what stands in a list does not hang on what stands past its end
+pub any_default : {A : Type 0} (xs : List A) (k : ℕ) (a b : A) → k < length xs → get_or xs k a ≡ get_or xs k b
+any_default [] k a b l = absurd (omega arith)
+any_default (x ∷ xs) zero a b l = refl
+any_default (x ∷ xs) (suc k) a b l = any_default xs k a b (omega (arith, l))
+
 -- versions that are nested have parents of lower numbers
 pub have_parents : (vs : List VersionPart) (end next : ℕ) → 0 < length vs → AreNested vs end next → HaveParents vs
 have_parents vs end next some n = record {
