@@ -1,8 +1,7 @@
 -- What is made of the parts of an image that keep the rules is a store, and the one that they tell of.
-use Rattle.std.proofs.Common.{◌≡◌, ℕ, ◌+◌, ◌-◌, ◌*◌, ◌<◌, ◌≤◌, ◌^◌, List, [], length, get_or, map, Some, refl, sym, ap, ◌∙◌, subst, arith}
-use Rattle.std.specs.Prelude.{slice_get, None}
+use Rattle.std.proofs.Common.{◌≡◌, ℕ, ◌-◌, ◌<◌, ◌^◌, List, [], length, get_or, map, refl, sym, ap, ◌∙◌, subst, arith}
+use Rattle.std.specs.Prelude.{None}
 use Rattle.std.proofs.lemmas.Option.{get_or_from_slice_get}
-use Rattle.pst_base.specs.declared.names.Counts.{Counts}
 use Rattle.pst_base.specs.declared.shape.TypeShape.{TypeShape}
 use Rattle.pst_base.specs.Name.{root_name}
 use Rattle.pst_base.specs.Shape.{IsValid}
@@ -13,10 +12,9 @@ use Rattle.pst_meaning.proofs.Places.{slice_get-below}
 use Rattle.pst_arena.specs.Calls.{AreNodes as AreArenaNodes, AreWaiting, IsOverFull, arena_at}
 use Rattle.pst_started.specs.Calls.{AreCounted, IsKept}
 use Rattle.pst_form.specs.declared.parts.VersionPart.{VersionPart}
-use Rattle.pst_form.specs.declared.parts.NodePart.{NodePart}
 use Rattle.pst_form.specs.declared.parts.ImageParts.{ImageParts}
 use Rattle.pst_form.specs.Bytes.{Fits, FitsNode}
-use Rattle.pst_image_tree.specs.Versions.{IsInRange, AreInside, HaveOwnRuns, AreNested, IsOrderOfRuns}
+use Rattle.pst_image_tree.specs.Versions.{IsInRange, AreNested, IsOrderOfRuns}
 use Rattle.pst_image_nodes.specs.Nodes.{no_node, node_at, AreNodes}
 use Rattle.pst_image_nodes.specs.Chains.{HaveLives, EndBelow, AreInChains, AreChained, AreChains}
 use Rattle.pst_image_nodes.specs.declared.ends.Chain.{Chain}

@@ -1,9 +1,7 @@
 -- The order of runs has each version after 0, and each once: so it is as long as there are such versions.
-use Rattle.std.proofs.Common.{◌≡◌, ℕ, zero, suc, ◌+◌, ◌-◌, ◌<◌, ◌≤◌, List, length, get_or, ap, ◌∙◌, sym, subst, ⊎_elim, true, false, arith}
+use Rattle.std.proofs.Common.{◌≡◌, ℕ, zero, suc, ◌+◌, ◌-◌, ◌<◌, ◌≤◌, List, length, get_or, ap, ◌∙◌, sym, subst, ⊎_elim, arith}
 use Rattle.std.specs.Prelude.{nat_eq}
-use Rattle.std.specs.Bool.{Decides}
 use Rattle.std.specs.List.{Contains, IsDistinct}
-use Rattle.std.specs.Set.{is_member}
 use Rattle.std.proofs.lemmas.Bool.{cases_lt, ne_eqb}
 use Rattle.std.proofs.lemmas.Bool.Decides.{Decides-eqb}
 use Rattle.std.proofs.lemmas.Cmp.{nat_eq_equiv}
@@ -13,7 +11,7 @@ use Rattle.std.proofs.lemmas.Map.Made.{length-le_from_is_member, is_member-Decid
 use Rattle.pst_meaning.specs.Arena.{listed}
 use Rattle.pst_meaning.proofs.RecordLaws.{length-listed, get_or-listed}
 use Rattle.pst_form.specs.declared.parts.VersionPart.{VersionPart}
-use Rattle.pst_image_tree.specs.Versions.{run_of, IsFurther, AreInside, IsOrderOfRuns}
+use Rattle.pst_image_tree.specs.Versions.{run_of, AreInside, IsOrderOfRuns}
 use Rattle.pst_listed.specs.Listing.{AreOfVersions}
 
 -- ---- numbers in lists

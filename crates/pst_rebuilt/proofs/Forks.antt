@@ -1,5 +1,5 @@
 -- The versions and forks of a store are those of an image where they are listed by it.
-use Rattle.std.proofs.Common.{◌≡◌, ℕ, zero, suc, ◌-◌, ◌<◌, ◌≤◌, List, [], ◌∷◌, length, get_or, map, Some, refl, sym, ap, ap₂, ◌∙◌, true, arith}
+use Rattle.std.proofs.Common.{◌≡◌, ℕ, zero, suc, ◌-◌, ◌<◌, List, [], ◌∷◌, length, get_or, map, Some, refl, sym, ap, ap₂, ◌∙◌, arith}
 use Rattle.std.specs.Prelude.{slice_get}
 use Rattle.std.proofs.lemmas.Grind.{get_or_default_zero}
 use Rattle.std.proofs.lemmas.List.{length-map}
@@ -12,7 +12,7 @@ use Rattle.pst_meaning.specs.Store.{Stored}
 use Rattle.pst_meaning.proofs.Places.{slice_get-below, slice_get-map, slice_get-mapped}
 use Rattle.pst_meaning.proofs.RecordLaws.{length-listed, get_or-listed}
 use Rattle.pst_form.specs.declared.parts.VersionPart.{VersionPart}
-use Rattle.pst_image_tree.specs.Versions.{no_version, version_at, parent_of, run_of, IsFurther, IsOrderOfRuns, AreNested}
+use Rattle.pst_image_tree.specs.Versions.{no_version, version_at, parent_of, IsOrderOfRuns, AreNested}
 use Rattle.pst_ruled.specs.Parts.{version_part}
 use Rattle.pst_taken.specs.Forks.{IsForkFor, HasFork, AreForksOfVersions}
 use Rattle.pst_listed.specs.Listing.{HasNumbers, HaveParents, place_in, places_in, no_place, row_in, rows_in, fork_in, forks_in}

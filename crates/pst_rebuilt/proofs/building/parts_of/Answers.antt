@@ -1,4 +1,4 @@
-use Rattle.std.proofs.Common.{◌≡◌, ℕ, ◌+◌, ◌-◌, ◌<◌, ◌≤◌, ◌^◌, List, length, get_or, map, refl, sym, ap, ◌∙◌, subst, arith}
+use Rattle.std.proofs.Common.{◌≡◌, ◌-◌, ◌<◌, ◌^◌, List, length, get_or, map, sym, ap, ◌∙◌, subst, arith}
 use Rattle.pst_meaning.proofs.RecordLaws.{length-listed}
 use Rattle.pst_joint.proofs.SeenLemmas.{seen_count}
 use Rattle.pst_meaning.specs.declared.place.Place.{Place}
@@ -6,13 +6,12 @@ use Rattle.pst_form.specs.declared.parts.VersionPart.{VersionPart}
 use Rattle.pst_form.specs.declared.parts.NodePart.{NodePart}
 use Rattle.pst_image_tree.specs.Versions.{AreInside, HaveOwnRuns}
 use Rattle.pst_image_nodes.specs.Chains.{AreChains, AreInChains, HaveLives, EndBelow}
-use Rattle.pst_image_nodes.specs.declared.ends.Chain.{Chain}
 use Rattle.pst_denoted.specs.Denoted.{nodes_of, relic_of}
 use Rattle.pst_listed.specs.Listing.{AreFew, AreOfVersions, HaveParents, no_place, rows_in, forks_in}
 use Rattle.pst_joint.specs.Seen.{seen}
 use Rattle.pst_rebuilt.proofs.Counting.{of_versions, few}
 use Rattle.pst_rebuilt.proofs.Forks.{any_default}
-use Rattle.pst_rebuilt.proofs.Built.{range, nested, parents, in_chains, lives, end_below, are_few, listed, fewer, are_ready, is_kept, is_rebuilt}
+use Rattle.pst_rebuilt.proofs.Built.{range, nested, parents, in_chains, lives, end_below, are_few, listed, are_ready, is_kept, is_rebuilt}
 use Rattle.pst_rebuilt.proofs.building.parts_of.Goals as goal
 
 pub order_of_runs-requires-clause-some : goal.order_of_runs-requires-clause-some
