@@ -1,7 +1,6 @@
 -- Of bytes one rule fails first, or all hold, and not both.
-use Rattle.std.proofs.Common.{◌≡◌, ℕ, ◌⊎◌, List, None, Result, Ok, Err, refl, sym, ap, ◌∙◌, subst, ⊎_elim}
+use Rattle.std.proofs.Common.{◌≡◌, ℕ, ◌⊎◌, List, None, Result, Ok, Err, sym, ap, ◌∙◌, subst, ⊎_elim}
 use Rattle.pst_tree.specs.Syntax.{ProgramText}
-use Rattle.pst_base.specs.declared.shape.TypeShape.{TypeShape}
 use Rattle.pst_typing.specs.Declarations.{NamedProgram}
 use Rattle.pst_notation.specs.Canonical.{canonical}
 use Rattle.pst_judge.specs.declared.fault.Fault.{Fault}
@@ -18,7 +17,7 @@ use Rattle.pst_image_rules.specs.Rules.{IsFirstFailed, IsJudged, Holds}
 use Rattle.pst_unpacked.specs.declared.fault.ImageFault.{ImageFault}
 use Rattle.pst_unpacked.specs.declared.fault.ImageFault.TheVariants.{Bad, Memory}
 use Rattle.pst_unpacked.specs.Laws.{NeverBothLaw}
-use Rattle.pst_unpacked.specs.Unpacked.{IsOwnText, IsAccepted, FailsLater, FailsIn, HasNoForm, FailsFirst}
+use Rattle.pst_unpacked.specs.Unpacked.{IsOwnText, FailsLater, FailsIn, HasNoForm}
 
 -- the program and the tree of a verdict, or others where it is refused
 abbrev program_in : NamedProgram → Verdict → NamedProgram

@@ -1,4 +1,4 @@
-use Rattle.std.proofs.Common.{refl, sym, subst, None, ℕ, List, Option}
+use Rattle.std.proofs.Common.{refl, sym, subst, ℕ, List, Option}
 use Rattle.std.specs.Option.{MatchOption}
 use Rattle.pst_image_rules.specs.declared.rule.Rule.TheVariants.{Text}
 use Rattle.pst_program.specs.declared.program.Program.{Program}

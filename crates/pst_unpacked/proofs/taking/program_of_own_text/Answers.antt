@@ -1,4 +1,4 @@
-use Rattle.std.proofs.Common.{◌≡◌, ◌∙◌, sym, ap, subst, ℕ, List}
+use Rattle.std.proofs.Common.{◌∙◌, subst, ℕ, List}
 use Rattle.pst_judge.specs.Verdict.{Judged, Accepted}
 use Rattle.pst_typing.specs.View.{program_of}
 use Rattle.pst_unpacked.proofs.Deciding.{other_text, refused_text}
