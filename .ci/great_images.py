@@ -1,4 +1,4 @@
-"""Images that are made to take time or memory, as pieces, and what `resume` has to answer.
+"""Images that are made to take time or memory, as pieces, and what `resume` and `repack` have to answer.
 
 Each is made for a number of bytes. Its counts are so great that they pay for all its nodes.
 """
@@ -255,3 +255,18 @@ GREAT = [
     ('an image of records that hold 15, each node of which a write splits', lambda length: full(length, STRIDES[:15]), *SPLIT, ROOM),
     *((f'an image with {count} as the number of {place}', lambda length, place=place, count=count: counted(place, count, length), *refused(0), ROOM)
       for place, counts in COUNTS.items() for count in counts)]
+
+
+def packed_again(name, make, lines, status, answer, bound):
+    """The row of `repack` for that of `resume`: an image behind which nothing is counted is written again, byte for byte; behind the others
+    more is counted than an image can hold."""
+    if status != 0:
+        return name, make, lines, status, answer, bound
+    if (lines, status, answer) == ACCEPTED:
+        return name, make, lines, 0, None, bound + AGAIN
+    return name, make, lines, 4, ['refused image 2\n'], bound + AGAIN
+
+
+# How much more memory an image takes that is written again, in MiB: its parts and its bytes, of 64 each, and as much while these grow.
+AGAIN = 4 * 64
+PACKED_AGAIN = [packed_again(*row) for row in GREAT]

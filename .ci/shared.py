@@ -161,13 +161,13 @@ def put_pieces(file, pieces):
         file.write(piece if isinstance(piece, bytes) else piece.encode())
 
 
-def measured(words, given, taken, limit=0, by=None):
-    """Runs the program on a stack of 8 MiB; gives its status, seconds of the processor, and MiB of memory, of which it may take no more
-    than the limit where that is not 0."""
+def measured(words, given, taken, limit=0, by=None, stack=8):
+    """Runs the program on a stack of so many MiB; gives its status, seconds of the processor, and MiB of memory, of which it may take no
+    more than the limit where that is not 0."""
     given.seek(0)
     with tempfile.NamedTemporaryFile('r') as used:
         room = f'ulimit -v {limit * 1024}; ' if limit else ''
-        command = f'ulimit -s 8192; {room}exec {TIME} -q -o {used.name} -f %M "$0" {words}'
+        command = f'ulimit -s {stack * 1024}; {room}exec {TIME} -q -o {used.name} -f %M "$0" {words}'
         before = resource.getrusage(resource.RUSAGE_CHILDREN)
         status = subprocess.run(['sh', '-c', command, by or program()], stdin=given, stdout=taken).returncode
         after = resource.getrusage(resource.RUSAGE_CHILDREN)

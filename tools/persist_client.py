@@ -19,13 +19,14 @@ import signal
 import subprocess
 import threading
 from dataclasses import dataclass
-from typing import ClassVar, Dict, Iterable, List, Optional, Sequence, Tuple, Type, Union
+from typing import Callable, ClassVar, Dict, Iterable, List, Optional, Sequence, Tuple, Type, Union
 
 __all__ = [
-    'Answer', 'Budget', 'Changed', 'Content', 'CutOff', 'Done', 'Dropped', 'Dump', 'Ended', 'Field', 'History', 'Never', 'NoAnswer',
-    'NotCarriedOut', 'Opened', 'Outline', 'PersistError', 'Pointer', 'ProgramRefused', 'Record', 'Refused', 'Reply', 'Running',
-    'Session', 'Stats', 'Trapped', 'UnknownReply', 'Version', 'Versions', 'WrongText', 'answer_to', 'must', 'program_path', 'read_answer',
-    'read_dump', 'read_outline', 'read_reply', 'read_text', 'read_versions', 'split_input', 'text_of', 'words_of', 'write_text',
+    'Answer', 'Budget', 'Changed', 'Commands', 'Content', 'CutOff', 'Done', 'Dropped', 'Dump', 'Ended', 'Field', 'History', 'Never',
+    'NoAnswer', 'NotCarriedOut', 'Opened', 'Outline', 'PersistError', 'Pointer', 'ProgramRefused', 'Record', 'Refused', 'Reply',
+    'Running', 'Session', 'Stats', 'Trapped', 'UnknownReply', 'Version', 'Versions', 'WrongText', 'answer_to', 'lines_for', 'must',
+    'program_path', 'read_answer', 'read_dump', 'read_outline', 'read_reply', 'read_text', 'read_versions', 'split_input',
+    'take_reply', 'text_of', 'words_of', 'write_text', 'written_by',
 ]
 
 # The most bytes of an input that the program reads.
@@ -375,6 +376,24 @@ def read_versions(lines: Sequence[str]) -> Versions:
     return Versions(tuple(parents))
 
 
+def lines_for(line: str) -> str:
+    """What is sent for a command. A list of versions has no last line of its own, so a mark is sent behind it."""
+    return f'{line}\n{MARK}\n' if words_of(line) == ['versions'] else f'{line}\n'
+
+
+def take_reply(line: str, next_line: Callable[[], str]) -> Reply:
+    """The reply to a command that was sent so, from what gives the lines that are written, one at a time."""
+    words = words_of(line)
+    if words == ['versions']:
+        return read_versions(list(iter(next_line, MARKED)))
+    printed: List[int] = []
+    last = next_line()
+    while last.startswith('| '):
+        printed.append(number_in(last, r'\| (-?\d+)'))
+        last = next_line()
+    return read_reply(words[0], printed, last)
+
+
 def read_content(word: str) -> Content:
     """What a field holds, as a dump tells it."""
     if word == 'null':
@@ -540,22 +559,81 @@ def wait_for(process: 'subprocess.Popen[bytes]') -> int:
         return process.wait()
 
 
-def answer_to(words: Sequence[str], given: str, path: str) -> str:
-    """What a process of its own writes for an input; another status than 0 is `NoAnswer`."""
+def written_by(words: Sequence[str], given: bytes, path: str) -> Tuple[int, bytes]:
+    """The status of a process of its own, and what it writes for an input."""
     process = subprocess.Popen([path, *words], stdin=subprocess.PIPE, stdout=subprocess.PIPE, start_new_session=True)
     with process:
         try:
-            written, _ = process.communicate(given.encode('utf-8', 'surrogateescape'))
+            written, _ = process.communicate(given)
         except BaseException:
             send(process, signal.SIGTERM)
             wait_for(process)
             raise
-    if process.returncode != 0:
-        raise NoAnswer(words, process.returncode)
+    return process.returncode, written
+
+
+def answer_to(words: Sequence[str], given: str, path: str) -> str:
+    """What a process of its own writes for an input; another status than 0 is `NoAnswer`."""
+    status, written = written_by(words, given.encode('utf-8', 'surrogateescape'), path)
+    if status != 0:
+        raise NoAnswer(words, status)
     return written.decode('latin-1')
 
 
-class Session:
+class Commands:
+    """One method a command, over one that sends a line of the script."""
+
+    def command(self, line: str) -> Optional[Reply]:
+        """Sends a line of the script, and returns its reply; None for a line that has none, which is not sent."""
+        raise NotImplementedError
+
+    def _command(self, *words: object) -> Reply:
+        reply = self.command(' '.join(map(str, words)))
+        assert reply is not None
+        return reply
+
+    def run(self, version: int, procedure: str, *arguments: int) -> Reply:
+        """Runs a procedure on a version: `Version`, `Trapped` or `Refused`."""
+        return self._command('run', version, procedure, *arguments)
+
+    def query(self, version: int, query: str, *arguments: int) -> Reply:
+        """Asks a version: `Answer`, `Trapped` or `Refused`."""
+        return self._command('query', version, query, *arguments)
+
+    def open(self, version: int, *call: object) -> Reply:
+        """Opens a run on a version, with a procedure and its arguments or without: `Opened` or `Refused`."""
+        return self._command('open', version, *call)
+
+    def call(self, run: int, procedure: str, *arguments: int) -> Reply:
+        """Adds a call to an open run: `Running`, `Done` or `Refused`."""
+        return self._command('call', run, procedure, *arguments)
+
+    def step(self, run: int, charges: int) -> Reply:
+        """Grants an open run so many more charges: `Running`, `Done` or `Refused`."""
+        return self._command('step', run, charges)
+
+    def close(self, run: int) -> Reply:
+        """Carries an open run to its end and publishes it: `Version`, `Trapped` or `Refused`. What sends the commands is ended by `end`."""
+        return self._command('close', run)
+
+    def drop(self, run: int) -> Reply:
+        """Gives an open run up: `Dropped` or `Refused`."""
+        return self._command('drop', run)
+
+    def budget(self, charges: int) -> Reply:
+        """Sets the charges that later runs and queries may take: `Budget` or `Refused`."""
+        return self._command('budget', charges)
+
+    def versions(self) -> Reply:
+        """The version tree: `Versions`."""
+        return self._command('versions')
+
+    def stats(self) -> Reply:
+        """What all runs made and wrote: `Stats`."""
+        return self._command('stats')
+
+
+class Session(Commands):
     """A program that runs, with what it was given so far. Several threads may send commands; each waits for its own reply.
 
     The process does not get the signals of a terminal. A command that is interrupted, as by Ctrl-C, leaves its reply unread:
@@ -683,85 +761,23 @@ class Session:
         """Sends a line of the script, and returns its reply; None for a line that has none, which is not sent."""
         if '\n' in line:
             raise WrongText('a command is one line')
-        words = words_of(line)
-        if not words:
-            return None
+        return self.commands([line])[0] if words_of(line) else None
+
+    def commands(self, lines: Sequence[str]) -> List[Reply]:
+        """Sends some lines at once, each of which has a reply, and returns their replies. They are so few that a pipe holds them, 64 KiB."""
         with self._lock:
             if self._status is not None:
                 raise Ended(self._status)
             if self._cut_off:
                 raise CutOff('an earlier command was interrupted')
             self._cut_off = True
-            reply = self._versions(line) if words == ['versions'] else self._reply(line, words[0])
-            self.history.note(line, reply)
+            self._send(''.join(map(lines_for, lines)))
+            replies = []
+            for line in lines:
+                replies.append(take_reply(line, self._line))
+                self.history.note(line, replies[-1])
             self._cut_off = False
-            return reply
-
-    def _reply(self, line: str, command: str) -> Reply:
-        self._send(line + '\n')
-        printed: List[int] = []
-        last = self._line()
-        while last.startswith('| '):
-            printed.append(number_in(last, r'\| (-?\d+)'))
-            last = self._line()
-        return read_reply(command, printed, last)
-
-    def _versions(self, line: str) -> Versions:
-        """A list of versions has no last line of its own, so a mark is sent behind it."""
-        self._send(f'{line}\n{MARK}\n')
-        lines: List[str] = []
-        last = self._line()
-        while last != MARKED:
-            lines.append(last)
-            last = self._line()
-        return read_versions(lines)
-
-    # One method a command.
-
-    def _command(self, *words: object) -> Reply:
-        reply = self.command(' '.join(map(str, words)))
-        assert reply is not None
-        return reply
-
-    def run(self, version: int, procedure: str, *arguments: int) -> Reply:
-        """Runs a procedure on a version: `Version`, `Trapped` or `Refused`."""
-        return self._command('run', version, procedure, *arguments)
-
-    def query(self, version: int, query: str, *arguments: int) -> Reply:
-        """Asks a version: `Answer`, `Trapped` or `Refused`."""
-        return self._command('query', version, query, *arguments)
-
-    def open(self, version: int, *call: object) -> Reply:
-        """Opens a run on a version, with a procedure and its arguments or without: `Opened` or `Refused`."""
-        return self._command('open', version, *call)
-
-    def call(self, run: int, procedure: str, *arguments: int) -> Reply:
-        """Adds a call to an open run: `Running`, `Done` or `Refused`."""
-        return self._command('call', run, procedure, *arguments)
-
-    def step(self, run: int, charges: int) -> Reply:
-        """Grants an open run so many more charges: `Running`, `Done` or `Refused`."""
-        return self._command('step', run, charges)
-
-    def close(self, run: int) -> Reply:
-        """Carries an open run to its end and publishes it: `Version`, `Trapped` or `Refused`. The session is closed by `end`."""
-        return self._command('close', run)
-
-    def drop(self, run: int) -> Reply:
-        """Gives an open run up: `Dropped` or `Refused`."""
-        return self._command('drop', run)
-
-    def budget(self, charges: int) -> Reply:
-        """Sets the charges that later runs and queries may take: `Budget` or `Refused`."""
-        return self._command('budget', charges)
-
-    def versions(self) -> Reply:
-        """The version tree: `Versions`."""
-        return self._command('versions')
-
-    def stats(self) -> Reply:
-        """What all runs made and wrote: `Stats`."""
-        return self._command('stats')
+            return replies
 
     # Questions that the program answers at the end of an input, so each carries the history out in a process of its own.
 

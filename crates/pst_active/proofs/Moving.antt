@@ -35,6 +35,7 @@ pub forks-restated : {P R : Type 0} (m : Meaning) (s : State P R) (h : History) 
 forks-restated {P = P} {R = R} m s h before n old new step holds =
     let first = h.start.next_run in
     record {
+      given = holds.given;
       many = holds.many ∙ ap (λ k. before + k) (sym (numbered-length first h.runs n new));
       forks = λ i r q. elim (numbered-of first h.runs n new r i q) as (λ _. IsForkOf s (restated h n new) (before + i) (first + i) r) [
         | inl was ↦ same r (holds.forks i r was)

@@ -24,7 +24,7 @@ use Rattle.pst_machine.specs.declared.activation.Activation.{Activation}
 use Rattle.pst_active.specs.declared.entry.OpenEntry.{OpenEntry}
 use Rattle.pst_steps.specs.Fields.{KeepsOthers}
 use Rattle.pst_runs.specs.Runs.{Runs, SparesRun, RanOn, SurvivesOthers}
-use Rattle.pst_active.specs.Stands.{HoldsVersions, HasVersion, IsForkOf, HoldsForks, IsEntry}
+use Rattle.pst_active.specs.Stands.{AreGivenForks, HoldsVersions, HasVersion, IsForkOf, HoldsForks, IsEntry}
 
 -- ---- the heap
 
@@ -79,8 +79,24 @@ fork-kept s t h k n r versions forks f = record {
   has_version = f.has_version;
 }
 
+-- a fork with this number and place
+abbrev pub HasForkAt : {P R : Type 0} → State P R → ℕ → P → Type 0
+HasForkAt {P = P} s k place = (g : ForkRow P) × (slice_get s.forks k ≡ Some g) × (g.place ≡ place)
+
+-- the forks of the opening's versions, where these versions and the places of all forks stay
+pub given-kept : {P R : Type 0} (s t : State P R) (before many : ℕ) → ((v : ℕ) (row : VersionRow P) → v + 1 < many → slice_get t.versions (v + 1) ≡ Some row → slice_get s.versions (v + 1) ≡ Some row)
+    → ((k : ℕ) (f : ForkRow P) → slice_get s.forks k ≡ Some f → HasForkAt t k f.place) → AreGivenForks s before many → AreGivenForks t before many
+given-kept s t before many back stay holds = record {
+  given = λ v row i p.
+      let f = holds.given v row i (back v row i p) in
+      let g = stay f.index f.fork f.found in
+      record { index = f.index; early = f.early; fork = g.0; found = g.1; place = g.2 ∙ f.place };
+  rising = λ v w a b i j p q l. holds.rising v w a b i j (back v a i p) (back w b j q) l;
+}
+
 pub forks-kept : {P R : Type 0} (s t : State P R) (h : History) (before : ℕ) → t.versions ≡ s.versions → t.forks ≡ s.forks → HoldsForks s h before → HoldsForks t h before
 forks-kept s t h before versions forks holds = record {
+  given = given-kept s t before (length h.start.heaps) (λ v row i p. ap (λ rows. slice_get rows (v + 1)) (sym versions) ∙ p) (λ k f e. (f, ap (λ rows. slice_get rows k) forks ∙ e, refl)) holds.given;
   many = ap (λ rows. length rows) forks ∙ holds.many;
   forks = λ i r q. fork-kept s t h (before + i) (h.start.next_run + i) r versions forks (holds.forks i r q);
   placed = λ i v row q r.

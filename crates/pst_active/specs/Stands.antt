@@ -60,8 +60,23 @@ pub record IsPlaced {P R : Type 0} (s : State P R) (h : History) (before : ℕ) 
   pub found : slice_get s.forks (before + index) ≡ Some fork
   pub place : fork.place ≡ row.place
 
--- the last forks are one for each run since the opening, in order
+-- the place of a version is that of one of the first forks
+pub record IsGivenFork {P R : Type 0} (s : State P R) (before : ℕ) (row : VersionRow P) : Type 0 where
+  pub index : ℕ
+  pub early : index < before
+  pub fork : ForkRow P
+  pub found : slice_get s.forks index ≡ Some fork
+  pub place : fork.place ≡ row.place
+
+-- Each of the first versions but version 0 has one of the first forks, and of two of them that of the later run has the later fork.
+pub record AreGivenForks {P R : Type 0} (s : State P R) (before many : ℕ) : Type 0 where
+  pub given : (v : ℕ) (row : VersionRow P) → v + 1 < many → slice_get s.versions (v + 1) ≡ Some row → IsGivenFork s before row
+  pub rising : (v w : ℕ) (a b : VersionRow P) (i : v + 1 < many) (j : w + 1 < many) (p : slice_get s.versions (v + 1) ≡ Some a) (q : slice_get s.versions (w + 1) ≡ Some b)
+      → a.run.0 < b.run.0 → (given v a i p).index < (given w b j q).index
+
+-- the first forks are those of the versions of the opening, and the last ones are one for each run since, in order
 pub record HoldsForks {P R : Type 0} (s : State P R) (h : History) (before : ℕ) : Type 0 where
+  pub given : AreGivenForks s before (length h.start.heaps)
   pub many : length s.forks ≡ before + length h.runs
   pub forks : (i : ℕ) (r : Run) → slice_get h.runs i ≡ Some r → IsForkOf s h (before + i) (h.start.next_run + i) r
   pub placed : (i : ℕ) (v : Descent) (row : VersionRow P) → slice_get h.versions i ≡ Some v → slice_get s.versions (length h.start.heaps + i) ≡ Some row → IsPlaced s h before v row

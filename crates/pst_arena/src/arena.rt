@@ -240,7 +240,7 @@ impl Listed for Arena {
     ) -> Result<Self, NoMemory> {
         let mut roots = RootIndex::new(alloc, NodeId(0))?;
         let mut looked_at = 1;
-        hold_new(order, &list, &mut roots, &mut looked_at)?;
+        hold_new(order, &list, NodeId(0), &mut roots, &mut looked_at)?;
         Ok(Arena {
             nodes: list,
             queue: Queue::new(),

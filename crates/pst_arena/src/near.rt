@@ -10,6 +10,9 @@ use pst_base::{NodeId, ROOT};
 use pst_nodes::node::Nodes;
 use pst_order::{Order, Pos};
 
+/// How many nodes of a record are looked at, one behind the other, before the root index is asked.
+const NEAR: u32 = 8;
+
 /// The node of a record that lives at a place. The last node of a record lives up to the record's end, so it is not asked
 /// where it ends.
 #[inline(always)]
@@ -26,23 +29,28 @@ pub fn cover<O: Order>(order: &O, nodes: &Nodes, id: NodeId, at: Pos) -> NodeId
     }
 }
 
-/// The node of the root record that lives at a place, if it is this node or the next one of its record. A node that is cut
-/// keeps what is before, so the node at a place stays near where it once was.
+/// The node of the root record that lives at a place, if it is this node or one of the next few of its record. A node
+/// that is cut keeps what is before, so the node at a place stays near where it once was, and never stands before it.
 pub fn root_beside<O: Order>(order: &O, nodes: &Nodes, near: NodeId, at: Pos) -> Option<NodeId>
     requires rows { AreRows (O.places order.now) nodes.now.list.items }
     requires place { IsIn (O.places order.now) at.0 }
     ensures { IfSome result (λ id. IsRootAt (O.places order.now) nodes.now.list.items id.0 (rank (O.places order.now) at.0)) }
 {
-    if near.0 >= nodes.count() {
-        return None;
+    let count = nodes.count();
+    let mut node = near;
+    for _ in 0..NEAR {
+        if node.0 >= count {
+            return None;
+        }
+        if is_root_at(order, nodes, node, at) {
+            return Some(node);
+        }
+        match nodes.later(node) {
+            Some(next) => node = next,
+            None => return None,
+        }
     }
-    if is_root_at(order, nodes, near, at) {
-        return Some(near);
-    }
-    match nodes.later(near) {
-        Some(next) if next.0 < nodes.count() && is_root_at(order, nodes, next, at) => Some(next),
-        Some(_) | None => None,
-    }
+    None
 }
 
 // Whether a node is one of the root record that lives at a place.

@@ -38,15 +38,26 @@ pub fn repair_and_hold<O: Order>(
     ensures rested { OnOk result (waiting_of nodes.new.list.items ≡ []) }
     ensures all { OnOk result (AreAllHeld (arena_at (O.places order.now) (seen nodes.new.list.items)) (noted_of nodes.new.list.items roots.new looked_at.new)) }
 {
+    let first = first_of(queue);
     repair(order, shape, nodes, queue)?;
-    hold_new(order, nodes, roots, looked_at)
+    hold_new(order, nodes, first, roots, looked_at)
 }
 
-/// Lets the root index hold the root record's nodes among those that were not looked at yet. After a refusal the nodes before
-/// the one that could not be held are looked at.
+// The node that waits first. What is cut off from it begins directly behind it.
+fn first_of(queue: &Queue) -> NodeId {
+    match queue.ends {
+        Some(ends) => ends.first,
+        None => NodeId(0),
+    }
+}
+
+/// Lets the root index hold the root record's nodes among those that were not looked at yet. They may have been cut off from the
+/// node `near`: behind it their place is looked for first. After a refusal the nodes before the one that could not be held are
+/// looked at.
 pub fn hold_new<O: Order>(
     order: &O,
     nodes: &Nodes,
+    near: NodeId,
     roots: &mut RootIndex,
     looked_at: &mut u64,
 ) -> Result<(), NoMemory>
@@ -58,7 +69,7 @@ pub fn hold_new<O: Order>(
     ensures all { OnOk result (looked_at.new ≡ length nodes.now.list.items) }
 {
     for index in *looked_at..nodes.count() {
-        hold(order, nodes, roots, NodeId(index))?;
+        hold(order, nodes, near, roots, NodeId(index))?;
         *looked_at = index + 1;
     }
     Ok(())
@@ -68,6 +79,7 @@ pub fn hold_new<O: Order>(
 fn hold<O: Order>(
     order: &O,
     nodes: &Nodes,
+    near: NodeId,
     roots: &mut RootIndex,
     id: NodeId,
 ) -> Result<(), NoMemory>
@@ -81,7 +93,7 @@ fn hold<O: Order>(
 {
     if nodes.name(id) == ROOT {
         roots.reserve(1)?;
-        roots.add(order, nodes, id);
+        roots.add(order, nodes, near, id);
     }
     Ok(())
 }

@@ -4,10 +4,11 @@ ghost use Rattle.std.specs.Prelude.{◌≡◌, ◌↔◌, ◌≤◌, Some, None,
 ghost use Rattle.pst_io.specs.Causes.{Rose};
 ghost use Rattle.pst_io.specs.Lines.{not_begun};
 ghost use Rattle.pst_jobs.specs.declared.job.Job.{Job};
-ghost use Rattle.pst_jobs.specs.Jobs.{task_in, OnJob, OnBench, OnQuestion, OnPack, OnResume};
+ghost use Rattle.pst_jobs.specs.Jobs.{task_in, OnJob, OnBench, OnQuestion, OnPack, OnResume, OnRepack};
 ghost use Rattle.pst_asking.specs.Asking.{AskRow};
 ghost use Rattle.pst_packing.specs.Packing.{PackRow};
 ghost use Rattle.pst_resuming.specs.Resuming.{ResumeRow, resumed_in};
+ghost use Rattle.pst_repacking.specs.Repacking.{RepackRow};
 ghost use Rattle.pst_summary.specs.Bench.{BenchRow, bench_lines};
 ghost use Rattle.pst_samples.specs.declared.TheConstants.{RING};
 ghost use Rattle.pst_line.specs.Store.{IsEmpty};
@@ -26,6 +27,7 @@ use pst_judge::Page;
 use pst_line::calls::LineCalls;
 use pst_order::{Order, Walked};
 use pst_packing::pack_input;
+use pst_repacking::repack_input;
 use pst_resuming::resume_input;
 use pst_samples::ring;
 use pst_serving::{print, serve, status_of};
@@ -36,8 +38,8 @@ use std::alloc::Global;
 
 /// Does everything that the program does.
 ///
-/// The words are `run`, `replay`, `line`, `check`, `code`, `pack` or `resume`, or `bench` and a number, or `dump` and a version, or `changed`,
-/// a version and a path.
+/// The words are `run`, `replay`, `line`, `check`, `code`, `pack`, `resume` or `repack`, or `bench` and a number, or `dump` and a version, or
+/// `changed`, a version and a path.
 ///
 /// For `bench` nothing is read: the script of the bench with that number is carried out for the program of a ring, and a summary of
 /// what came of it is written as one piece.
@@ -46,6 +48,10 @@ use std::alloc::Global;
 /// judged: one of which a rule fails is answered by the line `refused image RULE` alone, with the number of the first rule that does, from 0
 /// to 9, and the store stays as it was. Else the store becomes that of the image, and each line of the script is carried out and answered as
 /// for `run`, with the image as the opening.
+///
+/// For `repack` the input is read and judged as for `resume`, and the script is carried out so, but no reply is written. Then the image of the
+/// store is written, with the image's text, the number of the next run and the budget that stands. Open runs are not part of it. Where more
+/// was counted than an image can hold, which no script behind an image that the program wrote comes to, the line `refused image 2` is.
 ///
 /// Otherwise the input up to its separator line, or to its end, is read first, and the program is judged: a refused one is answered
 /// by the line of its fault alone. For `check` its canonical text is written then, and for `code` the listing of its code. For `run`,
@@ -86,8 +92,11 @@ pub fn persist<S: Source, K: Sink, O: Walked + Drop, N: Listed, L: LineCalls>(
     // What resuming has read and written, and what the store is left in: that of the image, after the script behind it.
     ensures resumed { OnResume words.now (HasRow S.left source.old source.new K.taken sink.old sink.new (ResumeRow result (resumed_in store.old store.new))) }
 
-    // Only `run`, the bench, the questions, `pack` and `resume` work over the store, and only `line` over the line store: every other word
-    // leaves them as they were handed in, whatever the source tells.
+    // What repacking has read and written, and what the store is left in: as resuming, and its image.
+    ensures repacked { OnRepack words.now (HasRow S.left source.old source.new K.taken sink.old sink.new (RepackRow result (resumed_in store.old store.new) store.new)) }
+
+    // Only `run`, the bench, the questions, `pack`, `resume` and `repack` work over the store, and only `line` over the line store: every other
+    // word leaves them as they were handed in, whatever the source tells.
     ensures tree { works_over_store (task_in words.now) ≡ false → store.new ≡ store.old }
     ensures line { (task_in words.now ≡ Some (Task.Input Job.Line) → ⊥) → line.new ≡ line.old }
 
@@ -112,6 +121,7 @@ pub fn persist<S: Source, K: Sink, O: Walked + Drop, N: Listed, L: LineCalls>(
         Some(Task::Bench(number)) => { bench(alloc, ring().as_bytes(), number, sink, store) }
         Some(Task::Pack) => pack_input(alloc, source, sink, store),
         Some(Task::Resume) => resume_input(alloc, source, sink, store),
+        Some(Task::Repack) => repack_input(alloc, source, sink, store),
     }
 }
 

@@ -27,7 +27,7 @@ use Rattle.pst_machine.specs.declared.activation.Activation.{Activation}
 use Rattle.pst_active.specs.declared.entry.OpenEntry.{OpenEntry}
 use Rattle.pst_runs.specs.Runs.{Runs, SurvivesOthers}
 use Rattle.pst_active.specs.Stands.{HasVersion, IsForkOf, HoldsForks, IsEntry, StandsFor, MayCall}
-use Rattle.pst_active.proofs.Parts.{versions-kept, versions-same, entry-run, entry-writable, entry-kept, forked-alone}
+use Rattle.pst_active.proofs.Parts.{given-kept, versions-kept, versions-same, entry-run, entry-writable, entry-kept, forked-alone}
 
 -- an empty run has counted nothing
 pub idle-counts : (m : Meaning) → IsLawful m → (h : History) (version : VersionNo) → run_counts m h (next_run h) (new_run h version []) ≡ no_counts
@@ -50,6 +50,8 @@ module _ {H P R : Type 0} (m : Meaning) (x : Runs P R (Activation H R P)) (law :
       let same : length t.forks ≡ length (s.forks ++ mine ∷ []) = ap (λ rows. length rows) f.forks in
       let many = holds.many in
       record {
+        given = given-kept s t before (length h.start.heaps) (λ v y i p. ap (λ rows. slice_get rows (v + 1)) (sym f.versions) ∙ p)
+            (λ k g e. (g, ap (λ rows. slice_get rows k) f.forks ∙ slice_get-before s.forks (mine ∷ []) k (slice_get_within s.forks k g e) ∙ e, refl)) holds.given;
         many = omega arith;
         forks = λ i r q. elim (slice_get-of_append h.runs new r i q) as (λ _. IsForkOf t (opened h version []) (before + i) (h.start.next_run + i) r) [
           | inl was ↦

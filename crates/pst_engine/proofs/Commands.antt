@@ -136,7 +136,7 @@ budget-keeps m x s active budget charges next h sound stand = record {
   rooted = stand.rooted;
   versions = record { many = stand.versions.many; versions = λ k row q. let v = stand.versions.versions k row q in record { has = v.has; heap = v.heap }; given = stand.versions.given; rows = stand.versions.rows };
   before = stand.before;
-  forks = record { many = stand.forks.many; forks = λ i r q. let f = stand.forks.forks i r q in record { row = f.row; found = f.found; parent = f.parent; parent_found = f.parent_found; from = f.from; published = f.published; has_version = f.has_version }; placed = λ i v row q r. let w = stand.forks.placed i v row q r in record { index = w.index; number = w.number; fork = w.fork; found = w.found; place = w.place } };
+  forks = record { given = stand.forks.given; many = stand.forks.many; forks = λ i r q. let f = stand.forks.forks i r q in record { row = f.row; found = f.found; parent = f.parent; parent_found = f.parent_found; from = f.from; published = f.published; has_version = f.has_version }; placed = λ i v row q r. let w = stand.forks.placed i v row q r in record { index = w.index; number = w.number; fork = w.fork; found = w.found; place = w.place } };
   many = stand.many;
   entries = λ i e q. let o = stand.entries i e q in record { run = o.run; index = o.index; number = o.number; found = o.found; is_so = o.is_so; parent = o.parent; calls = o.calls; stands = o.stands; fork = o.fork; fork_found = o.fork_found; place = o.place };
   all = stand.all;

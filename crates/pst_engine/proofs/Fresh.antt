@@ -25,7 +25,7 @@ use Rattle.pst_history.proofs.Sums.{counts_plus-none}
 use Rattle.pst_history.proofs.After.{begun-sound}
 use Rattle.pst_machine.specs.declared.activation.Activation.{Activation}
 use Rattle.pst_runs.specs.Runs.{Runs}
-use Rattle.pst_active.specs.Stands.{StandsFor}
+use Rattle.pst_active.specs.Stands.{AreGivenForks, StandsFor}
 use Rattle.pst_engine.specs.Stands.{IsOpeningHeap, opening_of, row_of, IsStartedHeap}
 use Rattle.pst_engine.proofs.Commands.{get-drop}
 use Rattle.pst_script.specs.declared.numerals.TheConstants.{MOST_CHARGES}
@@ -119,7 +119,7 @@ module _ {P R : Type 0} (m : Meaning) (law : IsLawful m) (s : State P R) (sound 
           rows = λ i v row p q. absurd (cc);
         };
         before = length s.forks;
-        forks = record { many = omega arith; forks = λ i r q. absurd (cc); placed = λ i v row q r. absurd (cc) };
+        forks = record { given = subst (λ n. AreGivenForks s (length s.forks) n) (sym all) is.forks; many = omega arith; forks = λ i r q. absurd (cc); placed = λ i v row q r. absurd (cc) };
         many = refl;
         entries = λ i e q. absurd (cc);
         all = λ n r q t. absurd (let w = at-number next [] n r q in let f = w.found in cc (f));
@@ -143,6 +143,7 @@ started-opens {P = P} m law s is = record {
   some = let one : length s.versions ≡ 1 = ap (λ rows. length rows) is.versions in omega arith;
   runs = λ v row e. absurd (none_behind m s is v row e);
   apart = λ v w a b e f same. absurd (none_behind m s is v a e);
+  forks = record { given = λ v row i p. absurd (none_behind m s is v row p); rising = λ v w a b i j p q l. absurd (none_behind m s is v a p) };
   calls = let none = is.calls in let unspent = is.spent in omega arith;
   counts =
       let r : s.counts.records ≡ 1 = ap (λ c. c.records) is.counts in

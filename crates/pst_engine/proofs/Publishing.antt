@@ -17,7 +17,7 @@ use Rattle.pst_machine.specs.declared.activation.Activation.{Activation}
 use Rattle.pst_active.specs.declared.entry.OpenEntry.{OpenEntry}
 use Rattle.pst_runs.specs.Runs.{Runs, SurvivesOthers}
 use Rattle.pst_active.specs.Stands.{IsVersion, SameRow, HasVersion, IsForkOf, IsPlaced, IsEntry, StandsFor}
-use Rattle.pst_active.proofs.Parts.{entry-run, entry-writable, entry-kept, published-alone}
+use Rattle.pst_active.proofs.Parts.{given-kept, entry-run, entry-writable, entry-kept, published-alone}
 
 -- ---- lists of forks
 
@@ -43,6 +43,13 @@ same_or zero zero = inl refl
 same_or zero (suc b) = inr (λ e. cc)
 same_or (suc a) zero = inr (λ e. cc)
 same_or (suc a) (suc b) = elim (same_or a b) [ inl e ↦ inl (ap suc e) | inr ne ↦ inr (λ e. ne (omega (arith, e))) ]
+
+-- each fork stays with its place, published or not
+still_there : {P : Type 0} (rows new : List (ForkRow P)) (i k : ℕ) (f : ForkRow P) → new ≡ published_in rows i → slice_get rows k ≡ Some f → (g : ForkRow P) × (slice_get new k ≡ Some g) × (g.place ≡ f.place)
+still_there {P = P} rows new i k f e at = elim (same_or k i) as (λ _. (g : ForkRow P) × (slice_get new k ≡ Some g) × (g.place ≡ f.place)) [
+  | inl same ↦ (record f { published = true }, ap (λ r. slice_get r k) e ∙ ap (slice_get (published_in rows i)) same ∙ published_in-same rows i f (ap (slice_get rows) (sym same) ∙ at), refl)
+  | inr ne ↦ (f, ap (λ r. slice_get r k) e ∙ published_in-other rows i k ne ∙ at, refl)
+]
 
 -- ---- a version more
 
@@ -116,6 +123,9 @@ module _ {H P R : Type 0} (m : Meaning) (x : Runs P R (Activation H R P)) (s t :
         };
         before = stand.before;
         forks = record {
+          given = given-kept s t stand.before (length h.start.heaps)
+              (λ k y i q. elim (old_row (k + 1) y q) as (λ _. slice_get s.versions (k + 1) ≡ Some y) [ inl u ↦ u | inr u ↦ absurd (omega (arith, i, u.0)) ])
+              (λ k f e. still_there s.forks t.forks (stand.before + o.index) k f forks_t e) stand.forks.given;
           many = ap (λ rows. length rows) forks_t ∙ published_in-length s.forks (stand.before + o.index) ∙ stand.forks.many;
           forks = λ j z q. each stand o d forks_t j z q;
           placed = λ i w y p q. elim (slice_get-of_append h.versions v w i p) as (λ _. IsPlaced t (published h n r.parent) stand.before w y) [

@@ -20,7 +20,7 @@ use Rattle.pst_history.specs.declared.history.Descent.{Descent}
 use Rattle.pst_history.specs.Meaning.{Meaning}
 use Rattle.pst_history.specs.History.{Opening, History, refusal, changed, answered, after, reply}
 use Rattle.pst_engine.specs.declared.engine.Engine.{Engine}
-use Rattle.pst_active.specs.Stands.{HoldsVersions, StandsFor, machine_runs}
+use Rattle.pst_active.specs.Stands.{AreGivenForks, HoldsVersions, StandsFor, machine_runs}
 
 -- ---- the end of a run
 
@@ -78,8 +78,8 @@ pub record Wants {H P R : Type 0} (m : Meaning) (parts : Parts) (old : Engine H 
 -- ---- how an engine and a heap begin
 
 -- A heap with which an engine over this next run number stands for the opening that has the heap's versions, heaps and
--- counts: it has a version, each further one has a run of its own, no record has a run number from the next one on, and fewer
--- forks were asked for.
+-- counts: it has a version, each further one has a run and a fork of its own, the forks in the order of the runs, no record has a
+-- run number from the next one on, and fewer forks were asked for.
 pub record IsOpeningHeap {P R : Type 0} (m : Meaning) (s : State P R) (next : ℕ) : Type 0 where
   pub shape : s.shape ≡ m.shape
   pub older : (p : P) → s.has p → IsOlder (s.heap p) next
@@ -87,6 +87,7 @@ pub record IsOpeningHeap {P R : Type 0} (m : Meaning) (s : State P R) (next : �
   pub some : 0 < length s.versions
   pub runs : (v : ℕ) (row : VersionRow P) → slice_get s.versions (v + 1) ≡ Some row → (0 < row.run.0) × (row.run.0 < next)
   pub apart : (v w : ℕ) (a b : VersionRow P) → slice_get s.versions (v + 1) ≡ Some a → slice_get s.versions (w + 1) ≡ Some b → a.run ≡ b.run → v ≡ w
+  pub forks : AreGivenForks s (length s.forks) (length s.versions)
   pub calls : s.fork_calls + s.spent < next
   pub counts : CountsWithin s.counts (2 ^ 50)
 

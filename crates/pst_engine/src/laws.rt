@@ -11,9 +11,9 @@ use pst_coded::Meant;
 use pst_places::VersionedHeap;
 use pst_runs::known;
 
-/// An engine without open runs and a heap, whose versions have runs of their own below the engine's next run number and in which
-/// no record has a run number from that one on, stand for the opening that has the heap's versions, heaps and counts, with no run
-/// since.
+/// An engine without open runs and a heap, whose versions have runs of their own below the engine's next run number, and forks in the
+/// order of these runs, and in which no record has a run number from that one on, stand for the opening that has the heap's versions,
+/// heaps and counts, with no run since.
 pub fn an_opening_stands<H: VersionedHeap, C: Meant>(code: &C, heap: &H, engine: &Engine<H>)
     requires idle { engine.now.active.items.items ≡ [] }
     requires next_run { (0 < engine.now.next_run.0) × (engine.now.next_run.0 ≤ RUNS + 1) }

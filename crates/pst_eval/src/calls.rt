@@ -8,10 +8,11 @@ ghost use Rattle.pst_values.specs.Work.{ending_of, world_of, IsAtWork};
 ghost use Rattle.pst_eval.specs.Ends.{last_or};
 
 use crate::run::run_body;
+use crate::work::Work;
 use pst_base::NoMemory;
 use pst_heap::PlainHeap;
 use pst_program::{ProcCall, Program, Value};
-use pst_values::{End, Tally};
+use pst_values::End;
 use std::alloc::Global;
 
 /// How many more calls may become active beside the first.
@@ -23,14 +24,14 @@ pub fn run_calls(
     program: &Program,
     calls: &[ProcCall],
     heap: &mut PlainHeap,
-    tally: &mut Tally,
+    work: &mut Work,
 ) -> Result<End, NoMemory>
-    requires at_work { IsAtWork program.now.shape heap.old tally.old }
-    ensures meaning { IfOk result (λ end. ending_of end [] (world_of heap.new tally.new) ≡ in_order (one_call (routines_of program.now)) (calls_of calls.now) (world_of heap.old tally.old)) }
-    ensures at_work { OnOk result (IsAtWork program.now.shape heap.new tally.new) }
+    requires at_work { IsAtWork program.now.shape heap.old work.old.tally }
+    ensures meaning { IfOk result (λ end. ending_of end [] (world_of heap.new work.new.tally) ≡ in_order (one_call (routines_of program.now)) (calls_of calls.now) (world_of heap.old work.old.tally)) }
+    ensures at_work { OnOk result (IsAtWork program.now.shape heap.new work.new.tally) }
 {
     for call in calls {
-        if let Some(end) = last(run_one(alloc, program, call, heap, tally)?) {
+        if let Some(end) = last(run_one(alloc, program, call, heap, work)?) {
             return Ok(end);
         }
     }
@@ -55,14 +56,15 @@ fn run_one(
     program: &Program,
     call: &ProcCall,
     heap: &mut PlainHeap,
-    tally: &mut Tally,
+    work: &mut Work,
 ) -> Result<End, NoMemory>
-    requires at_work { IsAtWork program.now.shape heap.old tally.old }
-    ensures meaning { IfOk result (λ end. ending_of end [] (world_of heap.new tally.new) ≡ one_call (routines_of program.now) (task_call call.now) (world_of heap.old tally.old)) }
-    ensures at_work { OnOk result (IsAtWork program.now.shape heap.new tally.new) }
+    requires at_work { IsAtWork program.now.shape heap.old work.old.tally }
+    ensures meaning { IfOk result (λ end. ending_of end [] (world_of heap.new work.new.tally) ≡ one_call (routines_of program.now) (task_call call.now) (world_of heap.old work.old.tally)) }
+    ensures at_work { OnOk result (IsAtWork program.now.shape heap.new work.new.tally) }
 {
     let values = numbers(alloc, call.arguments.as_slice())?;
-    run_body(alloc, program, DEEP, call.procedure.0, values, heap, tally)
+    run_body(alloc, program, DEEP, call.procedure.0, values, heap, work)?;
+    Ok(work.end)
 }
 
 /// The arguments as values.

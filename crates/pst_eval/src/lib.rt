@@ -16,5 +16,6 @@ mod calls;
 mod run;
 mod steps;
 mod whole;
+mod work;
 
 pub use whole::{Outcome, RunSpec, evaluate};

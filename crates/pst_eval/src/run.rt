@@ -1,48 +1,54 @@
 //! Blocks, choices, loops and calls.
+//!
+//! They stand on the stack as deep as a program nests: 256 calls, with 16 blocks each. So they keep little there: what a run has come
+//! to stands in the [`Work`] that all of them share, and a statement that holds no other is carried out by a call.
 
-ghost use Rattle.std.specs.Prelude.{◌≡◌, ◌≤◌, ℕ, [], IfOk, OnOk, Option};
+ghost use Rattle.std.specs.Prelude.{◌≡◌, ◌≢◌, ◌≤◌, ℕ, [], IfOk, OnOk, Option};
 ghost use Rattle.pst_program.specs.declared.block.TypedBlock.{size-TypedBlock};
 ghost use Rattle.pst_program.specs.declared.block.TypedStatement.{size-TypedStatement};
 ghost use Rattle.pst_program.specs.Meaning.{after_call};
 ghost use Rattle.pst_values.specs.Work.{ending_of, world_of, IsAtWork};
 ghost use Rattle.pst_eval.specs.Ends.{deepest, calls_in, block_end, statement_end, called_end, loop_end, body_end};
+ghost use Rattle.pst_eval.specs.Flows.{end_of};
 
 use crate::call::{after, procedure_at};
-use crate::steps::{holds, step};
+use crate::work::{Flow, Work, carry_out, choose};
 use pst_base::{NoMemory, TrapKind};
 use pst_heap::PlainHeap;
 use pst_program::{Program, Typed, TypedBlock, TypedForm, TypedList, TypedStatement, Value};
-use pst_values::{End, Tally, arguments, default_result, first_env};
+use pst_values::{End, arguments, default_result, first_env};
 use std::alloc::Global;
 
 /// Runs a block, where `deep` more calls may become active.
 #[cycle(run)]
-pub fn run_block(
+fn run_block(
     alloc: Global,
     program: &Program,
     deep: u32,
     block: &TypedBlock,
     env: &mut Vec<Value>,
     heap: &mut PlainHeap,
-    tally: &mut Tally,
-) -> Result<End, NoMemory>
+    work: &mut Work,
+) -> Result<Flow, NoMemory>
     requires within { size-TypedBlock block.now ≤ deepest program.now.procedures.items.items }
-    requires ready { IsAtWork program.now.shape heap.old tally.old }
-    ensures meaning { IfOk result (λ end. ending_of end env.new.items (world_of heap.new tally.new) ≡ block_end program.now deep block.now env.old.items heap.old tally.old) }
-    ensures ready { OnOk result (IsAtWork program.now.shape heap.new tally.new) }
-    ensures fewer { OnOk result (tally.new.charges ≤ tally.old.charges) }
+    requires ready { IsAtWork program.now.shape heap.old work.old.tally }
+    ensures meaning { IfOk result (λ flow. ending_of (end_of flow work.new.end) env.new.items (world_of heap.new work.new.tally) ≡ block_end program.now deep block.now env.old.items heap.old work.old.tally) }
+    ensures over { IfOk result (λ flow. flow ≡ Flow.Over → work.new.end ≢ End.Normal) }
+    ensures ready { OnOk result (IsAtWork program.now.shape heap.new work.new.tally) }
+    ensures fewer { OnOk result (work.new.tally.charges ≤ work.old.tally.charges) }
 {
     for statement in &block.items {
-        match run_statement(alloc, program, deep, statement, env, heap, tally)? {
-            End::Normal => {}
-            end => return Ok(end),
+        match run_statement(alloc, program, deep, statement, env, heap, work)? {
+            Flow::On => {}
+            Flow::Over => return Ok(Flow::Over),
         }
     }
-    Ok(End::Normal)
+    Ok(Flow::On)
 }
 
 /// Carries out a statement, where `deep` more calls may become active.
 #[cycle(run)]
+#[inline(always)]
 fn run_statement(
     alloc: Global,
     program: &Program,
@@ -50,13 +56,14 @@ fn run_statement(
     statement: &TypedStatement,
     env: &mut Vec<Value>,
     heap: &mut PlainHeap,
-    tally: &mut Tally,
-) -> Result<End, NoMemory>
+    work: &mut Work,
+) -> Result<Flow, NoMemory>
     requires within { size-TypedStatement statement.now ≤ deepest program.now.procedures.items.items }
-    requires ready { IsAtWork program.now.shape heap.old tally.old }
-    ensures meaning { IfOk result (λ end. ending_of end env.new.items (world_of heap.new tally.new) ≡ statement_end program.now deep statement.now env.old.items heap.old tally.old) }
-    ensures ready { OnOk result (IsAtWork program.now.shape heap.new tally.new) }
-    ensures fewer { OnOk result (tally.new.charges ≤ tally.old.charges) }
+    requires ready { IsAtWork program.now.shape heap.old work.old.tally }
+    ensures meaning { IfOk result (λ flow. ending_of (end_of flow work.new.end) env.new.items (world_of heap.new work.new.tally) ≡ statement_end program.now deep statement.now env.old.items heap.old work.old.tally) }
+    ensures over { IfOk result (λ flow. flow ≡ Flow.Over → work.new.end ≢ End.Normal) }
+    ensures ready { OnOk result (IsAtWork program.now.shape heap.new work.new.tally) }
+    ensures fewer { OnOk result (work.new.tally.charges ≤ work.old.tally.charges) }
 {
     let line = statement.line;
     match &statement.form {
@@ -66,17 +73,17 @@ fn run_statement(
         | TypedForm::StoreIndexed { .. }
         | TypedForm::New { .. }
         | TypedForm::Print(_)
-        | TypedForm::Return(_) => step(&statement.form, line, env, heap, tally),
-        TypedForm::If { condition, yes, no } => match holds(condition, line, env, heap, tally) {
-            Err(end) => Ok(end),
-            Ok(true) => run_block(alloc, program, deep, yes, env, heap, tally),
-            Ok(false) => match no {
-                None => Ok(End::Normal),
-                Some(block) => run_block(alloc, program, deep, block, env, heap, tally),
+        | TypedForm::Return(_) => carry_out(&statement.form, line, env, heap, work),
+        TypedForm::If { condition, yes, no } => match choose(condition, line, env, heap, work) {
+            None => Ok(Flow::Over),
+            Some(true) => run_block(alloc, program, deep, yes, env, heap, work),
+            Some(false) => match no {
+                None => Ok(Flow::On),
+                Some(block) => run_block(alloc, program, deep, block, env, heap, work),
             },
         },
         TypedForm::While { condition: e, body } => {
-            run_while(alloc, program, deep, line, e, body, env, heap, tally)
+            run_while(alloc, program, deep, line, e, body, env, heap, work)
         }
         TypedForm::Call {
             result,
@@ -92,13 +99,14 @@ fn run_statement(
             *result,
             env,
             heap,
-            tally,
+            work,
         ),
     }
 }
 
 /// Takes the charge of a call, evaluates its arguments, runs it, and sets the local that its result goes into.
 #[cycle(run)]
+#[inline(never)]
 fn run_called(
     alloc: Global,
     program: &Program,
@@ -109,27 +117,30 @@ fn run_called(
     into: Option<u16>,
     env: &mut Vec<Value>,
     heap: &mut PlainHeap,
-    tally: &mut Tally,
-) -> Result<End, NoMemory>
-    requires ready { IsAtWork program.now.shape heap.old tally.old }
-    ensures meaning { IfOk result (λ end. ending_of end env.new.items (world_of heap.new tally.new) ≡ called_end program.now deep procedure list.now line into env.old.items heap.old tally.old) }
-    ensures ready { OnOk result (IsAtWork program.now.shape heap.new tally.new) }
-    ensures fewer { OnOk result (tally.new.charges ≤ tally.old.charges) }
+    work: &mut Work,
+) -> Result<Flow, NoMemory>
+    requires ready { IsAtWork program.now.shape heap.old work.old.tally }
+    ensures meaning { IfOk result (λ flow. ending_of (end_of flow work.new.end) env.new.items (world_of heap.new work.new.tally) ≡ called_end program.now deep procedure list.now line into env.old.items heap.old work.old.tally) }
+    ensures over { IfOk result (λ flow. flow ≡ Flow.Over → work.new.end ≢ End.Normal) }
+    ensures ready { OnOk result (IsAtWork program.now.shape heap.new work.new.tally) }
+    ensures fewer { OnOk result (work.new.tally.charges ≤ work.old.tally.charges) }
 {
-    if !tally.charge() {
-        return Ok(End::Spent(line));
+    if !work.tally.charge() {
+        return Ok(work.note(End::Spent(line)));
     }
     match arguments(alloc, list.as_slice(), env, heap)? {
-        Err(trap) => Ok(End::Trap(trap, line)),
+        Err(trap) => Ok(work.note(End::Trap(trap, line))),
         Ok(values) => {
-            let called = run_call(alloc, program, deep, procedure, values, line, heap, tally)?;
-            Ok(after(called, into, env))
+            run_call(alloc, program, deep, procedure, values, line, heap, work)?;
+            let end = after(work.end, into, env);
+            Ok(work.note(end))
         }
     }
 }
 
 /// Runs a loop: its body as often as its condition holds, each time for a charge.
 #[cycle(run)]
+#[inline(always)]
 fn run_while(
     alloc: Global,
     program: &Program,
@@ -139,28 +150,29 @@ fn run_while(
     body: &TypedBlock,
     env: &mut Vec<Value>,
     heap: &mut PlainHeap,
-    tally: &mut Tally,
-) -> Result<End, NoMemory>
+    work: &mut Work,
+) -> Result<Flow, NoMemory>
     requires within { size-TypedBlock body.now ≤ deepest program.now.procedures.items.items }
-    requires ready { IsAtWork program.now.shape heap.old tally.old }
-    ensures meaning { IfOk result (λ end. ending_of end env.new.items (world_of heap.new tally.new) ≡ loop_end program.now deep e.now body.now line env.old.items heap.old tally.old) }
-    ensures ready { OnOk result (IsAtWork program.now.shape heap.new tally.new) }
-    ensures fewer { OnOk result (tally.new.charges ≤ tally.old.charges) }
+    requires ready { IsAtWork program.now.shape heap.old work.old.tally }
+    ensures meaning { IfOk result (λ flow. ending_of (end_of flow work.new.end) env.new.items (world_of heap.new work.new.tally) ≡ loop_end program.now deep e.now body.now line env.old.items heap.old work.old.tally) }
+    ensures over { IfOk result (λ flow. flow ≡ Flow.Over → work.new.end ≢ End.Normal) }
+    ensures ready { OnOk result (IsAtWork program.now.shape heap.new work.new.tally) }
+    ensures fewer { OnOk result (work.new.tally.charges ≤ work.old.tally.charges) }
 {
-    loop {
-        match holds(e, line, env, heap, tally) {
-            Err(end) => return Ok(end),
-            Ok(true) => {}
-            Ok(false) => return Ok(End::Normal),
+    'turns: loop {
+        match choose(e, line, env, heap, work) {
+            None => return Ok(Flow::Over),
+            Some(true) => {}
+            Some(false) => return Ok(Flow::On),
         }
-        match run_block(alloc, program, deep, body, env, heap, tally)? {
-            End::Normal => {}
-            end => return Ok(end),
+        match run_block(alloc, program, deep, body, env, heap, work)? {
+            Flow::On => {}
+            Flow::Over => return Ok(Flow::Over),
         }
     }
 }
 
-/// Runs a procedure, where `deep` more calls may become active, from a statement at this line.
+/// Runs a procedure, where `deep` more calls may become active, from a statement at this line, and notes how it ends.
 #[cycle(run)]
 fn run_call(
     alloc: Global,
@@ -170,20 +182,21 @@ fn run_call(
     values: Vec<Value>,
     line: u32,
     heap: &mut PlainHeap,
-    tally: &mut Tally,
-) -> Result<End, NoMemory>
-    requires ready { IsAtWork program.now.shape heap.old tally.old }
-    ensures meaning { IfOk result (λ end. ending_of end [] (world_of heap.new tally.new) ≡ calls_in program.now deep procedure values.items line (world_of heap.old tally.old)) }
-    ensures ready { OnOk result (IsAtWork program.now.shape heap.new tally.new) }
-    ensures fewer { OnOk result (tally.new.charges ≤ tally.old.charges) }
+    work: &mut Work,
+) -> Result<(), NoMemory>
+    requires ready { IsAtWork program.now.shape heap.old work.old.tally }
+    ensures meaning { OnOk result (ending_of work.new.end [] (world_of heap.new work.new.tally) ≡ calls_in program.now deep procedure values.items line (world_of heap.old work.old.tally)) }
+    ensures ready { OnOk result (IsAtWork program.now.shape heap.new work.new.tally) }
+    ensures fewer { OnOk result (work.new.tally.charges ≤ work.old.tally.charges) }
 {
     if deep == 0 {
-        return Ok(End::Trap(TrapKind::Depth, line));
+        work.end = End::Trap(TrapKind::Depth, line);
+        return Ok(());
     }
-    run_body(alloc, program, deep - 1, procedure, values, heap, tally)
+    run_body(alloc, program, deep - 1, procedure, values, heap, work)
 }
 
-/// Runs the body of a procedure, where `deep` more calls may become active.
+/// Runs the body of a procedure, where `deep` more calls may become active, and notes how it ends.
 #[cycle(run)]
 pub fn run_body(
     alloc: Global,
@@ -192,20 +205,26 @@ pub fn run_body(
     procedure: u16,
     values: Vec<Value>,
     heap: &mut PlainHeap,
-    tally: &mut Tally,
-) -> Result<End, NoMemory>
-    requires ready { IsAtWork program.now.shape heap.old tally.old }
-    ensures meaning { IfOk result (λ end. ending_of end [] (world_of heap.new tally.new) ≡ body_end program.now deep procedure values.items heap.old tally.old) }
-    ensures ready { OnOk result (IsAtWork program.now.shape heap.new tally.new) }
-    ensures fewer { OnOk result (tally.new.charges ≤ tally.old.charges) }
+    work: &mut Work,
+) -> Result<(), NoMemory>
+    requires ready { IsAtWork program.now.shape heap.old work.old.tally }
+    ensures meaning { OnOk result (ending_of work.new.end [] (world_of heap.new work.new.tally) ≡ body_end program.now deep procedure values.items heap.old work.old.tally) }
+    ensures ready { OnOk result (IsAtWork program.now.shape heap.new work.new.tally) }
+    ensures fewer { OnOk result (work.new.tally.charges ≤ work.old.tally.charges) }
 {
     match procedure_at(program, procedure) {
-        None => Ok(End::Return(None)),
+        None => {
+            work.end = End::Return(None);
+            Ok(())
+        }
         Some(p) => {
             let mut env = first_env(values, p.kinds.as_slice())?;
-            match run_block(alloc, program, deep, &p.body, &mut env, heap, tally)? {
-                End::Normal => Ok(End::Return(default_result(p.result))),
-                end => Ok(end),
+            match run_block(alloc, program, deep, &p.body, &mut env, heap, work)? {
+                Flow::On => {
+                    work.end = End::Return(default_result(p.result));
+                    Ok(())
+                }
+                Flow::Over => Ok(()),
             }
         }
     }

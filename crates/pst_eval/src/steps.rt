@@ -6,12 +6,12 @@ ghost use Rattle.pst_program.specs.declared.meaning.Value.{Value};
 ghost use Rattle.pst_program.specs.Meaning.{World, Ending, Calls, set_local, set_root, store_field, make, print_value, return_value, is_target};
 ghost use Rattle.pst_program.specs.View.{expr_of, action_of};
 ghost use Rattle.pst_values.specs.Work.{ending_of, world_of, IsAtWork, IsCharged};
-ghost use Rattle.pst_eval.specs.Ends.{Chooses, step_end, element_store_end, element_written, indexed_written, IsSimple};
+ghost use Rattle.pst_eval.specs.Ends.{step_end, element_store_end, element_written, indexed_written, IsSimple};
 
 use pst_base::{Name, NoMemory, ROOT, SlotNo, TrapKind, TypeNo, TypeShape};
 use pst_heap::PlainHeap;
 use pst_program::{MOST_PRINTED, Typed, TypedForm, Value};
-use pst_values::{End, Tally, element_slot, index_of, number, truth, value, write};
+use pst_values::{End, Tally, element_slot, index_of, number, value, write};
 
 /// Carries out a statement that holds no other and calls nothing.
 pub fn step(
@@ -304,28 +304,5 @@ fn give_back(
             Err(trap) => End::Trap(trap, line),
             Ok(v) => End::Return(Some(v)),
         },
-    }
-}
-
-/// Takes a charge and tells whether a condition holds; an end, where there is no charge or a trap.
-pub fn holds(
-    e: &Typed,
-    line: u32,
-    env: &[Value],
-    heap: &PlainHeap,
-    tally: &mut Tally,
-) -> Result<bool, End>
-    requires ready { IsAtWork heap.now.shape heap.now tally.old }
-    ensures meaning { Chooses heap.now.shape (expr_of e.now) line env.now (world_of heap.now tally.old) result (world_of heap.now tally.new) }
-    ensures ready { IsAtWork heap.now.shape heap.now tally.new }
-    ensures fewer { IfOk result (λ _. tally.new.charges < tally.old.charges) }
-    ensures no_more { tally.new.charges ≤ tally.old.charges }
-{
-    if !tally.charge() {
-        return Err(End::Spent(line));
-    }
-    match value(e, env, heap) {
-        Err(trap) => Err(End::Trap(trap, line)),
-        Ok(v) => Ok(truth(v)),
     }
 }

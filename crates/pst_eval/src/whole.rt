@@ -9,6 +9,7 @@ ghost use Rattle.pst_values.specs.Work.{ending_of};
 ghost use Rattle.pst_eval.specs.Runs.{task_of, IsOutcome};
 
 use crate::calls::run_calls;
+use crate::work::Work;
 use pst_base::{Counts, NoMemory, Numbers, RunNo, Trap, TrapKind};
 use pst_heap::PlainHeap;
 use pst_program::{Ended, ProcCall, Program};
@@ -47,7 +48,7 @@ pub fn evaluate(
     ensures outcome { IfOk result (λ o. IsOutcome o heap.new.heap (outcome (routines_of program.now) (task_of spec.now) spec.now.granted heap.old.heap)) }
     ensures shape { OnOk result (heap.new.shape ≡ heap.old.shape) }
 {
-    let mut tally = Tally {
+    let tally = Tally {
         charges: spec.granted.min(spec.budget),
         printed: Vec::new(alloc),
         run: spec.run,
@@ -58,11 +59,15 @@ pub fn evaluate(
             value_writes: 0,
         },
     };
-    let end = run_calls(alloc, program, spec.calls, heap, &mut tally)?;
+    let mut work = Work {
+        tally,
+        end: End::Normal,
+    };
+    let end = run_calls(alloc, program, spec.calls, heap, &mut work)?;
     Ok(Outcome {
         ended: ended(end, spec.budget <= spec.granted),
-        printed: Numbers::from_vec(tally.printed),
-        counts: tally.counts,
+        printed: Numbers::from_vec(work.tally.printed),
+        counts: work.tally.counts,
     })
 }
 

@@ -1,5 +1,5 @@
 -- A script behind an image.
-use Rattle.std.proofs.Common.{◌≡◌, ℕ, Option, Some, None, List, [], ◌∷◌, ◌++◌, refl, sym, ap, ◌∙◌, subst, Result, Ok, Err}
+use Rattle.std.proofs.Common.{◌≡◌, ℕ, Option, Some, None, List, [], ◌∷◌, ◌++◌, refl, sym, ap, ◌∙◌, subst, append_assoc, Result, Ok, Err}
 use Rattle.std.specs.Option.{option_to_list}
 use Rattle.pst_base.specs.Shape.{IsValid}
 use Rattle.pst_judge.specs.Pages.{routines_in}
@@ -8,37 +8,23 @@ use Rattle.pst_script.specs.declared.command.LineFault.{LineFault}
 use Rattle.pst_script.specs.declared.command.LineFault.TheVariants.{Line, Number, Memory}
 use Rattle.pst_script.specs.Commands.{reading}
 use Rattle.pst_script.specs.Texts.{text_of}
-use Rattle.pst_script.proofs.CommandLemmas.{one_way}
 use Rattle.pst_answers.specs.Pieces.{pieces_from, state_after}
 use Rattle.pst_answers.specs.Script.{Rules, by_tree_from, by_tree, script_of, reply_of, next_of}
 use Rattle.pst_history.specs.Meaning.{Meaning, IsLawful}
-use Rattle.pst_history.specs.History.{Opening, History, begun, opening}
+use Rattle.pst_history.specs.History.{Opening, History, begun, opening, counts_of}
 use Rattle.pst_history.specs.Sound.{IsSoundHistory}
-use Rattle.pst_history.proofs.LawLemmas.{sound_histories_go_on, opening_is_sound}
 use Rattle.pst_history.specs.Direct.{direct}
 use Rattle.pst_history.proofs.DirectLemmas.{direct_is_lawful}
 use Rattle.pst_lineless.specs.Alike.{MeaningAlike}
 use Rattle.pst_lineless.proofs.Histories.{history_law}
 use Rattle.pst_lineless.proofs.Meanings.{meaning_law}
 use Rattle.pst_lineless.proofs.Canonical.{canonical_law}
-use Rattle.pst_goes_on.specs.TakenUp.{taken_up, AreAlike, NoneOpen, all_dropped}
-use Rattle.pst_goes_on.specs.Laws.{left_by, GoesOnLaw, ProgramGoesOnLaw}
+use Rattle.pst_goes_on.specs.TakenUp.{taken_up, further, anew, AreAlike, NoneOpen, all_dropped}
+use Rattle.pst_goes_on.specs.Laws.{left_by, GoesOnLaw, ProgramGoesOnLaw, SoundBehindLaw, StaysBehindLaw, TakenUpAlikeLaw}
+use Rattle.pst_goes_on.proofs.SameParts.{same-heaps, same-next, same-counts}
+use Rattle.pst_goes_on.proofs.Sound.{lines-sound, left-sound}
 use Rattle.pst_goes_on.proofs.Commands.{begins_law, replies_law, stays_law}
 use Rattle.pst_goes_on.proofs.Dropped.{taken-same, none-open, sound-kept}
-
--- ---- a script leaves a sound history
-
-next-sound : (m : Meaning) → IsLawful m → (h : History) (line : List ℕ) (x : Result (Option Command) LineFault) → reading line ≡ x → IsSoundHistory m h → IsSoundHistory m (next_of by_tree m h x)
-next-sound m lawful h line (Ok None) e s = s
-next-sound m lawful h line (Ok (Some c)) e s = (sound_histories_go_on m lawful).1 h c ((one_way line c).0 e).0.range s
-next-sound m lawful h line (Err f) e s = s
-
-lines-sound : (m : Meaning) → IsLawful m → (lines : List (List ℕ)) (h : History) → IsSoundHistory m h → IsSoundHistory m (state_after (script_of by_tree m) h lines)
-lines-sound m lawful [] h s = s
-lines-sound m lawful (line ∷ lines) h s = lines-sound m lawful lines (next_of by_tree m h (reading line)) (next-sound m lawful h line (reading line) refl s)
-
-left-sound : (m : Meaning) → IsLawful m → (lines : List (List ℕ)) → IsSoundHistory m (left_by m lines)
-left-sound m lawful lines = lines-sound m lawful lines (begun (opening m.shape)) ((sound_histories_go_on m lawful).0 (opening m.shape) (opening_is_sound m lawful))
 
 -- ---- lines of traps
 
@@ -51,10 +37,10 @@ lines-alike : (m n : Meaning) → MeaningAlike m n → (lines : List (List ℕ))
 lines-alike m n a [] h = refl
 lines-alike m n a (line ∷ lines) h = ap (λ g. state_after (script_of by_tree m) g lines) (next-alike m n a h (reading line)) ∙ lines-alike m n a lines (next_of by_tree n h (reading line))
 
-left-alike : (m n : Meaning) → MeaningAlike m n → (lines : List (List ℕ)) → left_by m lines ≡ left_by n lines
+pub left-alike : (m n : Meaning) → MeaningAlike m n → (lines : List (List ℕ)) → left_by m lines ≡ left_by n lines
 left-alike m n a lines = lines-alike m n a lines (begun (opening m.shape)) ∙ ap (λ s. state_after (script_of by_tree n) (begun (opening s)) lines) a.shape
 
-taken-alike : (m n : Meaning) → MeaningAlike m n → (h : History) → taken_up m h ≡ taken_up n h
+pub taken-alike : (m n : Meaning) → MeaningAlike m n → (h : History) → taken_up m h ≡ taken_up n h
 taken-alike m n a h =
     let s = history_law m n h a in
     ap (λ x. record (taken_up m h) { heaps = x }) s.heaps ∙ ap (λ x. record (taken_up n h) { counts = x }) s.counts
@@ -82,6 +68,28 @@ module _ (first : Meaning → Opening) (m : Meaning) (h0 : History) (sound : IsS
   pieces-same (line ∷ lines) h g a =
       ap (λ o. option_to_list o ++ pieces_from (script_of by_tree m) (next_of by_tree m h (reading line)) lines) (reply-same h g a (reading line))
       ∙ ap (λ ps. option_to_list (reply_of rules m g (reading line)) ++ ps) (pieces-same lines (next_of by_tree m h (reading line)) (next_of rules m g (reading line)) (next-same h g a (reading line)))
+
+pub sound_behind_law : SoundBehindLaw
+sound_behind_law m lawful h script s = lines-sound m lawful script h s
+
+pub stays_behind_law : StaysBehindLaw
+stays_behind_law m from old new [] sound none a = a
+stays_behind_law m from old new (line ∷ script) sound none a =
+    stays_behind_law m from (next_of by_tree m old (reading line)) (next_of by_tree m new (reading line)) script sound none (next-same (λ x. opening x.shape) m from sound none old new a (reading line))
+
+pub taken_up_law : TakenUpAlikeLaw
+taken_up_law m from old new sound none a =
+    let heaps = same-heaps m from sound none a.budget a.runs a.versions a.later in
+    let next = same-next m from sound none a.budget a.runs a.versions a.later in
+    let counts = same-counts m from sound none a.budget a.runs a.versions a.later in
+    let one = further from a.budget a.runs a.versions in
+    let two = anew m from a.budget a.runs a.versions in
+    ap (taken_up m) a.old_is
+    ∙ ap (λ x. record (taken_up m one) { versions = x }) (sym (append_assoc from.start.versions from.versions a.versions))
+    ∙ ap (λ x. record (taken_up m one) { versions = two.start.versions ++ two.versions; heaps = x }) heaps
+    ∙ ap (λ x. record (taken_up m two) { next_run = x; counts = counts_of m one }) next
+    ∙ ap (λ x. record (taken_up m two) { counts = x }) counts
+    ∙ sym (ap (taken_up m) a.new_is)
 
 pub goes_on_law : GoesOnLaw
 goes_on_law m n alike lawful first before behind is =

@@ -10,7 +10,7 @@ use Rattle.pst_history.specs.Meaning.{Meaning, IsLawful}
 use Rattle.pst_history.specs.History.{Opening, History, begun, reply, after}
 use Rattle.pst_history.specs.Sound.{IsSoundHistory}
 use Rattle.pst_history.specs.Direct.{direct}
-use Rattle.pst_answers.specs.Pieces.{pieces_from}
+use Rattle.pst_answers.specs.Pieces.{pieces_from, state_after}
 use Rattle.pst_answers.specs.Script.{by_tree_from, by_tree, script_of}
 use Rattle.pst_answers.specs.Kept.{history_after}
 use Rattle.pst_lineless.specs.Alike.{MeaningAlike}
@@ -32,6 +32,19 @@ abbrev pub StaysLaw : Type 0
 StaysLaw = (m : Meaning) (from old new : History) (c : Command) → IsSoundHistory m from → NoneOpen from → AreAlike m from old new → AreAlike m from (after m old c) (after m new c)
 
 -- ---- scripts
+
+-- a script makes a sound history of a sound one
+abbrev pub SoundBehindLaw : Type 0
+SoundBehindLaw = (m : Meaning) → IsLawful m → (h : History) (script : List (List ℕ)) → IsSoundHistory m h → IsSoundHistory m (state_after (script_of by_tree m) h script)
+
+-- histories go on alike after a script
+abbrev pub StaysBehindLaw : Type 0
+StaysBehindLaw = (m : Meaning) (from old new : History) (script : List (List ℕ)) → IsSoundHistory m from → NoneOpen from → AreAlike m from old new
+    → AreAlike m from (state_after (script_of by_tree m) old script) (state_after (script_of by_tree m) new script)
+
+-- and the same opening is taken up from both
+abbrev pub TakenUpAlikeLaw : Type 0
+TakenUpAlikeLaw = (m : Meaning) (from old new : History) → IsSoundHistory m from → NoneOpen from → AreAlike m from old new → taken_up m old ≡ taken_up m new
 
 -- the history that a script from version 0 alone leaves
 abbrev pub left_by : Meaning → (script : List (List ℕ)) → History

@@ -25,8 +25,6 @@ runs-count-few m law h sound opened base =
     let most = (sound.runs i r e).budget.1 in
     let few = law.few (work_of (first + i) r) r.granted (heap_of m h r.parent.0) (run-ready m law h sound (first + i) r (numbered-is first h.runs i ∙ e)) in
     record { records = omega (arith, few.records, most); pointer_writes = omega (arith, few.pointer_writes, most); value_writes = omega (arith, few.value_writes, most) }) in
-    let few = sound.few in
-    let next = sound.start.next in
     record { records = omega (arith, all.records, base.records); pointer_writes = omega (arith, all.pointer_writes, base.pointer_writes); value_writes = omega (arith, all.value_writes, base.value_writes) }
 
 pub counts-few : CountsAreFew

@@ -87,9 +87,10 @@ OldVersionsKeepTheirHeaps = (m : Meaning) → IsLawful m → (h : History) (c : 
 abbrev pub CountsNeverFall : Type 0
 CountsNeverFall = (m : Meaning) → IsLawful m → (h : History) (c : Command) → IsSoundHistory m h → CountsBelow (counts_of m h) (counts_of m (after m h c))
 
--- 1,048,576 runs with at most 1,000,000,000 charges each count no more than their product beyond the opening
+-- each run counts at most 1,000,000,000 beyond the opening, since it has no more charges
 abbrev pub RunsCountFew : Type 0
-RunsCountFew = (m : Meaning) → IsLawful m → (h : History) → IsSoundHistory m h → (opened : ℕ) → CountsWithin h.start.counts opened → CountsWithin (counts_of m h) (opened + 1048576 * 1000000000)
+RunsCountFew = (m : Meaning) → IsLawful m → (h : History) → IsSoundHistory m h → (opened : ℕ) → CountsWithin h.start.counts opened
+    → CountsWithin (counts_of m h) (opened + 1000000000 * length h.runs)
 
 -- the counts of the opening are at most 2^50, and its runs count no more than that
 abbrev pub CountsAreFew : Type 0

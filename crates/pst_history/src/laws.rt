@@ -71,7 +71,7 @@ pub fn counts_never_fall()
     ensures { CountsNeverFall }
 {}
 
-/// The runs of a history count no more than 1,048,576 times 1,000,000,000 beyond its opening.
+/// Each run of a history counts no more than 1,000,000,000 beyond its opening.
 pub fn runs_count_few()
     ensures { RunsCountFew }
 {}

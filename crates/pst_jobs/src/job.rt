@@ -46,6 +46,8 @@ pub enum Task {
     Pack,
     /// To answer the script behind an image, with the image as the opening. The input is that image and the script.
     Resume,
+    /// To carry the script behind an image out, and to write the image of the store that it leaves in place of its replies.
+    Repack,
 }
 
 /// The job that a word names.
@@ -102,8 +104,8 @@ fn version_number(word: &str) -> Option<VersionNo>
     Some(VersionNo(u32::try_from(number).ok()?))
 }
 
-/// What the words ask for: one word that names a job, `pack`, `resume`, `bench` and a number, `dump` and a version, or `changed`, a
-/// version and a path. None where they are no such words: a number has at most 64 bits and no zero before another digit, a version at most 32
+/// What the words ask for: one word that names a job, `pack`, `resume`, `repack`, `bench` and a number, `dump` and a version, or `changed`,
+/// a version and a path. None where they are no such words: a number has at most 64 bits and no zero before another digit, a version at most 32
 /// bits, and a path the form of names joined by dots.
 pub fn task_of(words: &[String]) -> Option<Task>
     ensures { result ≡ task_of (map string_bytes words.now) }
@@ -111,6 +113,7 @@ pub fn task_of(words: &[String]) -> Option<Task>
     match words {
         [word] if word.as_bytes() == b"pack".as_slice() => Some(Task::Pack),
         [word] if word.as_bytes() == b"resume".as_slice() => Some(Task::Resume),
+        [word] if word.as_bytes() == b"repack".as_slice() => Some(Task::Repack),
         [word] => Some(Task::Input(job_named(word.as_bytes())?)),
         [word, number] if word.as_bytes() == b"bench".as_slice() => {
             Some(Task::Bench(long_number(number.as_str())?))

@@ -1,8 +1,8 @@
 //! What the words of a call ask for, and with which status it ends.
 //!
 //! Model: words are lists of bytes. They ask for a job with an input, for the bench with a number, for an answer to a question
-//! about the versions of a script, for an image of the store that a script leaves, for the replies to a script behind an image, or for
-//! nothing that there is. A status is one of seven.
+//! about the versions of a script, for an image of the store that a script leaves, for the replies to a script behind an image, for the
+//! image of the store that such a script leaves, or for nothing that there is. A status is one of seven.
 //!
 //! Contract: [`task_of`] gives exactly what the words ask for, with numbers as a script writes them, and [`path_in`] the path of
 //! a question among them. [`number`] gives the number with which the program ends.
@@ -14,6 +14,7 @@
 //!         Some(Task::Bench(number)) => bench(number, sink),
 //!         Some(Task::Pack) => pack_input(source, sink),
 //!         Some(Task::Resume) => resume_input(source, sink),
+//!         Some(Task::Repack) => repack_input(source, sink),
 //!     }
 #![tactic(auto)]
 

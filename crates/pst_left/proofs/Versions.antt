@@ -30,29 +30,19 @@ module _ (s : Stored) (next : ℕ) (h : IsStore s) (o : AreInRunOrder s next) wh
 
   siblings : (v w : ℕ) (a b : VersionRow Place) → slice_get s.versions (suc v) ≡ Some a → slice_get s.versions (suc w) ≡ Some b → a.parent.0 ≡ b.parent.0 → a.run.0 < b.run.0 → end_of s b.place < begin_of s a.place
   siblings v w a b ea eb p r =
-      let x = o v a ea in
-      let y = o w b eb in
+      let x = o.forks v a ea in
+      let y = o.forks w b eb in
       let f = h.versions.forked v a ea in
       let g = h.versions.forked w b eb in
       let same_a = same_fork s h.nested x.fork f.fork x.index f.index x.at f.at (x.place ∙ sym f.place) in
       let same_b = same_fork s h.nested y.fork g.fork y.index g.index y.at g.at (y.place ∙ sym g.place) in
       let parents : f.parent ≡ g.parent = (let q : slice_get s.versions b.parent.0 ≡ Some f.parent = ap (slice_get s.versions) (sym p) ∙ f.parent_at in let q' = g.parent_at in cc) in
       let from : f.fork.from ≡ g.fork.from = f.from ∙ ap (λ (r : VersionRow Place). r.place) parents ∙ sym g.from in
-      let low : f.index < g.index = (let ka = same_a.0 in let kb = same_b.0 in omega (arith, x.run, y.run, r)) in
+      let low : f.index < g.index = (let ka = same_a.0 in let kb = same_b.0 in omega (arith, o.rising v w a b ea eb r)) in
       let v = h.nested.before f.index g.index f.fork g.fork low f.at g.at from in
       let ends : end_of s g.fork.place ≡ end_of s b.place = ap (end_of s) g.place in
       let begins : begin_of s f.fork.place ≡ begin_of s a.place = ap (begin_of s) f.place in
       omega (arith, v)
-
-  own_run : (v w : ℕ) (a b : VersionRow Place) → slice_get s.versions (suc v) ≡ Some a → slice_get s.versions (suc w) ≡ Some b → a.run.0 ≡ b.run.0 → v ≡ w
-  own_run v w a b ea eb r =
-      let x = o v a ea in
-      let y = o w b eb in
-      let k : x.index ≡ y.index = omega (arith, x.run, y.run, r) in
-      let fork : x.fork ≡ y.fork = (let q : slice_get s.forks y.index ≡ Some x.fork = ap (slice_get s.forks) (sym k) ∙ x.at in let q' = y.at in cc) in
-      let place : a.place ≡ b.place = sym x.place ∙ ap (λ (f : Fork). f.place) fork ∙ y.place in
-      let same = h.versions.apart (suc v) (suc w) a b ea eb place in
-      omega arith
 
 pub run_order_law : RunOrderLaw
 run_order_law s next h o = record {
@@ -60,7 +50,7 @@ run_order_law s next h o = record {
   first = h.nested.first;
   last = h.nested.last;
   within = within s next h o;
-  runs = λ v row e. let x = o v row e in (omega (arith, x.run), x.few);
-  own_run = own_run s next h o;
+  runs = λ v row e. let x = o.forks v row e in (x.low, x.few);
+  own_run = o.own_run;
   siblings = siblings s next h o;
 }

@@ -1,5 +1,5 @@
 -- A record is made in the open run.
-use Rattle.std.proofs.Common.{◌≡◌, ◌≢◌, ℕ, ◌<◌, ◌≤◌, ◌||◌, Bool, true, List, length, reverse, Some, None, sym, ap, ◌∙◌, subst, ◌⊎◌, inl, inr, ⊎_elim, arith}
+use Rattle.std.proofs.Common.{◌≡◌, ◌≢◌, ℕ, ◌<◌, ◌≤◌, ◌||◌, Bool, true, List, length, Some, None, sym, ap, ◌∙◌, subst, ◌⊎◌, inl, inr, ⊎_elim, arith}
 use Rattle.std.proofs.lemmas.Bool.{cases_lt, le-leb}
 use Rattle.std.specs.FinMap.{get}
 use Rattle.pst_base.specs.declared.names.Name.{Name}
@@ -16,6 +16,7 @@ use Rattle.pst_line_nodes.proofs.Made.{made_law, default_plain}
 use Rattle.pst_line.specs.declared.place.LinePlace.{LinePlace}
 use Rattle.pst_line.specs.Store.{state_of, is_made, in_stretch, IsWritable, IsStored, IsRested}
 use Rattle.pst_line.specs.StoreLaws.{after, one_record}
+use Rattle.pst_line.specs.Undoing.{plan}
 use Rattle.pst_line.specs.Held.{Held, IsHeld, line_in, stored_of}
 use Rattle.pst_line.specs.Entered.{line_with}
 use Rattle.pst_line.proofs.Stores.{cover, allocate_law}
@@ -80,7 +81,8 @@ module _ (s : Held) (h : IsHeld s) (at : LinePlace) (wr : IsWritable (stored_of 
     closed = λ o. absurd (no o);
     whole = λ o. absurd (no o);
     empty = λ o. absurd (no o);
-    undone = λ b o f. can_undo_made (stored_of s) (line_with s ms) b q ty (reverse s.undo) h.stored o new.above new.below free made nodes.1 lacks nodes.2 (h.undone b o f);
+    once = h.once;
+    undone = λ b o f. can_undo_made (stored_of s) (line_with s ms) b q ty (plan s.undo) h.stored o new.above new.below free made nodes.1 lacks nodes.2 (h.undone b o f);
     counted = record { records = omega (arith, room.records); pointer_writes = h.counted.pointer_writes; value_writes = h.counted.value_writes };
     roots = have_roots s.nodes ms stay 0 s.versions h.roots;
     root = stay (length s.versions) s.root h.root;

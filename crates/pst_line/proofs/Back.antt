@@ -1,8 +1,8 @@
--- A run's writes are undone, and the run is given up.
-use Rattle.std.proofs.Common.{◌≡◌, ℕ, ◌<◌, ◌≤◌, ◌++◌, Bool, true, false, List, [], ◌∷◌, length, reverse, Option, Some, None, IsSome, Result, Ok, ℤ, refl, sym, ap, ◌∙◌, subst, inl, inr, arith, length-append}
+-- A run is given up: its fields get what they had.
+use Rattle.std.proofs.Common.{◌≡◌, ℕ, ◌+◌, ◌<◌, ◌≤◌, ◌++◌, Bool, true, false, List, [], ◌∷◌, length, map, zero, suc, Option, Some, None, IsSome, Result, Ok, ℤ, refl, sym, ap, ◌∙◌, subst, inl, inr, arith}
 use Rattle.std.proofs.lemmas.Bool.{false≢true}
-use Rattle.std.proofs.lemmas.List.{reverse-append}
-use Rattle.std.specs.Prelude.{IfNone, OnOk}
+use Rattle.std.proofs.lemmas.List.{append-nil, map-id}
+use Rattle.std.specs.Prelude.{IfNone, OnOk, slice_get}
 use Rattle.pst_base.specs.declared.names.Kind.{Kind}
 use Rattle.pst_base.specs.declared.names.Kind.TheVariants.{Int, Pointer}
 use Rattle.pst_base.specs.declared.names.TypeNo.{TypeNo}
@@ -11,22 +11,25 @@ use Rattle.pst_base.specs.Shape.{type_at, field_kind}
 use Rattle.pst_line_nodes.specs.declared.content.Content.{Content}
 use Rattle.pst_line_nodes.specs.declared.content.Content.TheVariants.{Number, Null, Target}
 use Rattle.pst_line_nodes.specs.Line.{Covers, IsNewest, IsLive, IsLine}
-use Rattle.pst_line_nodes.specs.Changes.{IsSet, IsNulled, IsPointed, VersionsStay}
+use Rattle.pst_line_nodes.specs.Changes.{IsSet, IsNulled, IsPointed}
 use Rattle.pst_line_nodes.specs.Seen.{Seen}
-use Rattle.pst_line_nodes.specs.Nodes.{line_of, AreKept, IsFieldSet}
+use Rattle.pst_line_nodes.specs.Nodes.{line_of, AreKept, AreLinked, IsFieldSet}
 use Rattle.pst_line_nodes.specs.Carried.{IsFieldNulled, IsFieldPointed, IsOpenSlot, AreAllOthers}
 use Rattle.pst_line_nodes.proofs.Copy.{covers_last}
 use Rattle.pst_line_nodes.proofs.Degree.{full_law}
 use Rattle.pst_line.specs.declared.place.Undo.{Undo}
 use Rattle.pst_line.specs.declared.place.LinePlace.{LinePlace}
 use Rattle.pst_line.specs.Store.{Stored, state_of, is_made, IsPlace, IsStored, IsClosed, Undone}
-use Rattle.pst_line.specs.Undoing.{Fits, CanUndo, IsNewestOf, IsPut, IsUndone, ended}
+use Rattle.pst_line.specs.declared.undo_run.Step.{Step}
+use Rattle.pst_line.specs.declared.undo_run.Step.TheVariants.{Clear, Restore}
+use Rattle.pst_line.specs.Undoing.{Fits, IsNewestOf, IsPut, IsUndone, ended, plan}
+use Rattle.pst_line.specs.Noted.{IsOnce}
 use Rattle.pst_line.specs.Held.{Held, IsHeld, line_in, stored_of}
 use Rattle.pst_line.specs.Entered.{line_with}
-use Rattle.pst_line.specs.Back.{CanBeHeld, MayPutBack, HasPutBack, IsBack, IsStepBack}
+use Rattle.pst_line.specs.Back.{CanBeHeld, MayPutBack, HasPutBack, IsGoing, step_of}
 use Rattle.pst_line.proofs.Undoing.{end_law}
 use Rattle.pst_line.proofs.PutBack.{pointer_kind, put_back_law, room_law}
-use Rattle.pst_line.proofs.Answered.{covers_all, slot_there}
+use Rattle.pst_line.proofs.Answered.{covers_all, linked, slot_there}
 use Rattle.pst_line.proofs.Entering.{newest_all, stamp_is}
 use Rattle.pst_line.proofs.Ends.{kind_below}
 use Rattle.pst_line.proofs.Roots.{RootsStay, stay_same, have_roots}
@@ -98,7 +101,7 @@ module _ (shape : List TypeShape) (made : ℕ → Bool) (t : ℕ) (nodes : List 
           kept = kept shape m.kept;
         }
 
--- ---- the last write is undone
+-- ---- an entry is put back
 
 -- what fits a field tells its kind
 fits_kind : (s : Stored) (x g : ℕ) (c : Content) → Fits s x g c → (k : Kind) × (field_kind (type_at s.shape (s.line.ty x)) g ≡ Some k)
@@ -110,205 +113,205 @@ pub some_is : {A : Type 0} (o : Option A) → IsSome o → (a : A) × (o ≡ Som
 some_is None k = absurd (false≢true k)
 some_is (Some a) k = (a, refl)
 
-module _ (s g : Held) (e : s ≡ g) (h : IsHeld s) (some : IsSome g.opened) (whole : g.failed ≡ false) (t : ℕ) (t_is : t ≡ length g.versions) (us : List Undo) (v : Undo) (undo_is : s.undo ≡ us ++ v ∷ []) where
-  opened : (b : ℕ) × (s.opened ≡ Some b)
-  opened = some_is s.opened (subst (λ (g : Held). IsSome g.opened) (sym e) some)
+module _ (s : Held) (ns : List Seen) (t : ℕ) (v : Undo) (es : List Undo) (i : IsGoing s ns t (v ∷ es)) where
+  -- the store, with the nodes as they are by now
+  abbrev now : Held
+  now = record s { nodes = ns }
+
+  live : IsLive (line_in now) v.node.0 (length s.versions)
+  live = (i.can.entered 0 v (omega arith)).live
+
+  pub entry_there : v.node.0 < length ns
+  entry_there = live.there
+
+  pub entry_begun : (line_of (λ i. true) ns).first v.node.0 ≤ t
+  entry_begun = omega (arith, live.begun, i.stamp)
+
+  pub entry_linked : AreLinked (line_of (λ i. true) ns)
+  entry_linked = linked s.shape (length s.versions) (is_made s.versions s.opened) ns i.stored.line
+
+  module _ (x : ℕ) (c : Covers (line_of (λ i. true) ns) x t) (home : (line_of (λ i. true) ns).home x ≡ (line_of (λ i. true) ns).home v.node.0) where
+    cover_s : Covers (line_in now) x (length s.versions)
+    cover_s = covers_all (λ i. true) (is_made s.versions s.opened) ns x (length s.versions) (subst (Covers (line_of (λ i. true) ns) x) i.stamp c)
+
+    newest : IsNewestOf (line_in now) (length s.versions) v.node.0 x
+    newest = record {
+      there = record { covers = cover_s; made = ap (is_made s.versions s.opened) home ∙ live.made };
+      last = covers_last s.shape (length s.versions) (line_in now) x i.stored.line cover_s;
+      home = home;
+    }
+
+    same_ty : (line_in now).ty x ≡ (line_in now).ty v.node.0
+    same_ty = (i.stored.line.chained.same x v.node.0 cover_s.there live.there home).1
+
+    kind : (k : Kind) × (field_kind (type_at s.shape ((line_in now).ty x)) v.slot ≡ Some k)
+    kind = let k = fits_kind (stored_of now) v.node.0 v.slot v.content (i.can.entered 0 v (omega arith)).fits in (k.0, ap (λ (u : TypeNo). field_kind (type_at s.shape u) v.slot) same_ty ∙ k.1)
+
+    held : (y : ℕ) → v.content ≡ Target y → CanBeHeld s.shape (is_made s.versions s.opened) (length s.versions) ns x v.slot y
+    held y is =
+        let f : IsLive (line_in now) y (length s.versions) × (field_kind (type_at s.shape ((line_in now).ty v.node.0)) v.slot ≡ Some (Pointer ((line_in now).ty y))) = subst (Fits (stored_of now) v.node.0 v.slot) is (i.can.entered 0 v (omega arith)).fits in
+        record {
+          live = f.0;
+          room = λ z n a.
+              let typed : (line_in now).ty z ≡ (line_in now).ty y = (i.stored.line.chained.same z y n.there.covers.there f.0.there n.home).1 in
+              let field : field_kind (type_at s.shape ((line_in now).ty x)) v.slot ≡ Some (Pointer ((line_in now).ty z)) = ap (λ (u : TypeNo). field_kind (type_at s.shape u) v.slot) same_ty ∙ f.1 ∙ ap (λ (u : TypeNo). Some (Pointer u)) (sym typed) in
+              room_law (stored_of now) i.begun x y z v es i.stored i.can is newest n
+              ((full_law s.shape (length s.versions) (line_in now) x v.slot z i.stored.line newest.there n.there field).1 a.others);
+        }
+
+    may_put : MayPutBack s.shape (is_made s.versions s.opened) t ns x v
+    may_put = subst (λ (t : ℕ). MayPutBack s.shape (is_made s.versions s.opened) t ns x v) (sym i.stamp) (record {
+      kept = i.kept;
+      line = i.stored.line;
+      newest = newest.last;
+      slot = slot_there s.shape (length s.versions) (is_made s.versions s.opened) ns x v.slot i.kept (kind_below (type_at s.shape ((line_in now).ty x)) v.slot kind.0 kind.1);
+      since = (i.can.entered 0 v (omega arith)).since x newest.last home;
+      target = held;
+    })
+
+    pub some_may : (shape : List TypeShape) × (made : ℕ → Bool) × MayPutBack shape made t ns x v
+    some_may = (s.shape, is_made s.versions s.opened, may_put)
+
+    module _ (ms : List Seen) (d : (shape : List TypeShape) (made : ℕ → Bool) → MayPutBack shape made t ns x v → HasPutBack shape made t ns ms x v) where
+      done : HasPutBack s.shape (is_made s.versions s.opened) (length s.versions) ns ms x v
+      done = subst (λ (t : ℕ). HasPutBack s.shape (is_made s.versions s.opened) t ns ms x v) i.stamp (d s.shape (is_made s.versions s.opened) may_put)
+
+      law : IsUndone (stored_of now) (line_with s ms) i.begun es
+      law = put_back_law (stored_of now) (line_with s ms) i.begun x v es i.stored i.rested i.opened i.can newest done.put
+
+      pub gone_on : IsGoing s ms t es
+      gone_on = record {
+        stamp = i.stamp;
+        begun = i.begun;
+        opened = i.opened;
+        stored = law.stored;
+        rested = law.rested;
+        can = law.can;
+        kept = done.kept;
+        stay = record {
+          heaps = λ n l. law.stay.heaps n l ∙ i.stay.heaps n l;
+          live = λ j n l a. let m = i.stay.live j n l a in let p = law.stay.live j n l m.0 in (p.0, p.1 ∙ m.1);
+        };
+        same = record {
+          count = law.nodes.count ∙ i.same.count;
+          home = λ j. law.nodes.home j ∙ i.same.home j;
+          name = λ j. law.nodes.name j ∙ i.same.name j;
+          ty = λ j. law.nodes.ty j ∙ i.same.ty j;
+          made = λ j. law.nodes.made j ∙ i.same.made j;
+          first = λ j. law.nodes.first j ∙ i.same.first j;
+          later = λ j. law.nodes.later j ∙ i.same.later j;
+        };
+      }
+
+-- ---- one entry after another
+
+-- the entries from one on
+abbrev pub behind : ℕ → List Undo → List Undo
+behind zero us = us
+behind (suc k) [] = []
+behind (suc k) (u ∷ us) = behind k us
+
+pub behind_at : (k : ℕ) (us : List Undo) (u : Undo) → slice_get us k ≡ Some u → behind k us ≡ u ∷ behind (suc k) us
+behind_at k [] u e = absurd (cc)
+behind_at zero (v ∷ us) u e = let same : v ≡ u = cc in ap (λ (v : Undo). v ∷ us) same
+behind_at (suc k) (v ∷ us) u e = behind_at k us u e
+
+pub behind_all : (k : ℕ) (us : List Undo) → length us ≤ k → behind k us ≡ []
+behind_all zero [] l = refl
+behind_all zero (u ∷ us) l = absurd (omega (arith, l))
+behind_all (suc k) [] l = refl
+behind_all (suc k) (u ∷ us) l = behind_all k us (omega (arith, l))
+
+-- what a step has still to do, from an entry on
+abbrev pub left : Step → ℕ → List Undo → List Undo → List Undo
+left step k us rest = map (step_of step) (behind k us) ++ rest
+
+pub left_at : (step : Step) (k : ℕ) (us rest : List Undo) (u : Undo) → slice_get us k ≡ Some u → left step k us rest ≡ step_of step u ∷ left step (suc k) us rest
+left_at step k us rest u e = ap (λ (vs : List Undo). map (step_of step) vs ++ rest) (behind_at k us u e)
+
+pub left_none : (step : Step) (k : ℕ) (us rest : List Undo) → length us ≤ k → left step k us rest ≡ rest
+left_none step k us rest l = ap (λ (vs : List Undo). map (step_of step) vs ++ rest) (behind_all k us l)
+
+module _ (h : Held) (ns : List Seen) (t : ℕ) (step : Step) (k : ℕ) (us rest : List Undo) (i : IsGoing h ns t (left step k us rest)) where
+  pub going_at : (u e : Undo) → slice_get us k ≡ Some u → e ≡ step_of step u → IsGoing h ns t (e ∷ left step (k + 1) us rest)
+  going_at u e at is = subst (λ (us : List Undo). IsGoing h ns t us)
+      (left_at step k us rest u at ∙ ap (λ n. step_of step u ∷ left step n us rest) (let q : suc k ≡ k + 1 = omega arith in q) ∙ ap (λ (e : Undo). e ∷ left step (k + 1) us rest) (sym is)) i
+
+  pub going_end : length us ≤ k → IsGoing h ns t rest
+  going_end l = subst (λ (us : List Undo). IsGoing h ns t us) (left_none step k us rest l) i
+
+-- ---- the run is given up
+
+module _ (s g : Held) (e : s ≡ g) (h : IsHeld s) (some : IsSome g.opened) (whole : g.failed ≡ false) (t : ℕ) (t_is : t ≡ length g.versions) where
+  opened_s : (b : ℕ) × (s.opened ≡ Some b)
+  opened_s = some_is s.opened (subst (λ (g : Held). IsSome g.opened) (sym e) some)
 
   whole_s : s.failed ≡ false
   whole_s = ap (λ (g : Held). g.failed) e ∙ whole
 
-  t_s : t ≡ length s.versions
-  t_s = stamp_is s g e h t t_is
-
-  can : CanUndo (stored_of s) opened.0 (v ∷ reverse us)
-  can = subst (λ (es : List Undo). CanUndo (stored_of s) opened.0 es) (ap reverse undo_is ∙ reverse-append us (v ∷ [])) (h.undone opened.0 opened.1 whole_s)
-
-  live : IsLive (line_in s) v.node.0 (length s.versions)
-  live = (can.entered 0 v (omega arith)).live
-
-  pub entry_there : v.node.0 < length s.nodes
-  entry_there = live.there
-
-  pub entry_begun : (line_of (λ i. true) s.nodes).first v.node.0 ≤ t
-  entry_begun = omega (arith, live.begun, t_s)
-
-  module _ (x : ℕ) (c : Covers (line_of (λ i. true) s.nodes) x t) (home : (line_of (λ i. true) s.nodes).home x ≡ (line_of (λ i. true) s.nodes).home v.node.0) where
-    cover_s : Covers (line_in s) x (length s.versions)
-    cover_s = covers_all (λ i. true) (is_made s.versions s.opened) s.nodes x (length s.versions) (subst (Covers (line_of (λ i. true) s.nodes) x) t_s c)
-
-    newest : IsNewestOf (line_in s) (length s.versions) v.node.0 x
-    newest = record {
-      there = record { covers = cover_s; made = ap (is_made s.versions s.opened) home ∙ live.made };
-      last = covers_last s.shape (length s.versions) (line_in s) x h.stored.line cover_s;
-      home = home;
-    }
-
-    same_ty : (line_in s).ty x ≡ (line_in s).ty v.node.0
-    same_ty = (h.stored.line.chained.same x v.node.0 cover_s.there live.there home).1
-
-    kind : (k : Kind) × (field_kind (type_at s.shape ((line_in s).ty x)) v.slot ≡ Some k)
-    kind = let k = fits_kind (stored_of s) v.node.0 v.slot v.content (can.entered 0 v (omega arith)).fits in (k.0, ap (λ (u : TypeNo). field_kind (type_at s.shape u) v.slot) same_ty ∙ k.1)
-
-    held : (y : ℕ) → v.content ≡ Target y → CanBeHeld s.shape (is_made s.versions s.opened) (length s.versions) s.nodes x v.slot y
-    held y is =
-        let f : IsLive (line_in s) y (length s.versions) × (field_kind (type_at s.shape ((line_in s).ty v.node.0)) v.slot ≡ Some (Pointer ((line_in s).ty y))) = subst (Fits (stored_of s) v.node.0 v.slot) is (can.entered 0 v (omega arith)).fits in
-        record {
-          live = f.0;
-          room = λ z n a.
-              let typed : (line_in s).ty z ≡ (line_in s).ty y = (h.stored.line.chained.same z y n.there.covers.there f.0.there n.home).1 in
-              let field : field_kind (type_at s.shape ((line_in s).ty x)) v.slot ≡ Some (Pointer ((line_in s).ty z)) = ap (λ (u : TypeNo). field_kind (type_at s.shape u) v.slot) same_ty ∙ f.1 ∙ ap (λ (u : TypeNo). Some (Pointer u)) (sym typed) in
-              room_law (stored_of s) opened.0 x y z v (reverse us) h.stored can is newest n
-              ((full_law s.shape (length s.versions) (line_in s) x v.slot z h.stored.line newest.there n.there field).1 a.others);
-        }
-
-    pub may_put : MayPutBack s.shape (is_made s.versions s.opened) t s.nodes x v
-    may_put = subst (λ (t : ℕ). MayPutBack s.shape (is_made s.versions s.opened) t s.nodes x v) (sym t_s) (record {
-      kept = h.kept;
-      line = h.stored.line;
-      newest = newest.last;
-      slot = slot_there s.shape (length s.versions) (is_made s.versions s.opened) s.nodes x v.slot h.kept (kind_below (type_at s.shape ((line_in s).ty x)) v.slot kind.0 kind.1);
-      since = (can.entered 0 v (omega arith)).since x newest.last home;
-      target = held;
-    })
-
-    pub some_may : (shape : List TypeShape) × (made : ℕ → Bool) × MayPutBack shape made t s.nodes x v
-    some_may = (s.shape, is_made s.versions s.opened, may_put)
-
-    module _ (ms : List Seen) (d : (shape : List TypeShape) (made : ℕ → Bool) → MayPutBack shape made t s.nodes x v → HasPutBack shape made t s.nodes ms x v) where
-      done : HasPutBack s.shape (is_made s.versions s.opened) (length s.versions) s.nodes ms x v
-      done = subst (λ (t : ℕ). HasPutBack s.shape (is_made s.versions s.opened) t s.nodes ms x v) t_s (d s.shape (is_made s.versions s.opened) may_put)
-
-      law : IsUndone (stored_of s) (line_with s ms) opened.0 (reverse us)
-      law = put_back_law (stored_of s) (line_with s ms) opened.0 x v (reverse us) h.stored (h.rested whole_s) opened.1 can newest done.put
-
-      pub step_held : IsHeld (record s { nodes = ms; undo = us })
-      step_held = record {
-        stored = law.stored;
-        some = h.some;
-        few = h.few;
-        rooted = h.rooted;
-        kept = done.kept;
-        rested = λ f. law.rested;
-        closed = λ o. absurd (no o);
-        whole = λ o. absurd (no o);
-        empty = λ o. absurd (no o);
-        undone = λ b o f. subst (λ (b : ℕ). CanUndo (stored_of (record s { nodes = ms; undo = us })) b (reverse us)) (let q : Some opened.0 ≡ Some b = sym opened.1 ∙ o in let same : opened.0 ≡ b = cc in same) law.can;
-        counted = h.counted;
-        roots = have_roots s.nodes ms stay 0 s.versions h.roots;
-        root = stay (length s.versions) s.root h.root;
-      }
-        where
-          stay : RootsStay s.nodes ms
-          stay = stay_same (is_made s.versions s.opened) s.nodes ms law.nodes
-
-          no : s.opened ≡ None → ⊥
-          no o = let q : None ≡ Some opened.0 = sym o ∙ opened.1 in cc
-
-      pub stepped : IsStepBack g (record s { nodes = ms; undo = us })
-      stepped = subst (λ (g : Held). IsStepBack g (record s { nodes = ms; undo = us })) e (record {
-        back = record { nodes = ms; undo = us; is = refl; stay = law.stay; names = law.nodes.name };
-        fewer = ap length undo_is ∙ length-append us (v ∷ []);
-      })
-
--- ---- some of the last writes are undone
-
-pub back_none : (g : Held) → IsBack g g
-back_none g = record {
-  nodes = g.nodes;
-  undo = g.undo;
-  is = refl;
-  stay = record { heaps = λ n l. refl; live = λ i n l a. (a, refl) };
-  names = λ i. refl;
-}
-
-back_one : (g : Held) (ns : List Seen) (us : List Undo) (k : Held) → VersionsStay g.shape (length g.versions) (line_in g) (line_with g ns) → ((i : ℕ) → (line_with g ns).name i ≡ (line_in g).name i) → IsBack (record g { nodes = ns; undo = us }) k → IsBack g k
-back_one g ns us k stay names b = record {
-  nodes = b.nodes;
-  undo = b.undo;
-  is = b.is;
-  stay = record {
-    heaps = λ n l. b.stay.heaps n l ∙ stay.heaps n l;
-    live = λ i n l a. let m = stay.live i n l a in let p = b.stay.live i n l m.0 in (p.0, p.1 ∙ m.1);
-  };
-  names = λ i. b.names i ∙ names i;
-}
-
-pub back_trans : (g m k : Held) → IsBack g m → IsBack m k → IsBack g k
-back_trans g m k a b = back_one g a.nodes a.undo k a.stay a.names (subst (λ (m : Held). IsBack m k) a.is b)
-
-pub back_opened : (g m : Held) → IsBack g m → m.opened ≡ g.opened
-back_opened g m b = ap (λ (m : Held). m.opened) b.is
-
-pub back_failed : (g m : Held) → IsBack g m → m.failed ≡ g.failed
-back_failed g m b = ap (λ (m : Held). m.failed) b.is
-
--- ---- the run is given up
-
--- g is the store as the run left it, and k that with each write undone
-module _ (k : Held) (h : IsHeld k) (b : ℕ) (opened : k.opened ≡ Some b) (whole : k.failed ≡ false) (none : k.undo ≡ []) where
-  law_k : IsStored (ended (stored_of k)) × IsClosed (ended (stored_of k)) × Undone (state_of (stored_of k)) (state_of (ended (stored_of k)))
-  law_k = end_law (stored_of k) b h.stored (h.rested whole) opened (subst (λ (us : List Undo). CanUndo (stored_of k) b (reverse us)) none (h.undone b opened whole))
-
-  pub ended_held : IsHeld (record k { opened = None })
-  ended_held = record {
-    stored = law_k.0;
-    some = h.some;
-    few = h.few;
-    rooted = h.rooted;
+  going : IsGoing s s.nodes t (plan s.undo)
+  going = record {
+    stamp = stamp_is s g e h t t_is;
+    begun = opened_s.0;
+    opened = opened_s.1;
+    stored = h.stored;
+    rested = h.rested whole_s;
+    can = h.undone opened_s.0 opened_s.1 whole_s;
     kept = h.kept;
-    rested = λ f. law_k.1.rested;
-    closed = λ o. law_k.1;
-    whole = λ o. whole;
-    empty = λ o. none;
-    undone = λ b o f. absurd (cc);
-    counted = h.counted;
-    roots = h.roots;
-    root = h.root;
+    stay = record { heaps = λ n l. refl; live = λ i n l a. (a, refl) };
+    same = record { count = refl; home = λ i. refl; name = λ i. refl; ty = λ i. refl; made = λ i. refl; first = λ i. refl; later = λ i. refl };
   }
 
-  pub ended_undone : (g : Held) → IsBack g k → Undone (state_of (stored_of g)) (state_of (stored_of (record k { opened = None })))
-  ended_undone g a = from g a.nodes a.undo a.is a.stay a.names
-    where
-      to : (g : Held) (ns : List Seen) (us : List Undo) → VersionsStay g.shape (length g.versions) (line_in g) (line_with g ns) → ((i : ℕ) → (line_with g ns).name i ≡ (line_in g).name i)
-          → Undone (state_of (stored_of (record g { nodes = ns; undo = us }))) (state_of (stored_of (record g { nodes = ns; undo = us; opened = None })))
-          → Undone (state_of (stored_of g)) (state_of (stored_of (record g { nodes = ns; undo = us; opened = None })))
-      to g ns us stay names u = record {
-        shape = u.shape;
-        has = u.has;
-        back = u.back;
-        heaps = λ p i. u.heaps p i ∙ stay.heaps p.stamp (below p i);
-        live = λ p r i l. u.live p r i (inl (below p i), (stay.live r.0 p.stamp (let m = below p i in omega (arith, m)) l.1).0);
-        name = λ r. u.name r ∙ names r.0;
-        versions = u.versions;
-        closed = u.closed;
-        counts = u.counts;
-      }
-        where
-          below : (p : LinePlace) → IsPlace (stored_of (record g { nodes = ns; undo = us; opened = None })) p → p.stamp < length g.versions
-          below p i = elim i [ inl l ↦ l | inr r ↦ absurd (let q : None ≡ Some r.begun = r.opened in cc) ]
+  -- pointers are to be let go
+  pub to_clear : IsGoing s s.nodes t (map (step_of Clear) s.undo ++ s.undo)
+  to_clear = going
 
-      from : (g : Held) (ns : List Seen) (us : List Undo) → k ≡ record g { nodes = ns; undo = us } → VersionsStay g.shape (length g.versions) (line_in g) (line_with g ns) → ((i : ℕ) → (line_with g ns).name i ≡ (line_in g).name i)
-          → Undone (state_of (stored_of g)) (state_of (stored_of (record k { opened = None })))
-      from g ns us is stay names = subst (λ (k : Held). Undone (state_of (stored_of g)) (state_of (stored_of (record k { opened = None })))) (sym is)
-          (to g ns us stay names (subst (λ (k : Held). Undone (state_of (stored_of k)) (state_of (stored_of (record k { opened = None })))) is law_k.2))
+  -- what the fields had is to be put back
+  pub to_restore : (ms : List Seen) → IsGoing s ms t s.undo → IsGoing s ms t (map (step_of Restore) s.undo ++ [])
+  to_restore ms i = subst (λ (us : List Undo). IsGoing s ms t us) (sym (append-nil (map (step_of Restore) s.undo) ∙ map-id s.undo)) i
 
--- as it is seen: m is the store with each write undone, and s the same
-module _ (s m g : Held) (e : s ≡ m) (h : IsHeld s) (some : IsSome g.opened) (whole : g.failed ≡ false) (a : IsBack g m) (none : length m.undo ≡ 0) where
-  opened_s : (b : ℕ) × (s.opened ≡ Some b)
-  opened_s = some_is s.opened (subst IsSome (sym (ap (λ (k : Held). k.opened) e ∙ back_opened g m a)) some)
+  -- each entry is put back
+  module _ (ms : List Seen) (i : IsGoing s ms t []) (us : List Undo) (none : us ≡ []) where
+    law_k : IsStored (ended (stored_of (record s { nodes = ms }))) × IsClosed (ended (stored_of (record s { nodes = ms })))
+        × Undone (state_of (stored_of (record s { nodes = ms }))) (state_of (ended (stored_of (record s { nodes = ms }))))
+    law_k = end_law (stored_of (record s { nodes = ms })) i.begun i.stored i.rested i.opened i.can
 
-  failed_s : s.failed ≡ false
-  failed_s = ap (λ (k : Held). k.failed) e ∙ back_failed g m a ∙ whole
+    stays : RootsStay s.nodes ms
+    stays = stay_same (is_made s.versions s.opened) s.nodes ms i.same
 
-  empty_list : (us : List Undo) → length us ≡ 0 → us ≡ []
-  empty_list [] l = refl
-  empty_list (u ∷ us) l = absurd (omega (arith, l))
+    pub gone_held : IsHeld (record s { nodes = ms; undo = us; opened = None })
+    gone_held = record {
+      stored = law_k.0;
+      some = h.some;
+      few = h.few;
+      rooted = h.rooted;
+      kept = i.kept;
+      rested = λ f. law_k.1.rested;
+      closed = λ o. law_k.1;
+      whole = λ o. whole_s;
+      empty = λ o. none;
+      once = subst IsOnce (sym none) tt;
+      undone = λ b o f. absurd (cc);
+      counted = h.counted;
+      roots = have_roots s.nodes ms stays 0 s.versions h.roots;
+      root = stays (length s.versions) s.root h.root;
+    }
 
-  none_s : s.undo ≡ []
-  none_s = empty_list s.undo (ap (λ (k : Held). length k.undo) e ∙ none)
+    below : (p : LinePlace) → IsPlace (stored_of (record s { nodes = ms; undo = us; opened = None })) p → p.stamp < length s.versions
+    below p k = elim k [ inl l ↦ l | inr r ↦ absurd (let q : None ≡ Some r.begun = r.opened in cc) ]
 
-  pub gone_held : IsHeld (record s { opened = None })
-  gone_held = ended_held s h opened_s.0 opened_s.1 failed_s none_s
+    undone_s : Undone (state_of (stored_of s)) (state_of (stored_of (record s { nodes = ms; undo = us; opened = None })))
+    undone_s = let u = law_k.2 in record {
+      shape = u.shape;
+      has = u.has;
+      back = u.back;
+      heaps = λ p k. u.heaps p k ∙ i.stay.heaps p.stamp (below p k);
+      live = λ p r k l. u.live p r k (inl (below p k), (i.stay.live r.0 p.stamp (let m = below p k in omega (arith, m)) l.1).0);
+      name = λ r. u.name r ∙ i.same.name r.0;
+      versions = u.versions;
+      closed = u.closed;
+      counts = u.counts;
+    }
 
-  pub gone_undone : Undone (state_of (stored_of g)) (state_of (stored_of (record s { opened = None })))
-  gone_undone = ended_undone s h opened_s.0 opened_s.1 failed_s none_s g (subst (IsBack g) (sym e) a)
+    pub gone_undone : Undone (state_of (stored_of g)) (state_of (stored_of (record s { nodes = ms; undo = us; opened = None })))
+    gone_undone = subst (λ (g : Held). Undone (state_of (stored_of g)) (state_of (stored_of (record s { nodes = ms; undo = us; opened = None })))) e undone_s

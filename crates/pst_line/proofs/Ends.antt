@@ -1,5 +1,5 @@
 -- How a write ends that was entered.
-use Rattle.std.proofs.Common.{◌≡◌, ℕ, ◌<◌, ◌++◌, Bool, true, false, List, [], ◌∷◌, length, Some, None, IsSome, ℤ, refl, sym, ap, ◌∙◌, subst, arith}
+use Rattle.std.proofs.Common.{◌≡◌, ℕ, ◌<◌, Bool, true, false, List, length, Some, None, IsSome, ℤ, refl, sym, ap, ◌∙◌, subst, arith}
 use Rattle.pst_base.specs.declared.names.NodeId.{NodeId}
 use Rattle.pst_base.specs.declared.names.Kind.{Kind}
 use Rattle.pst_base.specs.declared.names.Kind.TheVariants.{Int, Pointer}
@@ -16,6 +16,7 @@ use Rattle.pst_line_nodes.proofs.Same.{pointer_field}
 use Rattle.pst_line.specs.declared.place.LinePlace.{LinePlace}
 use Rattle.pst_line.specs.Store.{state_of, is_made, IsWritable}
 use Rattle.pst_line.specs.StoreLaws.{one_value, one_pointer}
+use Rattle.pst_line.specs.Noted.{with_entry}
 use Rattle.pst_line.specs.Held.{Held, IsHeld, line_in, stored_of}
 use Rattle.pst_line.specs.Entered.{line_with, entry_at, HasEntered}
 use Rattle.pst_line.proofs.Entries.{value_below}
@@ -42,9 +43,9 @@ at_stamp_pointer g at wr r f e = let p = pointer_kind (kind_in g.shape ((state_o
 -- g is the store before, and k that after the write was entered
 module _ (k n g : Held) (e : k ≡ n) (h : IsHeld g) (at : LinePlace) (wr : IsWritable (stored_of g) at) (r : NodeId) (f : ℕ) (live : (state_of (stored_of g)).live at r) (room : HasRoom (state_of (stored_of g))) (x : ℕ) (en : HasEntered g n r.0 f x) (t : ℕ) (t_is : t ≡ length g.versions) where
   abbrev entered_as : Held
-  entered_as = record g { nodes = en.nodes; undo = g.undo ++ entry_at g en.nodes x f ∷ []; failed = true; root = en.root }
+  entered_as = record g { nodes = en.nodes; undo = with_entry (entry_at g en.nodes x f) g.undo; failed = true; root = en.root }
 
-  path : k ≡ record g { nodes = en.nodes; undo = g.undo ++ entry_at g en.nodes x f ∷ []; failed = true; root = en.root }
+  path : k ≡ record g { nodes = en.nodes; undo = with_entry (entry_at g en.nodes x f) g.undo; failed = true; root = en.root }
   path = e ∙ en.is
 
   nodes_are : k.nodes ≡ en.nodes
@@ -67,7 +68,7 @@ module _ (k n g : Held) (e : k ≡ n) (h : IsHeld g) (at : LinePlace) (wr : IsWr
   -- memory was wanting for the content
   pub unchanged_end : (ms : List Seen) → ms ≡ k.nodes → Unchanged (state_of (stored_of g)) (state_of (stored_of (record k { nodes = ms })))
   unchanged_end ms same = subst (λ (ms : List Seen). Unchanged (state_of (stored_of g)) (state_of (stored_of (record k { nodes = ms })))) (sym same)
-      (subst (λ (k : Held). Unchanged (state_of (stored_of g)) (state_of (stored_of k))) (sym path) (failed_unchanged g h en.nodes en.room.carried (g.undo ++ entry_at g en.nodes x f ∷ [])))
+      (subst (λ (k : Held). Unchanged (state_of (stored_of g)) (state_of (stored_of k))) (sym path) (failed_unchanged g h en.nodes en.room.carried (with_entry (entry_at g en.nodes x f) g.undo)))
 
   pub line_end : (shape : List TypeShape) × (made : ℕ → Bool) × AreKept shape t k.nodes × IsLine shape t (line_of made k.nodes)
   line_end = (

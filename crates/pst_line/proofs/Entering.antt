@@ -1,5 +1,5 @@
 -- A write makes room and is entered.
-use Rattle.std.proofs.Common.{◌≡◌, ℕ, ◌<◌, ◌++◌, Bool, true, false, List, [], ◌∷◌, length, Some, IsSome, sym, ap, ◌∙◌, subst, ◌⊎◌, arith}
+use Rattle.std.proofs.Common.{◌≡◌, ℕ, ◌<◌, Bool, true, false, List, length, Some, IsSome, sym, ap, ◌∙◌, subst, ◌⊎◌, arith}
 use Rattle.pst_base.specs.declared.names.TypeNo.{TypeNo}
 use Rattle.pst_base.specs.declared.names.Kind.{Kind}
 use Rattle.pst_base.specs.Shape.{type_at, element_count}
@@ -13,12 +13,14 @@ use Rattle.pst_line_nodes.specs.Carried.{IsCarried, HasRoomFor}
 use Rattle.pst_line_nodes.proofs.Copy.{covers_last, last_covers}
 use Rattle.pst_line.specs.declared.place.Undo.{Undo}
 use Rattle.pst_line.specs.Store.{state_of, is_made}
+use Rattle.pst_line.specs.Noted.{with_entry, IsOnce}
 use Rattle.pst_line.specs.Held.{Held, IsHeld, IsRootAt, line_in, stored_of}
 use Rattle.pst_line.specs.Entered.{line_with, HasMadeRoom, HasEntered}
 use Rattle.pst_line.proofs.Stores.{cover}
 use Rattle.pst_line.proofs.Reading.{field_there}
 use Rattle.pst_line.proofs.Answered.{covers_all, linked, slot_there}
 use Rattle.pst_line.proofs.Writing.{failed_held, failed_unchanged}
+use Rattle.pst_line.proofs.Notes.{once_more}
 use Rattle.pst_line.proofs.Roots.{stay_carried, root_covers, root_anew}
 
 -- newest nodes and quiet lines are so whichever records are made
@@ -57,8 +59,8 @@ module _ (s g : Held) (e : s ≡ g) (h : IsHeld s) (t : ℕ) (t_is : t ≡ lengt
     some_s : IsSome s.opened
     some_s = subst (λ (g : Held). IsSome g.opened) (sym e) some
 
-    pub enter_failed : (us : List Undo) → IsHeld (record s { nodes = ns; undo = us; failed = true })
-    enter_failed us = failed_held s h ns carried_s kept_s some_s us
+    pub enter_failed : (us : List Undo) → IsOnce us → IsHeld (record s { nodes = ns; undo = us; failed = true })
+    enter_failed us once = failed_held s h ns carried_s kept_s some_s us once
 
     -- the root's node is found anew
     pub root_entered : IsRootAt ns t s.root
@@ -71,8 +73,14 @@ module _ (s g : Held) (e : s ≡ g) (h : IsHeld s) (t : ℕ) (t_is : t ≡ lengt
       pub root_found : IsRootAt ns (length s.versions) (record { 0 = y })
       root_found = subst (λ (t : ℕ). IsRootAt ns t (record { 0 = y })) stamp_is (root_covers ns t s.root y root_entered cy hy)
 
-      pub found_failed : (us : List Undo) → IsHeld (record s { nodes = ns; undo = us; failed = true; root = record { 0 = y } })
-      found_failed us = root_anew (record s { nodes = ns; undo = us; failed = true }) (enter_failed us) (record { 0 = y }) root_found
+      found_failed : (us : List Undo) → IsOnce us → IsHeld (record s { nodes = ns; undo = us; failed = true; root = record { 0 = y } })
+      found_failed us once = root_anew (record s { nodes = ns; undo = us; failed = true }) (enter_failed us once) (record { 0 = y }) root_found
+
+      pub found_kept : (us : List Undo) → us ≡ s.undo → IsHeld (record s { nodes = ns; undo = us; failed = true; root = record { 0 = y } })
+      found_kept us is = found_failed us (subst IsOnce (sym is) h.once)
+
+      pub found_more : (us : List Undo) (v : Undo) → us ≡ with_entry v s.undo → IsHeld (record s { nodes = ns; undo = us; failed = true; root = record { 0 = y } })
+      found_more us v is = found_failed us (subst IsOnce (sym is) (once_more v s.undo h.once))
 
     pub enter_unchanged : (us : List Undo) → Unchanged (state_of (stored_of g)) (state_of (stored_of (record s { nodes = ns; undo = us; failed = true })))
     enter_unchanged us = subst (λ (g : Held). Unchanged (state_of (stored_of g)) (state_of (stored_of (record s { nodes = ns; undo = us; failed = true })))) e (failed_unchanged s h ns carried_s us)
@@ -116,12 +124,15 @@ module _ (s g : Held) (e : s ≡ g) (h : IsHeld s) (t : ℕ) (t_is : t ≡ lengt
           let same : (line_with s ns).ty x ≡ (line_in s).ty n.node = (carried_s.line.chained.same x r x_covers.there there_r home_x).1 ∙ carried_s.went.nodes.ty r live_s.1.there ∙ sym n.ty in
           slot_there s.shape (length s.versions) (is_made s.versions s.opened) ns x f kept_s (let q : element_count (type_at s.shape ((line_with s ns).ty x)) ≡ element_count (type_at s.shape ((line_in s).ty n.node)) = ap (λ (u : TypeNo). element_count (type_at s.shape u)) same in omega (arith, q, below))
 
-      pub entered : (y : ℕ) → Covers (line_of (λ i. true) ns) y t → (line_of (λ i. true) ns).home y ≡ (line_of (λ i. true) ns).home s.root.0 → (us : List Undo) (content : Content) → content ≡ (line_of (λ i. true) ns).holds x f t → us ≡ s.undo ++ record { node = record { 0 = x }; slot = f; content = content } ∷ []
+      pub entered : (y : ℕ) → Covers (line_of (λ i. true) ns) y t → (line_of (λ i. true) ns).home y ≡ (line_of (λ i. true) ns).home s.root.0 → (us : List Undo) (content : Content) (first : ℕ) → content ≡ (line_of (λ i. true) ns).holds x f t → first ≡ (line_of (λ i. true) ns).home x
+          → us ≡ with_entry (record { node = record { 0 = first }; slot = f; content = content }) s.undo
           → HasEntered g (record s { nodes = ns; undo = us; failed = true; root = record { 0 = y } }) r f x
-      entered y cy hy us content is all = subst (λ (g : Held). HasEntered g (record s { nodes = ns; undo = us; failed = true; root = record { 0 = y } }) r f x) e (record {
+      entered y cy hy us content first is home_is all = subst (λ (g : Held). HasEntered g (record s { nodes = ns; undo = us; failed = true; root = record { 0 = y } }) r f x) e (record {
         nodes = ns;
         room = made_room;
         root = record { 0 = y };
         rooted = root_found y cy hy;
-        is = ap (λ (us : List Undo). record s { nodes = ns; undo = us; failed = true; root = record { 0 = y } }) (all ∙ ap (λ (c : Content). s.undo ++ record { node = record { 0 = x }; slot = f; content = c } ∷ []) (is ∙ ap ((line_with s ns).holds x f) stamp_is));
+        is = ap (λ (us : List Undo). record s { nodes = ns; undo = us; failed = true; root = record { 0 = y } }) (all
+            ∙ ap (λ (n : ℕ). with_entry (record { node = record { 0 = n }; slot = f; content = content }) s.undo) home_is
+            ∙ ap (λ (c : Content). with_entry (record { node = record { 0 = (line_with s ns).home x }; slot = f; content = c }) s.undo) (is ∙ ap ((line_with s ns).holds x f) stamp_is));
       })

@@ -1,5 +1,5 @@
 -- What the writes of a number, of null and of a pointer do, once there is room.
-use Rattle.std.proofs.Common.{◌≡◌, ℕ, ◌<◌, ◌++◌, Bool, false, List, [], ◌∷◌, length, Some, None, ℤ, refl, sym, ap, ◌∙◌, subst, inr, arith}
+use Rattle.std.proofs.Common.{◌≡◌, ℕ, ◌<◌, Bool, false, List, length, Some, None, ℤ, refl, sym, ap, ◌∙◌, subst, inr, arith}
 use Rattle.pst_base.specs.declared.names.Name.{Name}
 use Rattle.pst_base.specs.declared.names.NodeId.{NodeId}
 use Rattle.pst_base.specs.declared.names.TypeNo.{TypeNo}
@@ -22,6 +22,7 @@ use Rattle.pst_line.specs.Store.{Stored, state_of, IsWritable, IsStored}
 use Rattle.pst_line.specs.StoreLaws.{after, one_value, one_pointer}
 use Rattle.pst_line.specs.Undo.{put_back}
 use Rattle.pst_line.specs.Undoing.{IsNewestOf}
+use Rattle.pst_line.specs.Noted.{with_entry}
 use Rattle.pst_line.specs.Held.{Held, IsHeld, AreCounted, line_in, stored_of}
 use Rattle.pst_line.specs.Entered.{line_with, entry_at, HasMadeRoom}
 use Rattle.pst_line.proofs.Stores.{value_law, null_law', point_law'}
@@ -80,12 +81,12 @@ module _ (g : Held) (h : IsHeld g) (at : LinePlace) (wr : IsWritable (stored_of 
         ∙ ap (λ (n : Name). put_back (line_with g ms).name (with_value (heap_at g.shape (line_with g ns) (length g.versions)) ((line_with g ns).name x) f v) n f ((line_with g ns).holds x f (length g.versions))) (d.set.nodes.name x)
         ∙ number_back mid x f mid_stored m.newest.there (line_with g ms).name v field ((line_with g ns).holds x f (length g.versions)) refl
 
-    pub number_held : IsHeld (record g { nodes = ms; undo = g.undo ++ entry_at g ns x f ∷ []; failed = false; counts = one_value g.counts })
+    pub number_held : IsHeld (record g { nodes = ms; undo = with_entry (entry_at g ns x f) g.undo; failed = false; counts = one_value g.counts })
     number_held = written_held g h wr.run.begun wr.run.opened wr.whole ns r.0 f x m ms (Number v) d.more Int (one_value g.counts) field d.set d.replaced nodes.0 nodes.1 kept (λ y q. absurd (cc)) back law.0
         (record { records = h.counted.records; pointer_writes = h.counted.pointer_writes; value_writes = omega (arith, room.value_writes) })
 
-    pub number_done : ValueStored (state_of (stored_of g)) at ((line_in g).name r.0) f v (state_of (stored_of (record g { nodes = ms; undo = g.undo ++ entry_at g ns x f ∷ []; failed = false; counts = one_value g.counts })))
-        × WritesStay (state_of (stored_of g)) (state_of (stored_of (record g { nodes = ms; undo = g.undo ++ entry_at g ns x f ∷ []; failed = false; counts = one_value g.counts })))
+    pub number_done : ValueStored (state_of (stored_of g)) at ((line_in g).name r.0) f v (state_of (stored_of (record g { nodes = ms; undo = with_entry (entry_at g ns x f) g.undo; failed = false; counts = one_value g.counts })))
+        × WritesStay (state_of (stored_of g)) (state_of (stored_of (record g { nodes = ms; undo = with_entry (entry_at g ns x f) g.undo; failed = false; counts = one_value g.counts })))
     number_done = subst (λ (b : Bool). ValueStored (state_of (stored_of g)) at ((line_in g).name r.0) f v (state_of (record (after mid (line_with g ms) (one_value g.counts)) { failed = b })) × WritesStay (state_of (stored_of g)) (state_of (record (after mid (line_with g ms) (one_value g.counts)) { failed = b }))) wr.whole (
       value_after (state_of (stored_of g)) (state_of mid) (state_of (after mid (line_with g ms) (one_value g.counts))) at (carried_unchanged g h ns m.carried) has ((line_in g).name r.0) f v
           (subst (λ (n : Name). ValueStored (state_of mid) at n f v (state_of (after mid (line_with g ms) (one_value g.counts)))) same_name law.1),
@@ -120,11 +121,11 @@ module _ (g : Held) (h : IsHeld g) (at : LinePlace) (wr : IsWritable (stored_of 
         ∙ ap (λ (n : Name). put_back (line_with g ms).name (with_pointer (heap_at g.shape (line_with g ns) (length g.versions)) ((line_with g ns).name x) f None) n f ((line_with g ns).holds x f (length g.versions))) (d.nulled.set.nodes.name x)
         ∙ pointer_back mid x f mid_stored m.newest.there (line_with g ms).name None null_field.0 null_field.1 ((line_with g ns).holds x f (length g.versions)) refl (denotes ms ((line_with g ns).holds x f (length g.versions)) d.nulled.set.nodes.name)
 
-    pub null_held : IsHeld (record g { nodes = ms; undo = g.undo ++ entry_at g ns x f ∷ []; failed = false; counts = one_pointer g.counts })
+    pub null_held : IsHeld (record g { nodes = ms; undo = with_entry (entry_at g ns x f) g.undo; failed = false; counts = one_pointer g.counts })
     null_held = written_held g h wr.run.begun wr.run.opened wr.whole ns r.0 f x m ms Null d.more (Pointer null_field.0) (one_pointer g.counts) null_field.1 d.nulled.set d.replaced null_nodes.0 null_nodes.1 kept (λ y q. absurd (cc)) null_back null_stored.0 one_more
 
-    pub null_done : PointerStored (state_of (stored_of g)) at ((line_in g).name r.0) f None (state_of (stored_of (record g { nodes = ms; undo = g.undo ++ entry_at g ns x f ∷ []; failed = false; counts = one_pointer g.counts })))
-        × WritesStay (state_of (stored_of g)) (state_of (stored_of (record g { nodes = ms; undo = g.undo ++ entry_at g ns x f ∷ []; failed = false; counts = one_pointer g.counts })))
+    pub null_done : PointerStored (state_of (stored_of g)) at ((line_in g).name r.0) f None (state_of (stored_of (record g { nodes = ms; undo = with_entry (entry_at g ns x f) g.undo; failed = false; counts = one_pointer g.counts })))
+        × WritesStay (state_of (stored_of g)) (state_of (stored_of (record g { nodes = ms; undo = with_entry (entry_at g ns x f) g.undo; failed = false; counts = one_pointer g.counts })))
     null_done = subst (λ (b : Bool). PointerStored (state_of (stored_of g)) at ((line_in g).name r.0) f None (state_of (record (after mid (line_with g ms) (one_pointer g.counts)) { failed = b })) × WritesStay (state_of (stored_of g)) (state_of (record (after mid (line_with g ms) (one_pointer g.counts)) { failed = b }))) wr.whole (
       pointer_after (state_of (stored_of g)) (state_of mid) (state_of (after mid (line_with g ms) (one_pointer g.counts))) at (carried_unchanged g h ns m.carried) has ((line_in g).name r.0) f None
           (subst (λ (n : Name). PointerStored (state_of mid) at n f None (state_of (after mid (line_with g ms) (one_pointer g.counts)))) same_name null_stored.1),
@@ -167,12 +168,12 @@ module _ (g : Held) (h : IsHeld g) (at : LinePlace) (wr : IsWritable (stored_of 
           ∙ ap (λ (k : Name). put_back (line_with g ms).name (with_pointer (heap_at g.shape (line_with g ns) (length g.versions)) ((line_with g ns).name x) f (Some ((line_with g ns).name z))) k f ((line_with g ns).holds x f (length g.versions))) (d.pointed.set.nodes.name x)
           ∙ pointer_back mid x f mid_stored m.newest.there (line_with g ms).name (Some ((line_with g ns).name z)) ((line_with g ns).ty z) target_field ((line_with g ns).holds x f (length g.versions)) refl (denotes ms ((line_with g ns).holds x f (length g.versions)) d.pointed.set.nodes.name)
 
-      pub target_held : IsHeld (record g { nodes = ms; undo = g.undo ++ entry_at g ns x f ∷ []; failed = false; counts = one_pointer g.counts })
+      pub target_held : IsHeld (record g { nodes = ms; undo = with_entry (entry_at g ns x f) g.undo; failed = false; counts = one_pointer g.counts })
       target_held = written_held g h wr.run.begun wr.run.opened wr.whole ns r.0 f x m ms (Target z) d.more (Pointer ((line_with g ns).ty z)) (one_pointer g.counts) target_field d.pointed.set d.replaced target_nodes.0 target_nodes.1 kept
           (λ y e. let same : z ≡ y = cc in ap (line_with g ns).later (sym same) ∙ n.last.last) target_back target_stored.0 one_more
 
-      pub target_done : PointerStored (state_of (stored_of g)) at ((line_in g).name r.0) f (Some ((line_in g).name q.0)) (state_of (stored_of (record g { nodes = ms; undo = g.undo ++ entry_at g ns x f ∷ []; failed = false; counts = one_pointer g.counts })))
-          × WritesStay (state_of (stored_of g)) (state_of (stored_of (record g { nodes = ms; undo = g.undo ++ entry_at g ns x f ∷ []; failed = false; counts = one_pointer g.counts })))
+      pub target_done : PointerStored (state_of (stored_of g)) at ((line_in g).name r.0) f (Some ((line_in g).name q.0)) (state_of (stored_of (record g { nodes = ms; undo = with_entry (entry_at g ns x f) g.undo; failed = false; counts = one_pointer g.counts })))
+          × WritesStay (state_of (stored_of g)) (state_of (stored_of (record g { nodes = ms; undo = with_entry (entry_at g ns x f) g.undo; failed = false; counts = one_pointer g.counts })))
       target_done = subst (λ (b : Bool). PointerStored (state_of (stored_of g)) at ((line_in g).name r.0) f (Some ((line_in g).name q.0)) (state_of (record (after mid (line_with g ms) (one_pointer g.counts)) { failed = b })) × WritesStay (state_of (stored_of g)) (state_of (record (after mid (line_with g ms) (one_pointer g.counts)) { failed = b }))) wr.whole (
         pointer_after (state_of (stored_of g)) (state_of mid) (state_of (after mid (line_with g ms) (one_pointer g.counts))) at (carried_unchanged g h ns m.carried) has ((line_in g).name r.0) f (Some ((line_in g).name q.0))
             (subst (λ (k : Name). PointerStored (state_of mid) at ((line_in g).name r.0) f (Some k) (state_of (after mid (line_with g ms) (one_pointer g.counts)))) q_name

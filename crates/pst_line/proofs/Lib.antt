@@ -2,6 +2,9 @@ pub mod Stores
 pub mod Undo
 pub mod Undoing
 pub mod Undos
+pub mod Blanks
+pub mod Notes
+pub mod Listed
 pub mod Entries
 pub mod PutBack
 pub mod Reading

@@ -1,5 +1,5 @@
 -- Room for a pointer, and that one is written.
-use Rattle.std.proofs.Common.{◌≡◌, ℕ, ◌<◌, ◌++◌, Bool, true, false, List, [], ◌∷◌, length, Option, Some, None, IsSome, is_some, IsTrue, refl, sym, ap, ◌∙◌, subst}
+use Rattle.std.proofs.Common.{◌≡◌, ℕ, ◌<◌, Bool, true, false, List, length, Option, Some, None, IsSome, is_some, IsTrue, refl, sym, ap, ◌∙◌, subst}
 use Rattle.std.proofs.lemmas.Bool.{false≢true}
 use Rattle.std.specs.Prelude.{IfSome, IfNone, ◌↔◌}
 use Rattle.std.specs.Option.{option_map}
@@ -22,6 +22,7 @@ use Rattle.pst_line.specs.declared.place.LinePlace.{LinePlace}
 use Rattle.pst_line.specs.Store.{state_of, is_made}
 use Rattle.pst_line.specs.StoreLaws.{one_pointer}
 use Rattle.pst_line.specs.Undoing.{IsNewestOf}
+use Rattle.pst_line.specs.Noted.{with_entry}
 use Rattle.pst_line.specs.Held.{Held, IsHeld, line_in, stored_of}
 use Rattle.pst_line.specs.Entered.{line_with, entry_at, HasEntered, HasNoRoom, IsLinked}
 use Rattle.pst_line.proofs.Reading.{kind_there}
@@ -73,7 +74,7 @@ module _ (s : Held) (h : IsHeld s) (at : LinePlace) (r : NodeId) (f : ℕ) (q : 
 -- g is the store before, and k that after the write was entered
 module _ (k n g : Held) (e : k ≡ n) (h : IsHeld g) (at : LinePlace) (r : NodeId) (f : ℕ) (q : NodeId) (may : MayStorePointer (state_of (stored_of g)) at r f (Some q)) (roomy : ¬ (HasNoRoom g at r f q)) (x : ℕ) (en : HasEntered g n r.0 f x)
     (t : ℕ) (t_is : t ≡ length g.versions) (z : ℕ) (cz : Covers (line_of (λ i. true) k.nodes) z t) (hz : (line_of (λ i. true) k.nodes).home z ≡ (line_of (λ i. true) k.nodes).home q.0) where
-  path : k ≡ record g { nodes = en.nodes; undo = g.undo ++ entry_at g en.nodes x f ∷ []; failed = true; root = en.root }
+  path : k ≡ record g { nodes = en.nodes; undo = with_entry (entry_at g en.nodes x f) g.undo; failed = true; root = en.root }
   path = e ∙ en.is
 
   nodes_are : k.nodes ≡ en.nodes

@@ -69,6 +69,7 @@ root_anew h k i r = record {
   closed = k.closed;
   whole = k.whole;
   empty = k.empty;
+  once = k.once;
   undone = k.undone;
   counted = k.counted;
   roots = k.roots;

@@ -1,5 +1,5 @@
 -- A run begins, and one is published.
-use Rattle.std.proofs.Common.{◌≡◌, ℕ, zero, suc, ◌+◌, ◌<◌, ◌≤◌, ◌++◌, ◌||◌, Bool, false, List, [], ◌∷◌, length, reverse, Option, Some, None, IsSome, refl, sym, ap, ◌∙◌, subst, ⊎_elim, arith, unwrap_or, length-append}
+use Rattle.std.proofs.Common.{◌≡◌, ℕ, zero, suc, ◌+◌, ◌<◌, ◌≤◌, ◌++◌, ◌||◌, Bool, false, List, [], ◌∷◌, length, Option, Some, None, IsSome, refl, sym, ap, ◌∙◌, subst, ⊎_elim, arith, unwrap_or, length-append}
 use Rattle.std.proofs.lemmas.Bool.{cases_lt, false≢true}
 use Rattle.pst_base.specs.declared.names.NodeId.{NodeId}
 use Rattle.pst_base.specs.declared.names.RunNo.{RunNo}
@@ -12,7 +12,7 @@ use Rattle.pst_line_nodes.specs.Nodes.{line_of, of_node, AreKept}
 use Rattle.pst_line.specs.declared.place.Stretch.{Stretch}
 use Rattle.pst_line.specs.declared.place.Undo.{Undo}
 use Rattle.pst_line.specs.Store.{Stored, state_of, is_made, in_stretch, in_run, IsStored, IsRested, IsClosed, Began, LinePublished}
-use Rattle.pst_line.specs.Undoing.{CanUndo}
+use Rattle.pst_line.specs.Undoing.{CanUndo, plan}
 use Rattle.pst_line.specs.Held.{Held, IsHeld, IsRootAt, line_in, stored_of}
 use Rattle.pst_line.proofs.Stores.{begin_law, publish_law, run_none, or_false, stretch-one}
 use Rattle.pst_line.proofs.Entries.{can_undo_begun}
@@ -63,9 +63,10 @@ module _ (s g : Held) (e : s ≡ g) (h : IsHeld s) (none : g.opened ≡ None) wh
     closed = λ o. absurd (cc);
     whole = λ o. absurd (cc);
     empty = λ o. absurd (cc);
-    undone = λ b o f. to_line (λ t. CanUndo t b (reverse s.undo))
-        (subst (λ (b : ℕ). CanUndo (record (stored_of s) { opened = Some (length s.nodes) }) b (reverse s.undo)) (let same : length s.nodes ≡ b = cc in same)
-        (subst (λ (us : List Undo). CanUndo (record (stored_of s) { opened = Some (length s.nodes) }) (length s.nodes) (reverse us)) (sym (h.empty was_none)) (can_undo_begun (stored_of s) h.stored (h.closed was_none) h.some)));
+    once = h.once;
+    undone = λ b o f. to_line (λ t. CanUndo t b (plan s.undo))
+        (subst (λ (b : ℕ). CanUndo (record (stored_of s) { opened = Some (length s.nodes) }) b (plan s.undo)) (let same : length s.nodes ≡ b = cc in same)
+        (subst (λ (us : List Undo). CanUndo (record (stored_of s) { opened = Some (length s.nodes) }) (length s.nodes) (plan us)) (sym (h.empty was_none)) (can_undo_begun (stored_of s) h.stored (h.closed was_none) h.some)));
     counted = h.counted;
     roots = h.roots;
     root = h.root;
@@ -136,6 +137,7 @@ module _ (s g : Held) (e : s ≡ g) (h : IsHeld s) (run : RunNo) (some : IsSome 
     closed = λ o. of_line IsClosed law_p.1;
     whole = λ o. whole_s;
     empty = λ o. refl;
+    once = tt;
     undone = λ b o f. absurd (cc);
     counted = h.counted;
     roots = roots_more s.nodes 0 s.versions row h.roots (subst (λ (n : ℕ). IsRootAt s.nodes n s.root) (let e : length s.versions ≡ 0 + length s.versions = omega arith in e) h.root);

@@ -111,6 +111,7 @@ module _ (shape : List TypeShape) (valid : IsValid shape) (w : Line) (d : IsRoot
     valid = λ p k. valid;
     line = next.0;
     homes = λ i m. let e : w.home i ≡ 0 = ap w.home (zero_is i m) ∙ d.home in omega (arith, e, d.one);
+    own = λ i m. let e : w.home i ≡ 0 = ap w.home (zero_is i m) ∙ d.home in ap w.home e ∙ d.home ∙ sym e;
     made = λ i m. ap w.made (zero_is i m) ∙ d.made ∙ sym (ap (is_made (first_store shape w).versions None) (ap w.home (zero_is i m) ∙ d.home));
     begun = λ b e. absurd (let no : None ≡ Some b = e in cc);
     ended = λ i m. over i (omega (arith, m, d.one));

@@ -70,6 +70,7 @@ module _ (shape : List TypeShape) (valid : IsValid shape) (old nodes : List Seen
     closed = λ o. law.1;
     whole = λ o. refl;
     empty = λ o. refl;
+    once = tt;
     undone = λ b o f. absurd (cc);
     counted = record { records = omega arith; pointer_writes = omega arith; value_writes = omega arith };
     roots = (root_at 0, tt);

@@ -129,12 +129,13 @@ module _ (s : Stored) (w : Line) (c : Counts) (h : IsStored s) (stay : VersionsS
     counts = e;
   }
 
-  pub stored_after : IsLine s.shape (stamp s) w → ((i : ℕ) → i < w.count → w.home i < w.count) → ((i : ℕ) → i < w.count → w.made i ≡ is_made s.versions s.opened (w.home i)) → s.line.count ≤ w.count
+  pub stored_after : IsLine s.shape (stamp s) w → ((i : ℕ) → i < w.count → w.home i < w.count) → ((i : ℕ) → i < w.count → w.home (w.home i) ≡ w.home i) → ((i : ℕ) → i < w.count → w.made i ≡ is_made s.versions s.opened (w.home i)) → s.line.count ≤ w.count
       → ((p : LinePlace) → IsRun s p → IsWellFormed s.shape (heap_at s.shape w (stamp s))) → load s.shape w (stamp s) ≤ bound c → IsStored (after s w c)
-  stored_after line homes made grows formed bounded = record {
+  stored_after line homes own made grows formed bounded = record {
     valid = λ p k. h.valid p (back p k);
     line = line;
     homes = homes;
+    own = own;
     made = made;
     begun = λ b e. omega (arith, h.begun b e, grows);
     ended = λ i l. h.ended i (elim s.opened as (λ (o : Option ℕ). unwrap_or o w.count ≤ i → unwrap_or o s.line.count ≤ i) [ None ↦ λ m. omega (arith, m, grows) | Some b ↦ λ m. m ] l);
@@ -148,6 +149,7 @@ module _ (s : Stored) (w : Line) (c : Counts) (h : IsStored s) (stay : VersionsS
   pub same_after : HasSameNodes s.line w → IsLine s.shape (stamp s) w → ((p : LinePlace) → IsRun s p → IsWellFormed s.shape (heap_at s.shape w (stamp s))) → load s.shape w (stamp s) ≤ bound c → IsStored (after s w c)
   same_after o line formed bounded = stored_after line
       (λ i m. omega (arith, h.homes i (omega (arith, m, o.count)), o.home i, o.count))
+      (λ i m. o.home (w.home i) ∙ ap s.line.home (o.home i) ∙ h.own i (omega (arith, m, o.count)) ∙ sym (o.home i))
       (λ i m. o.made i ∙ h.made i (omega (arith, m, o.count)) ∙ ap (is_made s.versions s.opened) (sym (o.home i)))
       (omega (arith, o.count)) formed bounded
 
@@ -219,6 +221,11 @@ copy_law' s w x h d full =
             | inr p ↦ omega (arith, h.homes i p, d.home i p, d.count)
           ])
           (λ i m. elim (sides i m) [
+            | inl p ↦ let a : w.home i ≡ s.line.home x = ap w.home p ∙ d.home_z in
+                ap w.home a ∙ d.home (s.line.home x) (h.homes x d.newest.there) ∙ h.own x d.newest.there ∙ sym a
+            | inr p ↦ ap w.home (d.home i p) ∙ d.home (s.line.home i) (h.homes i p) ∙ h.own i p ∙ sym (d.home i p)
+          ])
+          (λ i m. elim (sides i m) [
             | inl p ↦ ap w.made p ∙ d.made_z ∙ h.made x d.newest.there ∙ ap (is_made s.versions s.opened) (sym (ap w.home p ∙ d.home_z))
             | inr p ↦ d.made i p ∙ h.made i p ∙ ap (is_made s.versions s.opened) (sym (d.home i p))
           ])
@@ -257,6 +264,10 @@ allocate_law s w at q ty h open' new fresh d =
             | inr p ↦ omega (arith, h.homes i p, d.home i p, d.count)
           ])
           (λ i m. elim (sides i m) [
+            | inl p ↦ let a : w.home i ≡ s.line.count = ap w.home p ∙ d.home_z in ap w.home a ∙ d.home_z ∙ sym a
+            | inr p ↦ ap w.home (d.home i p) ∙ d.home (s.line.home i) (h.homes i p) ∙ h.own i p ∙ sym (d.home i p)
+          ])
+          (λ i m. elim (sides i m) [
             | inl p ↦ ap w.made p ∙ d.made_z ∙ sym (ap (is_made s.versions s.opened) (ap w.home p ∙ d.home_z) ∙ run_made s.line.count open'.run.begun open'.run.opened (h.begun open'.run.begun open'.run.opened))
             | inr p ↦ d.made i p ∙ h.made i p ∙ ap (is_made s.versions s.opened) (sym (d.home i p))
           ])
@@ -292,7 +303,7 @@ fail_law s h =
     let t : Stored = record s { failed = true } in
     let to : (p : LinePlace) → IsPlace s p → IsPlace t p = λ p k. elim k [ inl a ↦ inl a | inr r ↦ inr (record { begun = r.begun; opened = r.opened; newest = r.newest }) ] in
     let of : (p : LinePlace) → IsPlace t p → IsPlace s p = λ p k. elim k [ inl a ↦ inl a | inr r ↦ inr (record { begun = r.begun; opened = r.opened; newest = r.newest }) ] in (
-      record { valid = λ p k. h.valid p (of p k); line = h.line; homes = h.homes; made = h.made; begun = h.begun; ended = h.ended; well_formed = λ p k. h.well_formed p (of p k); bounded = h.bounded },
+      record { valid = λ p k. h.valid p (of p k); line = h.line; homes = h.homes; own = h.own; made = h.made; begun = h.begun; ended = h.ended; well_formed = λ p k. h.well_formed p (of p k); bounded = h.bounded },
       record {
         keeps = record { grows = record { shape = refl; spent = refl; has = to; live = λ p r l. (to p l.0, l.1); name = λ p r l. refl }; back = of; versions = refl; forks = refl; fork_calls = refl };
         heaps = λ p k. refl;
@@ -324,6 +335,7 @@ begin_law s h c ok some =
         valid = λ p k. h.valid newest place;
         line = h.line;
         homes = h.homes;
+        own = h.own;
         made = λ i m. h.made i m ∙ ap (λ o. is_made s.versions o (s.line.home i)) c.none ∙ ap (λ b. in_stretch s.versions (s.line.home i) || b) (sym (run_none s.line.count (s.line.home i) (h.homes i m)));
         begun = λ b e. let same : s.line.count ≡ b = cc in omega (arith, same);
         ended = λ i m. h.ended i (rw c.none m);
@@ -412,6 +424,7 @@ publish_law s b run root h r e =
         valid = λ p k. h.valid p (of p k);
         line = subst (λ (m : ℕ). IsLine s.shape m s.line) (sym len) n.0;
         homes = h.homes;
+        own = h.own;
         made = λ i m. h.made i m ∙ ap (λ o. is_made s.versions o (s.line.home i)) e ∙ sym (stretch-one s.versions run root b s.line.count (s.line.home i) (h.homes i m)) ∙ sym (or_false (in_stretch t.versions (s.line.home i)));
         begun = λ b e. absurd (cc);
         ended = λ i m. stretch-none s.versions run root b s.line.count i m (h.ended i (rw e (let k = h.begun b e in omega (arith, k, m))));
@@ -456,6 +469,7 @@ undone_law s w b h r e d young old same =
         valid = λ p k. h.valid p (inl (of p k));
         line = n.0;
         homes = λ i m. omega (arith, h.homes i (was i m), d.home i, d.count);
+        own = λ i m. d.home (w.home i) ∙ ap s.line.home (d.home i) ∙ h.own i (was i m) ∙ sym (d.home i);
         made = made;
         begun = λ b e. absurd (cc);
         ended = λ i m. h.ended i (rw e (let k = h.begun b e in omega (arith, k, m, d.count)));

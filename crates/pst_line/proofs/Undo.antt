@@ -19,6 +19,13 @@ set-back [] k a d l = absurd (omega arith)
 set-back (x ∷ xs) zero a d l = refl
 set-back (x ∷ xs) (suc k) a d l = ap (λ ys. x ∷ ys) (set-back xs k a d (omega arith))
 
+-- one record in the place of another one
+pub put-twice : (h : Heap) (n : Name) (r s : Rec) → with_record (with_record h n s) n r ≡ with_record h n r
+put-twice h n r s = same_heap _ _ (λ q. get-with_record (with_record h n s) n r q ∙ ⊎_elim
+    (λ (t : name_eq q n ≡ true). ap (λ b. cond b (Some r) (get (with_record h n s) q)) t ∙ sym (get-with_record h n r q ∙ ap (λ b. cond b (Some r) (get h q)) t))
+    (λ (t : name_eq q n ≡ false). ap (λ b. cond b (Some r) (get (with_record h n s) q)) t ∙ get-with_record h n s q ∙ ap (λ b. cond b (Some s) (get h q)) t ∙ sym (get-with_record h n r q ∙ ap (λ b. cond b (Some r) (get h q)) t))
+    (cases_Bool (name_eq q n)))
+
 -- a record that is put in the place of another one, and taken back
 put-back : (h : Heap) (n : Name) (r s : Rec) → get h n ≡ Some r → with_record (with_record h n s) n r ≡ h
 put-back h n r s e = same_heap _ _ (λ q. get-with_record (with_record h n s) n r q ∙ ⊎_elim
@@ -26,7 +33,7 @@ put-back h n r s e = same_heap _ _ (λ q. get-with_record (with_record h n s) n 
     (λ (t : name_eq q n ≡ false). ap (λ b. cond b (Some r) (get (with_record h n s) q)) t ∙ get-with_record h n s q ∙ ap (λ b. cond b (Some s) (get h q)) t)
     (cases_Bool (name_eq q n)))
 
-there : (h : Heap) (n : Name) (s : Rec) → get (with_record h n s) n ≡ Some s
+pub there : (h : Heap) (n : Name) (s : Rec) → get (with_record h n s) n ≡ Some s
 there h n s = get-with_record h n s n ∙ ap (λ b. cond b (Some s) (get h n)) (name_eq-same n)
 
 pub value_back_law : ValueBackLaw
@@ -53,20 +60,20 @@ entry_law shape name base h new m ms formed back leads = (subst (IsWellFormed sh
 -- ---- a new record
 
 -- what is put back into a record
-abbrev back_in : (ℕ → Name) → ℕ → Content → Rec → Rec
+abbrev pub back_in : (ℕ → Name) → ℕ → Content → Rec → Rec
 back_in name slot (Number v) r = value_set r slot v
 back_in name slot Null r = pointer_set r slot None
 back_in name slot (Target y) r = pointer_set r slot (Some (name y))
 
-back_is : (name : ℕ → Name) (h : Heap) (n : Name) (slot : ℕ) (c : Content) → put_back name h n slot c ≡ changed (back_in name slot c) h n (get h n)
+pub back_is : (name : ℕ → Name) (h : Heap) (n : Name) (slot : ℕ) (c : Content) → put_back name h n slot c ≡ changed (back_in name slot c) h n (get h n)
 back_is name h n slot (Number v) = refl
 back_is name h n slot Null = refl
 back_is name h n slot (Target y) = refl
 
-off_name : (q n : Name) → n ≢ q → name_eq q n ≡ false
+pub off_name : (q n : Name) → n ≢ q → name_eq q n ≡ false
 off_name q n ne = ⊎_elim (λ (t : name_eq q n ≡ true). absurd (ne (sym (name_eq-true q n t)))) (λ (t : name_eq q n ≡ false). t) (cases_Bool (name_eq q n))
 
-get_changed : (f : Rec → Rec) (h : Heap) (n q : Name) (o : Option Rec) → n ≢ q → get (changed f h n o) q ≡ get h q
+pub get_changed : (f : Rec → Rec) (h : Heap) (n q : Name) (o : Option Rec) → n ≢ q → get (changed f h n o) q ≡ get h q
 get_changed f h n q None ne = refl
 get_changed f h n q (Some r) ne = get-with_record h n (f r) q ∙ ap (λ b. cond b (Some (f r)) (get h q)) (off_name q n ne)
 
@@ -82,7 +89,7 @@ swap h n q r s ne = same_heap _ _ (λ k. get-with_record (with_record h q s) n r
     (cases_Bool (name_eq k n))
     ∙ sym (get-with_record (with_record h n r) q s k ∙ ap (cond (name_eq k q) (Some s)) (get-with_record h n r k)))
 
-changed_swap : (f : Rec → Rec) (h : Heap) (n q : Name) (s : Rec) (o : Option Rec) → n ≢ q → changed f (with_record h q s) n o ≡ with_record (changed f h n o) q s
+pub changed_swap : (f : Rec → Rec) (h : Heap) (n q : Name) (s : Rec) (o : Option Rec) → n ≢ q → changed f (with_record h q s) n o ≡ with_record (changed f h n o) q s
 changed_swap f h n q s None ne = refl
 changed_swap f h n q s (Some r) ne = swap h n q (f r) s ne
 

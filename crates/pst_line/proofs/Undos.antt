@@ -1,5 +1,5 @@
 -- That a run can be undone, and what keeps it so.
-use Rattle.std.proofs.Common.{◌≡◌, ℕ, zero, suc, ◌-◌, ◌<◌, ◌≤◌, List, [], ◌∷◌, map, Some, None, refl, sym, ap, ◌∙◌, subst, inl, inr, ⊎_elim, arith}
+use Rattle.std.proofs.Common.{◌≡◌, ℕ, suc, ◌-◌, ◌<◌, ◌≤◌, List, [], ◌∷◌, map, Some, None, refl, sym, ap, ◌∙◌, subst, inl, inr, ⊎_elim, arith}
 use Rattle.std.proofs.lemmas.Bool.{cases_lt, cases_eq}
 use Rattle.std.specs.Prelude.{All}
 use Rattle.std.specs.FinMap.{get}
@@ -110,6 +110,7 @@ module _ (s : Stored) (w : Line) (c : Counts) (nodes : NodesStay s.line w (stamp
   pub entered_after : (u : Undo) → IsEntered s u → IsEntered (after s w c) u
   entered_after u e = record {
     live = (stay.live u.node.0 (stamp s) (omega arith) e.live).0;
+    home = nodes.home u.node.0 e.live.there ∙ e.home;
     fits = fits_after u.node.0 u.slot u.content e.live.there e.fits;
     since = subst (λ (n : ℕ). IsSince w n u.slot (stamp s)) (sym (nodes.home u.node.0 e.live.there)) (nodes.since (s.line.home u.node.0) u.slot e.since);
   }
@@ -142,10 +143,10 @@ module _ (s : Stored) (w : Line) (c : Counts) (b : ℕ) (went : Went s.line w (s
     }
 
     -- the entries lead back from the heap of before
-    leads_after : LeadsBack s.shape w.name u.base (map (mark_of w.name) es) (heap_at s.shape s.line (stamp s))
+    pub leads_after : LeadsBack s.shape w.name u.base (map (mark_of w.name) es) (heap_at s.shape s.line (stamp s))
     leads_after = leads-same s.shape s.line.name w.name u.base es (heap_at s.shape s.line (stamp s)) (λ k d m. names_after s w c went.nodes stay _ (u.entered k d m)) u.leads
 
-    with_leads : (xs : List Undo) → LeadsBack s.shape w.name u.base (map (mark_of w.name) xs) (heap_at s.shape w (stamp s)) → All (IsEntered (after s w c)) xs → CanUndo (after s w c) b xs
+    pub with_leads : (xs : List Undo) → LeadsBack s.shape w.name u.base (map (mark_of w.name) xs) (heap_at s.shape w (stamp s)) → All (IsEntered (after s w c)) xs → CanUndo (after s w c) b xs
     with_leads xs l a = record {
       some = u.some;
       young = λ i m k. let o = young_after i m k in went.nodes.first i o.0 ∙ u.young i o.0 o.1;
@@ -158,15 +159,6 @@ module _ (s : Stored) (w : Line) (c : Counts) (b : ℕ) (went : Went s.line w (s
     -- a change that no heap shows
     pub can_undo_same : heap_at s.shape w (stamp s) ≡ heap_at s.shape s.line (stamp s) → CanUndo (after s w c) b es
     can_undo_same e = with_leads es (subst (LeadsBack s.shape w.name u.base (map (mark_of w.name) es)) (sym e) leads_after) (λ k d m. entered_after s w c went.nodes stay _ (u.entered k d m))
-
-    -- a write that is entered
-    pub can_undo_more : (v : Undo) → IsEntered (after s w c) v → IsWellFormed s.shape (heap_at s.shape s.line (stamp s))
-        → put_back w.name (heap_at s.shape w (stamp s)) (w.name v.node.0) v.slot v.content ≡ heap_at s.shape s.line (stamp s) → CanUndo (after s w c) b (v ∷ es)
-    can_undo_more v i formed e = with_leads (v ∷ es) (subst (IsWellFormed s.shape) (sym e) formed, subst (LeadsBack s.shape w.name u.base (map (mark_of w.name) es)) (sym e) leads_after) all
-      where
-        all : All (IsEntered (after s w c)) (v ∷ es)
-        all zero d m = i
-        all (suc k) d m = entered_after s w c went.nodes stay _ (u.entered k d (omega arith))
 
   -- a write that is undone
   pub can_undo_less : (v : Undo) (es : List Undo) → CanUndo s b (v ∷ es) → heap_at s.shape w (stamp s) ≡ put_back s.line.name (heap_at s.shape s.line (stamp s)) (s.line.name v.node.0) v.slot v.content → CanUndo (after s w c) b es

@@ -8,8 +8,10 @@ use Rattle.pst_versions.specs.declared.rows.VersionRow.{VersionRow}
 use Rattle.pst_line.specs.declared.place.LinePlace.{LinePlace}
 use Rattle.pst_line.specs.declared.place.Stretch.{Stretch}
 use Rattle.pst_line.specs.Store.{state_of, rows_from, stamp, IsPlace, IsWritable, IsStored, IsRested, IsClosed, IsEmpty, Means, IsChain}
-use Rattle.pst_line.specs.Held.{Held, IsHeld, empty_held, stored_of, stored_in, state_in}
+use Rattle.pst_line.specs.Held.{Held, IsHeld, empty_held, stored_of, stored_in, undo_in, state_in}
+use Rattle.pst_line.specs.Noted.{AreNoted}
 use Rattle.pst_line.proofs.Stores.{sound_law, rows_count}
+use Rattle.pst_line.proofs.Notes.{entered_plan}
 
 -- ---- the versions
 
@@ -87,6 +89,11 @@ chain_in (Some h) = record {
   parent = λ v row e. (rows_are h.versions 0 v row e).1 ∙ ap (λ (n : ℕ). record { 0 = n - 1 }) (let n : 0 + v ≡ v = omega arith in n);
   has = λ v row e. let is = rows_are h.versions 0 v row e in let n : row.place.stamp ≡ 0 + v = ap (λ (p : LinePlace). p.stamp) is.0 in inl (omega (arith, is.2, n));
 }
+
+-- what is noted for an undo
+pub listed_whole : (o : Option Held) → IfSome o IsHeld → AreNoted (stored_in o) (undo_in o)
+listed_whole None h = record { once = tt; written = λ b o. absurd (let q : None ≡ Some b = o in cc); none = λ o. refl }
+listed_whole (Some h) k = record { once = k.once; written = λ b o f. entered_plan (stored_of h) h.undo (k.undone b o f).entered; none = k.empty }
 
 -- what is so of the store is so of the one inside, and what is so of the one inside of the store
 pub inside : (o g : Option Held) (s : Held) (P : Option Held → Type 0) → o ≡ g → o ≡ Some s → P g → P (Some s)

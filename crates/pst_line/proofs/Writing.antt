@@ -1,17 +1,16 @@
 -- A write of the open run.
-use Rattle.std.proofs.Common.{◌≡◌, ℕ, ◌+◌, ◌<◌, ◌≤◌, ◌++◌, Bool, true, false, List, [], ◌∷◌, length, reverse, Option, Some, None, IsSome, ℤ, refl, sym, ap, ◌∙◌, subst, ⊎_elim, arith}
+use Rattle.std.proofs.Common.{◌≡◌, ℕ, ◌+◌, ◌<◌, ◌≤◌, Bool, true, false, List, length, Option, Some, None, IsSome, ℤ, refl, sym, ap, ◌∙◌, subst, ⊎_elim, arith}
 use Rattle.std.proofs.lemmas.Bool.{cases_eq, cases_lt, false≢true}
-use Rattle.std.proofs.lemmas.List.{reverse-append}
 use Rattle.pst_base.specs.declared.names.Counts.{Counts}
 use Rattle.pst_base.specs.declared.names.Name.{Name}
 use Rattle.pst_base.specs.declared.names.TypeNo.{TypeNo}
 use Rattle.pst_base.specs.declared.names.Kind.{Kind}
 use Rattle.pst_base.specs.Shape.{type_at, field_kind}
-use Rattle.pst_base.specs.Heap.{Heap, IsWellFormed, with_value, with_pointer}
+use Rattle.pst_base.specs.Heap.{Heap, IsWellFormed, IsPointer, with_value, with_pointer}
 use Rattle.pst_places.specs.State.{State, Unchanged, WritesStay, ValueStored, PointerStored}
 use Rattle.pst_places.proofs.StateLemmas.{Keeps_trans, OthersStay_trans, OthersStay_unchanged}
 use Rattle.pst_line_nodes.specs.declared.content.Content.{Content}
-use Rattle.pst_line_nodes.specs.declared.content.Content.TheVariants.{Target}
+use Rattle.pst_line_nodes.specs.declared.content.Content.TheVariants.{Number, Null, Target}
 use Rattle.pst_line_nodes.specs.Line.{IsNewest, IsLive, IsLine, heap_at, most}
 use Rattle.pst_line_nodes.specs.Changes.{IsSet, VersionsStay}
 use Rattle.pst_line_nodes.specs.Seen.{Seen}
@@ -23,13 +22,15 @@ use Rattle.pst_line.specs.declared.place.Undo.{Undo}
 use Rattle.pst_line.specs.Store.{Stored, state_of, is_made, IsRun, IsStored}
 use Rattle.pst_line.specs.StoreLaws.{after}
 use Rattle.pst_line.specs.Undo.{put_back}
-use Rattle.pst_line.specs.Undoing.{IsEntered, CanUndo}
+use Rattle.pst_line.specs.Undoing.{Fits, IsEntered, CanUndo, plan}
+use Rattle.pst_line.specs.Noted.{with_entry, IsOnce}
 use Rattle.pst_line.specs.Held.{Held, IsHeld, AreCounted, line_in, stored_of}
 use Rattle.pst_line.specs.Entered.{line_with, entry_at, HasMadeRoom}
 use Rattle.pst_line.proofs.Stores.{stored_after, unchanged, writes, formed_at, fail_law}
-use Rattle.pst_line.proofs.Undos.{went_set, fits_after, can_undo_same, can_undo_more}
+use Rattle.pst_line.proofs.Undos.{went_set, fits_after, can_undo_same}
 use Rattle.pst_line.proofs.Entries.{fits_held}
 use Rattle.pst_line.proofs.PutBack.{quiet_set}
+use Rattle.pst_line.proofs.Notes.{can_undo_written, once_more}
 use Rattle.pst_line.proofs.Roots.{RootsStay, stay_same, stay_carried, have_roots}
 
 -- ---- one change after another
@@ -64,8 +65,14 @@ module _ (g : Held) (h : IsHeld g) (ns : List Seen) (d : IsCarried g.shape (leng
       (λ (l : length g.nodes ≤ i). let o = d.went.copied i l m in omega (arith, h.stored.homes o.from o.there, o.home, d.went.nodes.count))
       (cases_lt i (length g.nodes))
 
+  own_carried : (i : ℕ) → i < length ns → (line_with g ns).home ((line_with g ns).home i) ≡ (line_with g ns).home i
+  own_carried i m = ⊎_elim (λ (l : i < length g.nodes). of i i l (d.went.nodes.home i l)) (λ (l : length g.nodes ≤ i). let o = d.went.copied i l m in of i o.from o.there o.home) (cases_lt i (length g.nodes))
+    where
+      of : (i j : ℕ) → j < length g.nodes → (line_with g ns).home i ≡ (line_in g).home j → (line_with g ns).home ((line_with g ns).home i) ≡ (line_with g ns).home i
+      of i j l e = ap (line_with g ns).home e ∙ d.went.nodes.home ((line_in g).home j) (h.stored.homes j l) ∙ h.stored.own j l ∙ sym e
+
   pub carried_stored : IsStored (after (stored_of g) (line_with g ns) g.counts)
-  carried_stored = stored_after (stored_of g) (line_with g ns) g.counts h.stored d.stay d.line homes_carried (λ i m. refl) d.went.nodes.count
+  carried_stored = stored_after (stored_of g) (line_with g ns) g.counts h.stored d.stay d.line homes_carried own_carried (λ i m. refl) d.went.nodes.count
       (λ p r. subst (IsWellFormed g.shape) (sym d.heap) (formed_at (stored_of g) p h.stored r)) (let w = d.within in omega (arith, w, h.stored.bounded))
 
   pub carried_unchanged : Unchanged (state_of (stored_of g)) (state_of (after (stored_of g) (line_with g ns) g.counts))
@@ -78,8 +85,8 @@ module _ (g : Held) (h : IsHeld g) (ns : List Seen) (d : IsCarried g.shape (leng
   carried_roots = stay_carried (is_made g.versions g.opened) g.nodes ns (length g.versions) d.went.nodes
 
   -- the store has failed
-  pub failed_held : AreKept g.shape (length g.versions) ns → IsSome g.opened → (us : List Undo) → IsHeld (record g { nodes = ns; undo = us; failed = true })
-  failed_held kept some us = record {
+  pub failed_held : AreKept g.shape (length g.versions) ns → IsSome g.opened → (us : List Undo) → IsOnce us → IsHeld (record g { nodes = ns; undo = us; failed = true })
+  failed_held kept some us once = record {
     stored = (fail_law (after (stored_of g) (line_with g ns) g.counts) carried_stored).0;
     some = h.some;
     few = h.few;
@@ -89,6 +96,7 @@ module _ (g : Held) (h : IsHeld g) (ns : List Seen) (d : IsCarried g.shape (leng
     closed = λ o. absurd (none_some o);
     whole = λ o. absurd (none_some o);
     empty = λ o. absurd (none_some o);
+    once = once;
     undone = λ b o f. absurd (false≢true (sym f));
     counted = h.counted;
     roots = have_roots g.nodes ns carried_roots 0 g.versions h.roots;
@@ -133,21 +141,49 @@ module _ (g : Held) (h : IsHeld g) (b : ℕ) (opened : g.opened ≡ Some b) (who
   live : IsLive (line_with g ms) x (length g.versions)
   live = (stay.live x (length g.versions) (omega arith) (record { there = m.newest.there.covers.there; made = m.newest.there.made; begun = m.newest.there.covers.begun })).0
 
-  entered : IsEntered (after mid (line_with g ms) counts) (entry_at g ns x f)
+  -- the first node of the record
+  own : (line_with g ms).home ((line_with g ms).home x) ≡ (line_with g ms).home x
+  own = stored.own x x_new.there
+
+  first_there : (line_with g ms).home x < length ms
+  first_there = stored.homes x x_new.there
+
+  first_same : ((line_with g ms).name ((line_with g ms).home x) ≡ (line_with g ms).name x) × ((line_with g ms).ty ((line_with g ms).home x) ≡ (line_with g ms).ty x) × ((line_with g ms).made ((line_with g ms).home x) ≡ (line_with g ms).made x)
+  first_same = line.chained.same ((line_with g ms).home x) x first_there x_new.there own
+
+  abbrev entry : Undo
+  entry = record { node = record { 0 = (line_with g ms).home x }; slot = f; content = (line_with g ns).holds x f (length g.versions) }
+
+  entry_is : entry_at g ns x f ≡ entry
+  entry_is = ap (λ (n : ℕ). record { node = record { 0 = n }; slot = f; content = (line_with g ns).holds x f (length g.versions) }) (sym (d.nodes.home x))
+
+  fits_x : Fits (after mid (line_with g ms) counts) x f ((line_with g ns).holds x f (length g.versions))
+  fits_x = fits_after mid (line_with g ms) counts (went_set (line_with g ns) (line_with g ms) x f (length g.versions) k c d).nodes stay x f ((line_with g ns).holds x f (length g.versions)) m.newest.there.covers.there
+      (fits_held mid x f kind mid_stored m.newest.there field ((line_with g ns).holds x f (length g.versions)) refl)
+
+  -- what fits a node of the record fits the first one
+  fits_first : (e : Content) → Fits (after mid (line_with g ms) counts) x f e → Fits (after mid (line_with g ms) counts) ((line_with g ms).home x) f e
+  fits_first (Number v) p = ap (λ (u : TypeNo). field_kind (type_at g.shape u) f) first_same.1 ∙ p
+  fits_first Null p = subst (λ (u : TypeNo). IsPointer (field_kind (type_at g.shape u) f)) (sym first_same.1) p
+  fits_first (Target y) p = (p.0, ap (λ (u : TypeNo). field_kind (type_at g.shape u) f) first_same.1 ∙ p.1)
+
+  entered : IsEntered (after mid (line_with g ms) counts) entry
   entered = record {
-    live = live;
-    fits = fits_after mid (line_with g ms) counts (went_set (line_with g ns) (line_with g ms) x f (length g.versions) k c d).nodes stay x f ((line_with g ns).holds x f (length g.versions)) m.newest.there.covers.there
-        (fits_held mid x f kind mid_stored m.newest.there field ((line_with g ns).holds x f (length g.versions)) refl);
-    since = since;
+    live = record { there = first_there; made = first_same.2 ∙ live.made; begun = line.first ((line_with g ms).home x) first_there };
+    home = own;
+    fits = fits_first ((line_with g ns).holds x f (length g.versions)) fits_x;
+    since = subst (λ (h : ℕ). IsSince (line_with g ms) h f (length g.versions)) (sym own) since;
   }
 
-  can : CanUndo (after mid (line_with g ms) counts) b (entry_at g ns x f ∷ reverse g.undo)
-  can = can_undo_more mid (line_with g ms) counts b (went_set (line_with g ns) (line_with g ms) x f (length g.versions) k c d) stay (reverse g.undo)
-      (can_undo_same (stored_of g) (line_with g ns) g.counts b m.carried.went m.carried.stay (reverse g.undo) (h.undone b opened whole) m.carried.heap)
-      (entry_at g ns x f) entered formed back
+  formed_now : IsWellFormed g.shape (heap_at g.shape (line_with g ms) (length g.versions))
+  formed_now = formed_at (after mid (line_with g ms) counts) (record { stamp = length g.versions }) stored (record { begun = b; opened = opened; newest = refl })
 
-  more_undo : reverse (g.undo ++ entry_at g ns x f ∷ []) ≡ entry_at g ns x f ∷ reverse g.undo
-  more_undo = reverse-append g.undo (entry_at g ns x f ∷ [])
+  can : CanUndo (after mid (line_with g ms) counts) b (plan (with_entry (entry_at g ns x f) g.undo))
+  can = subst (λ (v : Undo). CanUndo (after mid (line_with g ms) counts) b (plan (with_entry v g.undo))) (sym entry_is)
+      (can_undo_written mid (line_with g ms) counts b (went_set (line_with g ns) (line_with g ms) x f (length g.versions) k c d) stay g.undo
+      (can_undo_same (stored_of g) (line_with g ns) g.counts b m.carried.went m.carried.stay (plan g.undo) (h.undone b opened whole) m.carried.heap)
+      entry line entered formed_now formed
+      (ap (λ (n : Name). put_back (line_with g ms).name (heap_at g.shape (line_with g ms) (length g.versions)) n f ((line_with g ns).holds x f (length g.versions))) first_same.0 ∙ back))
 
   small : AreSmall g.shape (line_with g ms)
   small i l =
@@ -166,7 +202,7 @@ module _ (g : Held) (h : IsHeld g) (b : ℕ) (opened : g.opened ≡ Some b) (who
       (λ (ne : i ≡ x → ⊥). omega (arith, was, same, d.other_stamped i ne))
       (cases_eq i x)
 
-  pub written_held : IsHeld (record g { nodes = ms; undo = g.undo ++ entry_at g ns x f ∷ []; failed = false; counts = counts })
+  pub written_held : IsHeld (record g { nodes = ms; undo = with_entry (entry_at g ns x f) g.undo; failed = false; counts = counts })
   written_held = record {
     stored = subst (λ (o : Bool). IsStored (record (after mid (line_with g ms) counts) { failed = o })) whole stored;
     some = h.some;
@@ -177,9 +213,9 @@ module _ (g : Held) (h : IsHeld g) (b : ℕ) (opened : g.opened ≡ Some b) (who
     closed = λ o. absurd (let no : None ≡ Some b = sym o ∙ opened in cc);
     whole = λ o. refl;
     empty = λ o. absurd (let no : None ≡ Some b = sym o ∙ opened in cc);
-    undone = λ q o w. subst (λ (us : List Undo). CanUndo (record (after mid (line_with g ms) counts) { failed = false }) q us) (sym more_undo)
-        (subst (λ (q : ℕ). CanUndo (record (after mid (line_with g ms) counts) { failed = false }) q (entry_at g ns x f ∷ reverse g.undo)) (let same : b ≡ q = cc in same)
-        (subst (λ (o : Bool). CanUndo (record (after mid (line_with g ms) counts) { failed = o }) b (entry_at g ns x f ∷ reverse g.undo)) whole can));
+    once = once_more (entry_at g ns x f) g.undo h.once;
+    undone = λ q o w. subst (λ (q : ℕ). CanUndo (record (after mid (line_with g ms) counts) { failed = false }) q (plan (with_entry (entry_at g ns x f) g.undo))) (let same : b ≡ q = cc in same)
+        (subst (λ (o : Bool). CanUndo (record (after mid (line_with g ms) counts) { failed = o }) b (plan (with_entry (entry_at g ns x f) g.undo))) whole can);
     counted = counted;
     roots = have_roots g.nodes ms both 0 g.versions h.roots;
     root = both (length g.versions) g.root h.root;

@@ -1,15 +1,18 @@
 -- What undoing a run's writes needs of the nodes, and what it does to what a store holds.
-use Rattle.std.specs.Prelude.{◌≡◌, ℕ, ◌+◌, Bool, List, length}
+use Rattle.std.specs.Prelude.{◌≡◌, ℕ, ◌++◌, Bool, List, Some, length}
 use Rattle.pst_base.specs.declared.shape.TypeShape.{TypeShape}
 use Rattle.pst_line_nodes.specs.declared.content.Content.TheVariants.{Target}
 use Rattle.pst_line_nodes.specs.Line.{IsNewest, IsLive, IsLine}
-use Rattle.pst_line_nodes.specs.Changes.{VersionsStay}
+use Rattle.pst_line_nodes.specs.Changes.{HasSameNodes, VersionsStay}
 use Rattle.pst_line_nodes.specs.Seen.{Seen}
 use Rattle.pst_line_nodes.specs.Nodes.{line_of, AreKept, HasSlot}
 use Rattle.pst_line_nodes.specs.Carried.{AreAllOthers}
 use Rattle.pst_line.specs.declared.place.Undo.{Undo}
-use Rattle.pst_line.specs.Undoing.{IsNewestOf, IsPut}
-use Rattle.pst_line.specs.Held.{Held, line_in}
+use Rattle.pst_line.specs.declared.undo_run.Step.{Step}
+use Rattle.pst_line.specs.declared.undo_run.Step.TheVariants.{Clear, Restore}
+use Rattle.pst_line.specs.Store.{IsStored, IsRested}
+use Rattle.pst_line.specs.Undoing.{IsNewestOf, IsPut, CanUndo, blanked}
+use Rattle.pst_line.specs.Held.{Held, line_in, stored_of}
 use Rattle.pst_line.specs.Entered.{line_with}
 
 -- A record lives at the newest stamp, and its newest node has room for a pointer from the field (x, f).
@@ -17,8 +20,8 @@ pub record CanBeHeld (shape : List TypeShape) (made : ℕ → Bool) (t : ℕ) (n
   pub live : IsLive (line_of made nodes) y t
   pub room : (z : ℕ) → IsNewestOf (line_of made nodes) t y z → AreAllOthers shape (line_of made nodes) z x f → ⊥
 
--- The entry of the last write can be put back into the newest node x: what is in the field now replaced it at the newest
--- stamp, so that nothing is stamped.
+-- An entry can be put back into the newest node x: what is in the field now is in force from the newest stamp on, so that
+-- nothing is stamped.
 pub record MayPutBack (shape : List TypeShape) (made : ℕ → Bool) (t : ℕ) (nodes : List Seen) (x : ℕ) (u : Undo) : Type 0 where
   pub kept : AreKept shape t nodes
   pub line : IsLine shape t (line_of made nodes)
@@ -32,15 +35,28 @@ pub record HasPutBack (shape : List TypeShape) (made : ℕ → Bool) (t : ℕ) (
   pub put : IsPut shape (line_of made old) (line_of made new) x u.slot t u.content
   pub kept : AreKept shape t new
 
--- Some of the last writes are undone. No version, and nothing that is live at one, changes.
-pub record IsBack (old new : Held) : Type 0 where
-  pub nodes : List Seen
-  pub undo : List Undo
-  pub is : new ≡ record old { nodes = nodes; undo = undo }
-  pub stay : VersionsStay old.shape (length old.versions) (line_in old) (line_with old nodes)
-  pub names : (i : ℕ) → (line_with old nodes).name i ≡ (line_in old).name i
+-- what a step of the undo gives a field
+abbrev pub step_of : Step → Undo → Undo
+step_of Clear u = blanked u
+step_of Restore u = u
 
--- The last write is undone.
-pub record IsStepBack (old new : Held) : Type 0 where
-  pub back : IsBack old new
-  pub fewer : length old.undo ≡ length new.undo + 1
+-- In the midst of an undo: with these nodes the store h, of which t is the newest stamp, is as the run had left it, but that fields
+-- were given other contents; and putting back these entries completes the undo. No version, and nothing that is live at one, changes.
+pub record IsGoing (h : Held) (nodes : List Seen) (t : ℕ) (es : List Undo) : Type 0 where
+  pub stamp : t ≡ length h.versions
+  pub begun : ℕ
+  pub opened : h.opened ≡ Some begun
+  pub stored : IsStored (stored_of (record h { nodes = nodes }))
+  pub rested : IsRested (stored_of (record h { nodes = nodes }))
+  pub can : CanUndo (stored_of (record h { nodes = nodes })) begun es
+  pub kept : AreKept h.shape (length h.versions) nodes
+  pub stay : VersionsStay h.shape (length h.versions) (line_in h) (line_with h nodes)
+  pub same : HasSameNodes (line_in h) (line_with h nodes)
+
+-- These entries can be put back, whatever is to be put back behind them,
+abbrev pub MayTake : List Seen → ℕ → List Undo → Type 0
+MayTake nodes t es = (h : Held) × (rest : List Undo) × IsGoing h nodes t (es ++ rest)
+
+-- and are put back.
+abbrev pub HasTaken : List Seen → List Seen → ℕ → List Undo → Type 0
+HasTaken old new t es = (h : Held) (rest : List Undo) → IsGoing h old t (es ++ rest) → IsGoing h new t rest

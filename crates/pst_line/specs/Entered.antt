@@ -1,5 +1,5 @@
 -- What the steps of a store's calls do to what it holds.
-use Rattle.std.specs.Prelude.{◌≡◌, ℕ, ◌<◌, ◌⊎◌, ◌++◌, true, List, [], ◌∷◌, length, Option, Some, ℤ}
+use Rattle.std.specs.Prelude.{◌≡◌, ℕ, ◌<◌, ◌⊎◌, true, List, length, Option, Some, ℤ}
 use Rattle.pst_base.specs.declared.names.Name.{Name}
 use Rattle.pst_base.specs.declared.names.NodeId.{NodeId}
 use Rattle.pst_base.specs.Shape.{type_at}
@@ -13,6 +13,7 @@ use Rattle.pst_line.specs.declared.place.LinePlace.{LinePlace}
 use Rattle.pst_line.specs.declared.place.Undo.{Undo}
 use Rattle.pst_line.specs.Store.{is_made, state_of}
 use Rattle.pst_line.specs.Undoing.{IsNewestOf}
+use Rattle.pst_line.specs.Noted.{with_entry}
 use Rattle.pst_line.specs.Held.{Held, IsRootAt, line_in, stored_of}
 
 -- other nodes, as a line of the same records
@@ -21,7 +22,7 @@ line_with h nodes = line_of (is_made h.versions h.opened) nodes
 
 -- what a write of a field finds in a node
 abbrev pub entry_at : Held → List Seen → (x f : ℕ) → Undo
-entry_at h nodes x f = record { node = record { 0 = x }; slot = f; content = (line_with h nodes).holds x f (length h.versions) }
+entry_at h nodes x f = record { node = record { 0 = (line_with h nodes).home x }; slot = f; content = (line_with h nodes).holds x f (length h.versions) }
 
 -- Some nodes were copied so that x, the newest node of the record of node r, has room for a write of a field; all pointers to
 -- copied nodes are redirected.
@@ -32,13 +33,13 @@ pub record HasMadeRoom (old : Held) (nodes : List Seen) (r f x : ℕ) : Type 0 w
   pub quiet : IsQuiet (line_with old nodes) (length old.versions)
   pub kept : AreKept old.shape (length old.versions) nodes
 
--- and what the field holds is entered, and the root's node is found anew; the store has failed until the field is written
+-- and what the field holds is entered, unless the field is noted already, and the root's node is found anew; the store has failed until the field is written
 pub record HasEntered (old new : Held) (r f x : ℕ) : Type 0 where
   pub nodes : List Seen
   pub room : HasMadeRoom old nodes r f x
   pub root : NodeId
   pub rooted : IsRootAt nodes (length old.versions) root
-  pub is : new ≡ record old { nodes = nodes; undo = old.undo ++ entry_at old nodes x f ∷ []; failed = true; root = root }
+  pub is : new ≡ record old { nodes = nodes; undo = with_entry (entry_at old nodes x f) old.undo; failed = true; root = root }
 
 -- ---- numbers and pointers, by references
 

@@ -1,5 +1,5 @@
 -- What a store that is started holds, and what it keeps.
-use Rattle.std.specs.Prelude.{◌≡◌, ⊤, ℕ, suc, ◌<◌, ◌≤◌, ◌^◌, Bool, true, false, List, [], ◌∷◌, reverse, length, Option, Some, None}
+use Rattle.std.specs.Prelude.{◌≡◌, ⊤, ℕ, suc, ◌<◌, ◌≤◌, ◌^◌, Bool, true, false, List, [], ◌∷◌, length, Option, Some, None}
 use Rattle.pst_base.specs.declared.names.Counts.{Counts}
 use Rattle.pst_base.specs.declared.names.NodeId.{NodeId}
 use Rattle.pst_base.specs.declared.shape.TypeShape.{TypeShape}
@@ -13,9 +13,10 @@ use Rattle.pst_line.specs.declared.place.Undo.{Undo}
 use Rattle.pst_line.specs.declared.place.LinePlace.{LinePlace}
 use Rattle.pst_line.specs.Store.{Stored, is_made, in_stretch, state_of, IsStored, IsRested, IsClosed}
 use Rattle.pst_places.specs.State.{State}
-use Rattle.pst_line.specs.Undoing.{CanUndo}
+use Rattle.pst_line.specs.Undoing.{CanUndo, plan}
+use Rattle.pst_line.specs.Noted.{IsOnce}
 
--- the record types; the nodes; what the writes of the open run found, in their order; the stretches of the versions; how many
+-- the record types; the nodes; what the fields had that the open run has written, the one that it wrote first standing last; the stretches of the versions; how many
 -- nodes there were when the open run began; whether a store of it answered Memory; what was made and written; and a node of the
 -- root record
 pub record Held : Type 0 where
@@ -64,7 +65,8 @@ pub record IsHeld (h : Held) : Type 0 where
   pub closed : h.opened ≡ None → IsClosed (stored_of h)
   pub whole : h.opened ≡ None → h.failed ≡ false
   pub empty : h.opened ≡ None → h.undo ≡ []
-  pub undone : (b : ℕ) → h.opened ≡ Some b → h.failed ≡ false → CanUndo (stored_of h) b (reverse h.undo)
+  pub undone : (b : ℕ) → h.opened ≡ Some b → h.failed ≡ false → CanUndo (stored_of h) b (plan h.undo)
+  pub once : IsOnce h.undo
   pub counted : AreCounted h.counts
   pub roots : HaveRoots h.nodes 0 h.versions
   pub root : IsRootAt h.nodes (length h.versions) h.root
@@ -93,6 +95,10 @@ empty_held = record {
 abbrev pub stored_in : Option Held → Stored
 stored_in None = stored_of empty_held
 stored_in (Some h) = stored_of h
+
+abbrev pub undo_in : Option Held → List Undo
+undo_in None = []
+undo_in (Some h) = h.undo
 
 abbrev pub state_in : Option Held → State LinePlace NodeId
 state_in None = state_of (stored_of empty_held)

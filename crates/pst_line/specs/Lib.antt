@@ -3,6 +3,7 @@ pub mod Store
 pub mod StoreLaws
 pub mod Undo
 pub mod Undoing
+pub mod Noted
 pub mod Held
 pub mod Starting
 pub mod Entered

@@ -90,6 +90,7 @@ pub record IsStored (s : Stored) : Type 0 where
   pub valid : (p : LinePlace) → IsPlace s p → IsValid s.shape
   pub line : IsLine s.shape (stamp s) s.line
   pub homes : (i : ℕ) → i < s.line.count → s.line.home i < s.line.count
+  pub own : (i : ℕ) → i < s.line.count → s.line.home (s.line.home i) ≡ s.line.home i
   pub made : (i : ℕ) → i < s.line.count → s.line.made i ≡ is_made s.versions s.opened (s.line.home i)
   pub begun : (b : ℕ) → s.opened ≡ Some b → b ≤ s.line.count
   pub ended : (i : ℕ) → unwrap_or s.opened s.line.count ≤ i → in_stretch s.versions i ≡ false

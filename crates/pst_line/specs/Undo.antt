@@ -14,14 +14,20 @@ put_back name h n slot (Number v) = with_value h n slot v
 put_back name h n slot Null = with_pointer h n slot None
 put_back name h n slot (Target y) = with_pointer h n slot (Some (name y))
 
+-- what a field is given before any gets what it had: null, where that is a pointer
+abbrev pub blank : Content → Content
+blank (Number v) = Number v
+blank Null = Null
+blank (Target y) = Null
+
 -- an undo entry, with the record's name in place of its node
 pub record Mark : Type 0 where
   pub name : Name
   pub slot : ℕ
   pub content : Content
 
--- Undoing from the last write to the first leads to the heap `base`, through well-formed heaps alone: so no write of the
--- undo meets a full record. (`base` is the newest version's heap, with the records that the run made, each with default
+-- Putting back one entry after another leads to the heap `base`, through well-formed heaps alone: so no write of the undo meets a
+-- full record. (`base` is the newest version's heap, with the records that the run made, each with default
 -- fields.)
 abbrev pub LeadsBack : List TypeShape → (ℕ → Name) → Heap → List Mark → Heap → Type 0
 LeadsBack shape name base [] h = h ≡ base

@@ -1,5 +1,5 @@
 -- What is known of the open run's undo entries, and the end of an undo.
-use Rattle.std.specs.Prelude.{◌≡◌, ◌≢◌, ℕ, ◌-◌, ◌<◌, ◌≤◌, List, [], ◌∷◌, map, All, Some, None}
+use Rattle.std.specs.Prelude.{◌≡◌, ◌≢◌, ℕ, ◌-◌, ◌<◌, ◌≤◌, ◌++◌, List, [], ◌∷◌, map, All, Some, None}
 use Rattle.std.specs.FinMap.{get}
 use Rattle.pst_base.specs.declared.names.Name.{Name}
 use Rattle.pst_base.specs.declared.names.Kind.TheVariants.{Int, Pointer}
@@ -14,11 +14,19 @@ use Rattle.pst_line_nodes.specs.Carried.{IsSince}
 use Rattle.pst_line.specs.declared.place.Undo.{Undo}
 use Rattle.pst_line.specs.Store.{Stored, state_of, stamp, is_made, IsStored, IsRested, IsClosed, Undone}
 use Rattle.pst_line.specs.StoreLaws.{after}
-use Rattle.pst_line.specs.Undo.{Mark, LeadsBack}
+use Rattle.pst_line.specs.Undo.{Mark, LeadsBack, blank}
 
 -- an undo entry, with its record's name
 abbrev pub mark_of : (ℕ → Name) → Undo → Mark
 mark_of name u = record { name = name u.node.0; slot = u.slot; content = u.content }
+
+-- the entry with which the undo lets a pointer go
+abbrev pub blanked : Undo → Undo
+blanked u = record u { content = blank u.content }
+
+-- The undo, from the entries: pointers are let go first, and then each field gets what it had.
+abbrev pub plan : List Undo → List Undo
+plan es = map blanked es ++ es
 
 -- A content fits a field of a node: it is of the field's kind, and a target lives at the open run.
 abbrev pub Fits : Stored → ℕ → ℕ → Content → Type 0
@@ -26,10 +34,11 @@ Fits s x g (Number v) = field_kind (type_at s.shape (s.line.ty x)) g ≡ Some In
 Fits s x g Null = IsPointer (field_kind (type_at s.shape (s.line.ty x)) g)
 Fits s x g (Target y) = IsLive s.line y (stamp s) × (field_kind (type_at s.shape (s.line.ty x)) g ≡ Some (Pointer (s.line.ty y)))
 
--- An undo entry: its record lives at the open run, what was in the field fits it, and what is in it now is in force from the
+-- An undo entry: it has the first node of a record that lives at the open run, what was in the field fits it, and what is in it now is in force from the
 -- run's stamp on, so that putting something back replaces it.
 pub record IsEntered (s : Stored) (u : Undo) : Type 0 where
   pub live : IsLive s.line u.node.0 (stamp s)
+  pub home : s.line.home u.node.0 ≡ u.node.0
   pub fits : Fits s u.node.0 u.slot u.content
   pub since : IsSince s.line (s.line.home u.node.0) u.slot (stamp s)
 
@@ -39,7 +48,7 @@ pub record IsBase (s : Stored) (b : ℕ) (base : Heap) : Type 0 where
   pub mine : (i : ℕ) → i < s.line.count → b ≤ s.line.home i → get base (s.line.name i) ≡ Some (new_record s.shape (s.line.ty i))
   pub others : (q : Name) → ((i : ℕ) → i < s.line.count → b ≤ s.line.home i → s.line.name i ≢ q) → get base q ≡ get (heap_at s.shape s.line (stamp s - 1)) q
 
--- The run that began when there were b nodes can be undone by these entries, of which the last write's comes first.
+-- The run that began when there were b nodes can be undone by putting back these entries, one after another.
 pub record CanUndo (s : Stored) (b : ℕ) (entries : List Undo) : Type 0 where
   pub some : 0 < stamp s
   pub young : (i : ℕ) → i < s.line.count → b ≤ s.line.home i → s.line.first i ≡ stamp s

@@ -1,11 +1,13 @@
 //! What a line store has to be able to do, beside `HeapAt`.
 
-ghost use Rattle.std.specs.Prelude.{◌≡◌, OnOk, OnErr, IfOk, Some, None, false, ◌<◌, length, slice_get, nat_lt, if◌then◌else◌};
+ghost use Rattle.std.specs.Prelude.{◌≡◌, OnOk, OnErr, IfOk, Some, None, false, ◌<◌, length, List, slice_get, nat_lt, if◌then◌else◌};
 ghost use Rattle.std.specs.Option.{option_map};
 ghost use Rattle.pst_base.specs.Shape.{IsValid};
 ghost use Rattle.pst_places.specs.State.{Unchanged, WritesStay};
 ghost use Rattle.pst_line_nodes.specs.Line.{potential};
 ghost use Rattle.pst_line.specs.declared.place.LinePlace.{LinePlace};
+ghost use Rattle.pst_line.specs.declared.place.Undo.{Undo};
+ghost use Rattle.pst_line.specs.Noted.{AreNoted};
 ghost use Rattle.pst_line.specs.Store.{Stored, stamp, IsStored, IsRested, IsClosed, IsEmpty, IsStarted, Means, IsChain, Began, LinePublished, Undone};
 
 use crate::place::LinePlace;
@@ -19,14 +21,19 @@ pub trait LineCalls: HeapAt<Ref = NodeId, Place = LinePlace> {
     /// What the store holds.
     ghost stored: { Self → Stored };
 
-    /// What is known of every such store. An empty one has no place. While no run is open no store answered Memory.
+    /// What the fields had that the open run has written.
+    ghost noted: { Self → List Undo };
+
+    /// What is known of every such store. An empty one has no place. While no run is open no store answered Memory. However often
+    /// the open run writes, it has noted each field that it has written once, and no other: so much memory an undo needs.
     fn known_line(&self)
         ensures means { Means (Self.state self.now) (stored self.now) }
         ensures chain { IsChain (Self.state self.now) }
         ensures stored { 0 < stamp (stored self.now) → IsStored (stored self.now) }
         ensures rested { 0 < stamp (stored self.now) → (stored self.now).failed ≡ false → IsRested (stored self.now) }
         ensures closed { 0 < stamp (stored self.now) → (stored self.now).opened ≡ None → ((stored self.now).failed ≡ false) × IsClosed (stored self.now) }
-        ensures empty { stamp (stored self.now) ≡ 0 → IsEmpty (stored self.now) };
+        ensures empty { stamp (stored self.now) ≡ 0 → IsEmpty (stored self.now) }
+        ensures listed { AreNoted (stored self.now) (noted self.now) };
 
     /// Gives an empty store version 0, the root record alone. A refusal changes nothing.
     fn start(&mut self, alloc: Global, shape: &Shape) -> Result<(), NoMemory>

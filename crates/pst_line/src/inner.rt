@@ -1,7 +1,8 @@
 //! A store that is started.
 
 use crate::line_nodes::LineNodes;
-use crate::place::{LinePlace, Stretch, Undo};
+use crate::place::{LinePlace, Stretch};
+use crate::undo_list::UndoList;
 use pst_base::{Counts, Name, NoMemory, NodeId, ROOT, RunNo, Shape, SlotNo, TypeNo, VersionNo};
 use pst_line_nodes::content::Content;
 use std::alloc::Global;
@@ -13,7 +14,7 @@ use std::marker::Model;
 pub(crate) struct Core<N: LineNodes> {
     pub(crate) shape: Shape,
     pub(crate) nodes: N,
-    pub(crate) undo: Vec<Undo>,
+    pub(crate) undo: UndoList,
     pub(crate) versions: Vec<Stretch>,
     pub(crate) opened: Option<u64>,
     pub(crate) failed: bool,
@@ -26,9 +27,9 @@ impl<N: LineNodes> Model for Core<N> {
 
     ghost Value = { Held };
 
-    ghost view = { λ s. record { shape = s.shape; nodes = N.seen s.nodes; undo = s.undo.items; versions = s.versions.items; opened = s.opened; failed = s.failed; counts = s.counts; root = s.root } };
+    ghost view = { λ s. record { shape = s.shape; nodes = N.seen s.nodes; undo = s.undo; versions = s.versions.items; opened = s.opened; failed = s.failed; counts = s.counts; root = s.root } };
 
-    ghost invariant = { λ s. IsHeld (record { shape = s.shape; nodes = N.seen s.nodes; undo = s.undo.items; versions = s.versions.items; opened = s.opened; failed = s.failed; counts = s.counts; root = s.root }) };
+    ghost invariant = { λ s. IsHeld (record { shape = s.shape; nodes = N.seen s.nodes; undo = s.undo; versions = s.versions.items; opened = s.opened; failed = s.failed; counts = s.counts; root = s.root }) };
 }
 
 impl<N: LineNodes> Core<N> {
@@ -61,7 +62,7 @@ impl<N: LineNodes> Core<N> {
         Ok(Core {
             shape: shape.copy(alloc)?,
             nodes,
-            undo: Vec::new(alloc),
+            undo: UndoList::new(alloc),
             versions,
             opened: None,
             failed: false,
@@ -167,7 +168,7 @@ impl<N: LineNodes> Core<N> {
             root: self.root,
         })?;
         self.opened = None;
-        self.undo.clear();
+        self.undo = UndoList::new(self.undo.allocator());
         Ok(version)
     }
 

@@ -45,6 +45,11 @@ pub trait LineNodes: Drop {
         requires { x < length (seen self.now) }
         ensures { result ≡ (line_of (λ _. true) (seen self.now)).ty x };
 
+    /// The first node of a node's record.
+    fn home(&self, x: u64) -> u64
+        requires { x < length (seen self.now) }
+        ensures { result ≡ (line_of (λ _. true) (seen self.now)).home x };
+
     /// What a field of a node holds at a stamp.
     fn read(&self, x: u64, slot: u16, at: u32) -> Content
         requires there { x < length (seen self.now) }

@@ -48,9 +48,11 @@ impl LineStore {
 }
 
 impl LineCalls for LineStore {
-    ghost use Rattle.pst_line.specs.Held.{stored_in};
+    ghost use Rattle.pst_line.specs.Held.{stored_in, undo_in};
 
     ghost stored = { stored_in };
+
+    ghost noted = { undo_in };
 
     fn known_line(&self) {
         self.whole();

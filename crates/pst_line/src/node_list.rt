@@ -29,6 +29,10 @@ impl LineNodes for Nodes {
         Nodes::ty(self, x)
     }
 
+    fn home(&self, x: u64) -> u64 {
+        Nodes::home(self, x)
+    }
+
     fn read(&self, x: u64, slot: u16, at: u32) -> Content {
         Nodes::read(self, x, slot, at)
     }

@@ -19,7 +19,7 @@ pub struct Stretch {
     pub root: NodeId,
 }
 
-/// What a write of the open run found.
+/// What a field had before the open run first wrote it: the first node of the record, and the field's slot.
 #[derive(Clone, Copy, PartialEq, Eq)]
 pub struct Undo {
     pub node: NodeId,

@@ -1,55 +1,78 @@
-//! A run that is given up: its writes are undone, from the last one to the first.
+//! A run that is given up: each field that it has written gets what it had.
 
 use crate::inner::Core;
 use crate::line_nodes::LineNodes;
 use crate::place::Undo;
+use crate::undo_list::UndoList;
 use pst_line_nodes::content::Content;
 
 impl<N: LineNodes> Core<N> {
-    ghost use Rattle.std.specs.Prelude.{◌≡◌, ◌<◌, None, IsSome, false, length};
+    ghost use Rattle.std.specs.Prelude.{◌≡◌, None, IsSome, false};
     ghost use Rattle.pst_line.specs.Store.{state_of, Undone};
     ghost use Rattle.pst_line.specs.Held.{stored_of};
-    ghost use Rattle.pst_line.specs.Back.{IsStepBack};
 
-    /// Gives up the open run: each of its writes is undone, and its records are of no version. It takes no memory.
+    /// Gives up the open run: each field that it has written gets what it had, and its records are of no version. It takes no
+    /// memory.
     pub(crate) fn undo(&mut self)
         requires open { IsSome self.old.opened }
         requires whole { self.old.failed ≡ false }
         ensures undone { Undone (state_of (stored_of self.old)) (state_of (stored_of self.new)) }
         ensures closed { self.new.opened ≡ None }
     {
-        for _ in 0..self.entries() {
-            self.step_back();
-        }
-        self.opened = None;
-    }
-
-    // How many writes of the open run are not undone.
-    fn entries(&self) -> usize
-        ensures { result ≡ length self.now.undo }
-    {
-        self.undo.len()
-    }
-
-    // Undoes the last write. It takes no memory.
-    fn step_back(&mut self)
-        requires open { IsSome self.old.opened }
-        requires whole { self.old.failed ≡ false }
-        requires some { 0 < length self.old.undo }
-        ensures { IsStepBack self.old self.new }
-    {
         let stamp = self.stamp();
-        let entry = self.undo.pop().unwrap();
-        let x = self.nodes.cover(entry.node.0, stamp);
-        put_back(&mut self.nodes, x, entry, stamp);
+        take_back(&mut self.nodes, &self.undo, Step::Clear, stamp);
+        take_back(&mut self.nodes, &self.undo, Step::Restore, stamp);
+        self.undo = UndoList::new(self.undo.allocator());
+        self.opened = None;
     }
 }
 
-ghost use Rattle.std.specs.Prelude.{ℕ, Bool, List};
-ghost use Rattle.pst_base.specs.declared.shape.TypeShape.{TypeShape};
-ghost use Rattle.pst_line.specs.Back.{MayPutBack, HasPutBack};
+/// An undo goes over the fields that were written twice: pointers are let go first, and then each field gets what it had. So on
+/// the way no record has more pointers to it than it had before the run, or after it.
+#[derive(Clone, Copy, PartialEq, Eq)]
+pub(crate) enum Step {
+    Clear,
+    Restore,
+}
 
-// Puts back what a write found. Each content replaces one of the same stamp, so it takes no memory.
+ghost use Rattle.std.specs.Prelude.{◌≡◌, ℕ, Bool, List, [], ◌∷◌, map};
+ghost use Rattle.pst_base.specs.declared.shape.TypeShape.{TypeShape};
+ghost use Rattle.pst_line.specs.Back.{MayPutBack, HasPutBack, MayTake, HasTaken, step_of};
+
+// Goes over the fields that the run has written.
+fn take_back<N: LineNodes>(nodes: &mut N, entries: &UndoList, step: Step, stamp: u32)
+    requires { MayTake (N.seen nodes.old) stamp (map (step_of step) entries.now) }
+    ensures { HasTaken (N.seen nodes.old) (N.seen nodes.new) stamp (map (step_of step) entries.now) }
+{
+    for number in 0..entries.len() {
+        let entry = entry_in(step, entries.from_last(number));
+        take_entry(nodes, entry, stamp);
+    }
+}
+
+// What a step gives a field.
+fn entry_in(step: Step, entry: Undo) -> Undo
+    ensures { result ≡ step_of step entry }
+{
+    match (step, entry.content) {
+        (Step::Clear, Content::Target(_)) => Undo {
+            content: Content::Null,
+            ..entry
+        },
+        _ => entry,
+    }
+}
+
+// Gives the field of an entry its content.
+fn take_entry<N: LineNodes>(nodes: &mut N, entry: Undo, stamp: u32)
+    requires { MayTake (N.seen nodes.old) stamp (entry ∷ []) }
+    ensures { HasTaken (N.seen nodes.old) (N.seen nodes.new) stamp (entry ∷ []) }
+{
+    let x = nodes.cover(entry.node.0, stamp);
+    put_back(nodes, x, entry, stamp);
+}
+
+// Puts back what a field had. Each content replaces one of the same stamp, so it takes no memory.
 fn put_back<N: LineNodes>(nodes: &mut N, x: u64, entry: Undo, stamp: u32)
     requires { (shape : List TypeShape) × (made : ℕ → Bool) × MayPutBack shape made stamp (N.seen nodes.old) x entry }
     ensures { (shape : List TypeShape) (made : ℕ → Bool) → MayPutBack shape made stamp (N.seen nodes.old) x entry → HasPutBack shape made stamp (N.seen nodes.old) (N.seen nodes.new) x entry }

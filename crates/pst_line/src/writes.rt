@@ -33,8 +33,8 @@ impl<N: LineNodes> Core<N> {
         Ok(NodeId(id))
     }
 
-    // Makes room for a write of a field of a record, and enters what the field holds: gives the record's newest node. The store
-    // has failed until the write is done.
+    // Makes room for a write of a field of a record, and enters what the field holds, unless the run has written it before: gives
+    // the record's newest node. The store has failed until the write is done.
     fn enter(&mut self, r: NodeId, field: SlotNo) -> Result<u64, NoMemory>
         requires open { IsSome self.old.opened }
         requires whole { self.old.failed ≡ false }
@@ -50,8 +50,8 @@ impl<N: LineNodes> Core<N> {
         let x = self.nodes.make_room(&self.shape, found, field.0, stamp)?;
         self.root = NodeId(self.nodes.cover(self.root.0, stamp));
         let content = self.nodes.read(x, field.0, stamp);
-        self.undo.push(Undo {
-            node: NodeId(x),
+        self.undo.note(Undo {
+            node: NodeId(self.nodes.home(x)),
             slot: field.0,
             content,
         })?;

@@ -79,6 +79,13 @@ impl Node {
         self.ty
     }
 
+    /// The first node of the record.
+    pub fn home(&self) -> u64
+        ensures { result ≡ self.now.home }
+    {
+        self.home
+    }
+
     /// The first stamp.
     pub fn begins(&self) -> u32
         ensures { result ≡ self.now.first }

@@ -68,6 +68,14 @@ impl Nodes {
         self.node(x).ty()
     }
 
+    /// The first node of a node's record.
+    pub fn home(&self, x: u64) -> u64
+        requires { x < length self.now }
+        ensures { result ≡ (line_of (λ _. true) self.now).home x }
+    {
+        self.node(x).home()
+    }
+
     /// How many values are stamped in newest nodes. It goes over all nodes.
     pub fn potential(&self) -> u64
         requires { potential (line_of (λ _. true) self.now) < 2 ^ 64 }

@@ -60,7 +60,8 @@ made_is_rebuilt shape p s valid fits rules made none held =
     record {
       shape_is = made.shape_is;
       parts = parts_shown s p h;
-      heaps = λ n l. heap_same s p h n ∙ ap (λ (t : List TypeShape). heap_in t p n) made.shape_is;
+      heaps = λ n. heap_same s p h n ∙ ap (λ (t : List TypeShape). heap_in t p n) made.shape_is;
+      forks = made.forks;
       left = left s p h;
       runs = runs s p h;
       rested = record { none = none; small = small s p h; held = held };

@@ -29,11 +29,13 @@ pub record IsMade (shape : List TypeShape) (p : ImageParts) (s : Stored) : Type 
   pub counts : s.counts ≡ p.counts
 
 -- The store that an image tells of. It shows the image's parts, so that packing it gives the image again; it has the heap at each
--- position that the image's nodes denote; nothing waits in it; and fewer runs took a number than the next one.
+-- position that the image's nodes denote; its forks are its versions; nothing waits in it; and fewer runs took a number than the
+-- next one.
 pub record IsRebuilt (shape : List TypeShape) (p : ImageParts) (s : Stored) : Type 0 where
   pub shape_is : s.shape ≡ shape
   pub parts : parts_of s p.text p.next_run.0 p.budget ≡ p
-  pub heaps : (n : ℕ) → n < p.places → heap_at s.shape (arena s) n ≡ heap_in shape p n
+  pub heaps : (n : ℕ) → heap_at s.shape (arena s) n ≡ heap_in shape p n
+  pub forks : AreForksOfVersions s
   pub left : IsLeftStore s p.next_run.0
   pub runs : s.calls + s.spent < p.next_run.0
   pub rested : IsRested s

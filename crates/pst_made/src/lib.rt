@@ -4,7 +4,8 @@
 //! `IsMade` says of what lists a store of the parts is made; `IsRebuilt` what it is good for.
 //!
 //! Contract: `made` is the law. The rules of an image give all that a store keeps (`MadeIsStoreLaw`), and a store that is made so is the
-//! one that the image tells of: it shows the same parts, and the same heap at each position (`MadeIsRebuiltLaw`).
+//! one that the image tells of: it shows the same parts, and the same heap at each position, and its forks are its versions
+//! (`MadeIsRebuiltLaw`).
 #![tactic(auto)]
 
 mod laws;

@@ -6,9 +6,10 @@ use Rattle.pst_meaning.specs.Store.{Stored, state_of, IsStore}
 use Rattle.pst_engine.specs.Stands.{IsOpeningHeap}
 use Rattle.pst_ruled.specs.Versions.{AreVersionsNested}
 use Rattle.pst_ruled.specs.Left.{AreNamed}
+use Rattle.pst_taken.specs.Forks.{AreForksOfVersions}
 
--- A store of a program's record types that counted little, whose records and versions are of runs below the next one and in which fewer
--- forks were asked for, is a heap that an engine with that next run opens on.
+-- A store of a program's record types that counted little, whose records and versions are of runs below the next one, whose forks are
+-- its versions and in which fewer forks were asked for, is a heap that an engine with that next run opens on.
 abbrev pub OpensLaw : Type 0
-OpensLaw = (m : Meaning) (s : Stored) (next : ℕ) → IsStore s → 1 ≤ next → AreNamed s next → AreVersionsNested s next → s.calls + s.spent < next → s.shape ≡ m.shape → CountsWithin s.counts (2 ^ 50)
-    → IsOpeningHeap m (state_of s) next
+OpensLaw = (m : Meaning) (s : Stored) (next : ℕ) → IsStore s → 1 ≤ next → AreNamed s next → AreVersionsNested s next
+    → AreForksOfVersions s → s.calls + s.spent < next → s.shape ≡ m.shape → CountsWithin s.counts (2 ^ 50) → IsOpeningHeap m (state_of s) next

@@ -1,3 +1,4 @@
 pub mod Starts
+pub mod Counted
 pub mod Leaving
 pub mod Found

@@ -53,7 +53,7 @@ next-start m h (Ok None) = refl
 next-start m h (Ok (Some c)) = after-start m h c
 next-start m h (Err fault) = refl
 
-lines-start : (m : Meaning) (h : History) (lines : List (List ℕ)) → (state_after (script_of by_tree m) h lines).start ≡ h.start
+pub lines-start : (m : Meaning) (h : History) (lines : List (List ℕ)) → (state_after (script_of by_tree m) h lines).start ≡ h.start
 lines-start m h [] = refl
 lines-start m h (line ∷ lines) = lines-start m (next_of by_tree m h (reading line)) lines ∙ next-start m h (reading line)
 

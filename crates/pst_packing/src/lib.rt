@@ -5,12 +5,15 @@
 //!
 //! Contract: [`pack_input`] reads an input, carries its script out over a store as `run` does, writes no reply, and then writes the
 //! image of the store, with the program's canonical text, as one piece, or the line of the program's fault. The image keeps all rules
-//! of one, and denotes the heaps of the store (`IsImage`). (This project's own form of keeping a store of fat nodes.)
+//! of one, and denotes the heaps of the store (`IsImage`). [`image_of_session`] gives that image of a session's store. (This project's
+//! own form of keeping a store of fat nodes.) By a law of [`scripts`], what a script from the start counts is few.
 //!
 //!     let mut store: Store = Store::empty();
 //!     let status = pack_input(alloc, source, sink, &mut store);
 #![tactic(auto)]
 
+mod laws;
 mod packing;
 
-pub use packing::pack_input;
+pub use laws::scripts;
+pub use packing::{image_of_session, pack_input};

@@ -1,23 +1,25 @@
 //! The script is carried out without its replies, and then the image of the store is written.
 
-ghost use Rattle.std.specs.Prelude.{◌≡◌, ◌≤◌, ◌+◌, ◌<◌, ◌^◌, None, Err, length};
+ghost use Rattle.std.specs.Prelude.{◌≡◌, ◌≤◌, ◌+◌, ◌<◌, ◌^◌, IfOk, None, Err, length};
 ghost use Rattle.pst_jobs.specs.declared.job.Job.{Job};
 ghost use Rattle.pst_io.specs.Causes.{Rose};
 ghost use Rattle.pst_io.specs.Input.{bytes_read};
 ghost use Rattle.pst_io.specs.Lines.{IsOpen};
+ghost use Rattle.pst_program.specs.Sound.{CountsWithin};
 ghost use Rattle.pst_program.specs.View.{routines_of};
 ghost use Rattle.pst_program.specs.Typed.{IsTyped};
 ghost use Rattle.pst_history.specs.Direct.{meaning_of};
 ghost use Rattle.pst_serving.specs.Rows.{HasRow};
-ghost use Rattle.pst_answers.specs.Sessions.{HasTaken};
+ghost use Rattle.pst_answers.specs.Sessions.{HasTaken, OnEachHistory, StandForSome};
 ghost use Rattle.pst_answers.specs.Reading.{IsNear};
 ghost use Rattle.pst_serving.specs.Held.{kept_in};
-ghost use Rattle.pst_packing.specs.Packing.{Images, PacksScript, PackRow};
+ghost use Rattle.pst_store.specs.Whole.{state_in};
+ghost use Rattle.pst_packing.specs.Packing.{Images, IsImage, PacksScript, PackRow};
 
 use pst_answers::{Session, Stop, read_text, say};
 use pst_arena::Listed;
 use pst_asking::carry_script;
-use pst_base::Text;
+use pst_base::{NoMemory, Text};
 use pst_imaged::pack;
 use pst_io::{Lines, MOST_INPUT, Sink, Source};
 use pst_jobs::Status;
@@ -28,6 +30,24 @@ use pst_serving::{refuse, status_of};
 use pst_sessions::Running;
 use pst_store::StoreOf;
 use std::alloc::Global;
+
+/// The image of the store that a session leaves, with a text: it has the number of the session's next run and its budget.
+///
+/// # Errors
+/// Where there is no memory for it.
+pub fn image_of_session<O: Walked + Drop, N: Listed>(
+    alloc: Global,
+    session: &Running<O, N>,
+    store: &StoreOf<O, N>,
+    text: &[u8],
+) -> Result<Text, NoMemory>
+    requires stands { StandForSome ⟦<Running<O, N> as Session>⟧.stands session.now store.now }
+    requires counts { CountsWithin (state_in store.now).counts (2 ^ 50) }
+    ensures image { IfOk result (λ image. OnEachHistory ⟦<Running<O, N> as Session>⟧.stands session.now store.now (λ m h. IsImage store.now text.now m.shape h image)) }
+{
+    store.whole();
+    pack(alloc, store, text, session.next_run(), session.budget())
+}
 
 /// Carries the script behind a program out, and gives the image of the store that it leaves, with a text.
 fn image_of<S: Source, O: Walked + Drop, N: Listed>(
@@ -54,8 +74,7 @@ fn image_of<S: Source, O: Walked + Drop, N: Listed>(
     };
     carry_script(alloc, &mut session, store, lines, source)?;
     session.known(store);
-    store.whole();
-    match pack(alloc, &*store, text, session.next_run(), session.budget()) {
+    match image_of_session(alloc, &session, &*store, text) {
         Ok(image) => Ok(image),
         Err(_) => Err(Stop::Memory),
     }

@@ -1,5 +1,5 @@
 -- A script behind an image goes on as behind the script that was packed.
-use Rattle.std.proofs.Common.{◌≡◌, ℕ, ◌<◌, List, [], ◌∷◌, ◌++◌, drop, length, Option, Some, None, Result, Ok, Err, refl, sym, ap, ◌∙◌, subst}
+use Rattle.std.proofs.Common.{◌≡◌, ℕ, suc, ◌<◌, List, [], ◌∷◌, ◌++◌, drop, length, Option, Some, None, Result, Ok, Err, refl, sym, ap, ◌∙◌, subst}
 use Rattle.std.specs.Option.{option_to_list}
 use Rattle.std.specs.List.{concat}
 use Rattle.std.proofs.Math.Seq.{drop-append_seam}
@@ -41,13 +41,13 @@ use Rattle.pst_unpacked.proofs.Deciding.{one_program, never_both}
 use Rattle.pst_packing.specs.Packing.{IsImage, PacksWhole}
 use Rattle.pst_packing.proofs.Starts.{script-start}
 use Rattle.pst_resuming.specs.Opening.{opening_in}
-use Rattle.pst_resumed.specs.Laws.{IsPacked, Programs, PackedIsAcceptedLaw, ResumedLaw, NeverRefusedLaw}
+use Rattle.pst_resumed.specs.Laws.{IsPacked, HasShortText, Programs, PackedIsAcceptedLaw, ResumedLaw, NeverRefusedLaw}
 use Rattle.pst_resumed.proofs.Openings.{is_taken_up}
 
 -- ---- what was packed
 
 -- the meaning of a typed program
-abbrev meaning : NamedProgram → Meaning
+abbrev pub meaning : NamedProgram → Meaning
 meaning named = direct (routines_in named)
 
 -- The program of an input, the store that its script left, and the image of that store.
@@ -103,12 +103,31 @@ module _ (input image : List ℕ) (k : Packed input image) where
 
   opened : opening_in k.named.shape parts ≡ taken_up (meaning k.named) history
   unfolding direct
-  opened = is_taken_up (meaning k.named) k.store (canonical k.syntax) image history (script-start (meaning k.named) (cut_of input).script) k.left k.is
+  opened =
+      let start = script-start (meaning k.named) (cut_of input).script in
+      is_taken_up (meaning k.named) k.store (canonical k.syntax) image history (ap (λ (o : Opening). length o.heaps) start ∙ sym (ap (λ (o : Opening). suc (length o.versions)) start)) k.left k.is
+
+-- the image is accepted as one of these parts, whatever stands behind it
+pub record IsAcceptedAlways (input image : List ℕ) : Type 0 where
+  pub programs : Programs input
+  pub parts : ImageParts
+  pub accepted : (behind : List ℕ) → IsAccepted (image ++ behind) parts programs.read.program (length image)
+  pub opening : opening_in programs.read.program.shape parts ≡ taken_up (meaning programs.named) (left_by (meaning programs.named) (cut_of input).script)
+
+pub accepted_always : (input image : List ℕ) → IsPacked input image → HasShortText input → IsAcceptedAlways input image
+accepted_always input image w short =
+    let k = packed input image w in
+    record {
+      programs = programs input image k;
+      parts = parts input image k;
+      accepted = λ behind. is_accepted input image k behind (short k.syntax k.named k.judged);
+      opening = ap (λ (shape : List TypeShape). opening_in shape (parts input image k)) (sym (again input image k).alike.shape) ∙ opened input image k;
+    }
 
 pub accepted_law : PackedIsAcceptedLaw
 accepted_law input image behind w short =
-    let k = packed input image w in
-    record { programs = programs input image k; parts = parts input image k; accepted = is_accepted input image k behind (short k.syntax k.named k.judged); opening = ap (λ (shape : List TypeShape). opening_in shape (parts input image k)) (sym (again input image k).alike.shape) ∙ opened input image k }
+    let a = accepted_always input image w short in
+    record { programs = a.programs; parts = a.parts; accepted = a.accepted behind; opening = a.opening }
 
 pub never_refused_law : NeverRefusedLaw
 never_refused_law input image behind out w short (old, new, left, (reads, (rule, fails, written, kept))) =
@@ -118,7 +137,7 @@ never_refused_law input image behind out w short (old, new, left, (reads, (rule,
 -- ---- what is resumed
 
 -- an accepted program has valid record types
-valid : (text : List ℕ) (syntax : ProgramText) (named : NamedProgram) → Judged text (Accepted syntax named) → IsValid named.shape
+pub valid : (text : List ℕ) (syntax : ProgramText) (named : NamedProgram) → Judged text (Accepted syntax named) → IsValid named.shape
 valid text syntax named ((tokens, lexes, (p, e, shallow, spells)), typed) = (accepted syntax.items named record { height = shallow.height; nesting = shallow.nesting } typed).valid
 
 -- replies do not depend on the opening of the rules

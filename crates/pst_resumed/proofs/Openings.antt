@@ -1,5 +1,6 @@
 -- The image of a store in a history is the opening that is taken up from that history.
-use Rattle.std.proofs.Common.{◌≡◌, ℕ, suc, List, [], ◌∷◌, ◌++◌, map, drop, length, Option, Some, slice_get, refl, sym, ap, ◌∙◌, subst, arith}
+use Rattle.std.proofs.Common.{◌≡◌, ℕ, zero, suc, ◌+◌, List, [], ◌∷◌, ◌++◌, map, drop, length, length-append, Option, Some, slice_get, refl, sym, ap, ◌∙◌, subst, inl, inr, ⊎_elim, arith}
+use Rattle.std.specs.Prelude.{◌⊎◌}
 use Rattle.std.proofs.lemmas.Option.{get_or_from_slice_get}
 use Rattle.pst_base.specs.declared.names.RunNo.{RunNo}
 use Rattle.pst_base.specs.declared.names.VersionNo.{VersionNo}
@@ -10,7 +11,7 @@ use Rattle.pst_versions.specs.declared.rows.VersionRow.{VersionRow}
 use Rattle.pst_places.specs.State.{State}
 use Rattle.pst_history.specs.declared.history.Descent.{Descent}
 use Rattle.pst_history.specs.Meaning.{Meaning}
-use Rattle.pst_history.specs.History.{History, Opening, opening, next_run, heaps_of, counts_of, version_count}
+use Rattle.pst_history.specs.History.{History, next_run, heaps_of, counts_of, version_count}
 use Rattle.pst_history.proofs.Heaps.{length-heaps_from}
 use Rattle.pst_active.specs.Stands.{HoldsVersions, SameRow}
 use Rattle.pst_meaning.specs.declared.place.Place.{Place}
@@ -34,7 +35,16 @@ mapped f g (x ∷ xs) [] e h = absurd (omega (arith, e))
 mapped f g (x ∷ xs) (y ∷ ys) e h =
     ap (λ c. c ∷ map f (map g xs)) (h 0 x y refl refl) ∙ ap (λ cs. y ∷ cs) (mapped f g xs ys (omega (arith, e)) (λ i. h (suc i)))
 
-length-heaps : (m : Meaning) (h : History) → length (heaps_of m h) ≡ version_count h
+-- what stands in one list behind another stands in one of them
+in_either : {A : Type 0} (xs ys : List A) (i : ℕ) (x : A) → slice_get (xs ++ ys) i ≡ Some x → (slice_get xs i ≡ Some x) ⊎ ((j : ℕ) × (i ≡ length xs + j) × (slice_get ys j ≡ Some x))
+in_either [] ys i x e = inr (i, (let here : i ≡ 0 + i = omega arith in here), e)
+in_either (y ∷ xs) ys zero x e = inl e
+in_either (y ∷ xs) ys (suc i) x e = ⊎_elim
+    inl
+    (λ (w : (j : ℕ) × (i ≡ length xs + j) × (slice_get ys j ≡ Some x)). inr (w.0, (let at = w.1 in let here : suc i ≡ suc (length xs) + w.0 = omega arith in here), w.2))
+    (in_either xs ys i x e)
+
+pub length-heaps : (m : Meaning) (h : History) → length (heaps_of m h) ≡ version_count h
 unfolding heaps_of
 length-heaps m h = length-heaps_from m h.start.next_run h.runs h.start.heaps h.versions
 
@@ -44,22 +54,26 @@ same_descent v row r s =
     let with_parent : VersionNo → Descent = λ p. record { run = v.run; parent = p } in
     ap with_run s.run ∙ ap with_parent s.parent
 
-module _ (m : Meaning) (s : State Place NodeId) (h : History) (start : h.start ≡ opening m.shape) (holds : HoldsVersions m s h) (r : ℕ → ℕ) where
-  one : length h.start.heaps ≡ 1
-  one = ap (λ (o : Opening). length o.heaps) start
+module _ (m : Meaning) (s : State Place NodeId) (h : History) (start : length h.start.heaps ≡ suc (length h.start.versions)) (holds : HoldsVersions m s h) (r : ℕ → ℕ) where
+  -- a version after 0 is one of the opening, or one since
+  descent_at : (i : ℕ) (v : Descent) (row : VersionRow Place) → slice_get (h.start.versions ++ h.versions) i ≡ Some v → slice_get s.versions (suc i) ≡ Some row → SameRow v row
+  descent_at i v row found at = ⊎_elim
+      (λ (old : slice_get h.start.versions i ≡ Some v). holds.given i v row old (ap (slice_get s.versions) (let e : i + 1 ≡ suc i = omega arith in e) ∙ at))
+      (λ (new : (j : ℕ) × (i ≡ length h.start.versions + j) × (slice_get h.versions j ≡ Some v)).
+      holds.rows new.0 v row new.2 (ap (slice_get s.versions) (let e = new.1 in let l = start in let q : length h.start.heaps + new.0 ≡ suc i = omega arith in q) ∙ at))
+      (in_either h.start.versions h.versions i v found)
 
-  descents : (rows : List (VersionRow Place)) → s.versions ≡ rows → map descent_of (drop 1 (map (version_part r) rows)) ≡ h.versions
-  descents [] e = absurd (let many = holds.many in let l = ap length e in let o = one in omega arith)
-  descents (first ∷ rows) e = mapped descent_of (version_part r) rows h.versions (let many = holds.many in let l = ap length e in let o = one in omega arith) (λ i row v at found.
-      same_descent v row r (holds.rows i v row found (
-      subst (λ (n : ℕ). slice_get s.versions n ≡ Some row) (let o = one in omega arith) (subst (λ (rs : List (VersionRow Place)). slice_get rs (suc i) ≡ Some row) (sym e) at)
-      )))
+  descents : (rows : List (VersionRow Place)) → s.versions ≡ rows → map descent_of (drop 1 (map (version_part r) rows)) ≡ h.start.versions ++ h.versions
+  descents [] e = absurd (let many = holds.many in let l = ap length e in let o = start in omega arith)
+  descents (first ∷ rows) e = mapped descent_of (version_part r) rows (h.start.versions ++ h.versions)
+      (let many = holds.many in let l = ap length e in let o = start in let both : length (h.start.versions ++ h.versions) ≡ length h.start.versions + length h.versions = length-append h.start.versions h.versions in omega arith)
+      (λ i row v at found. same_descent v row r (descent_at i v row found (subst (λ (rs : List (VersionRow Place)). slice_get rs (suc i) ≡ Some row) (sym e) at)))
 
   heaps : (denoted : ℕ → Heap) → ((p : Place) → denoted (r p.begin.0) ≡ s.heap p) → map (λ (v : VersionPart). denoted v.begin) (map (version_part r) s.versions) ≡ heaps_of m h
   heaps denoted same = mapped (λ (v : VersionPart). denoted v.begin) (version_part r) s.versions (heaps_of m h) (holds.many ∙ sym (length-heaps m h)) (λ k row heap at found.
       same row.place ∙ (holds.versions k row at).heap ∙ get_or_from_slice_get (heaps_of m h) k heap (initial_heap m.shape) found)
 
-pub is_taken_up : (m : Meaning) (store : Option Stored) (text image : List ℕ) (h : History) → h.start ≡ opening m.shape → IsLeft m store h → (i : IsImage store text m.shape h image)
+pub is_taken_up : (m : Meaning) (store : Option Stored) (text image : List ℕ) (h : History) → length h.start.heaps ≡ suc (length h.start.versions) → IsLeft m store h → (i : IsImage store text m.shape h image)
     → opening_in m.shape (parts_of i.there text (next_run h) h.budget) ≡ taken_up m h
 is_taken_up m store text image h start left i =
     let s = state_of i.there in
@@ -67,7 +81,6 @@ is_taken_up m store text image h start left i =
     let p = parts_of i.there text (next_run h) h.budget in
     let holds : HoldsVersions m s h = subst (λ (o : Option Stored). HoldsVersions m (state_in o) h) i.is left.versions in
     let counted : s.counts ≡ counts_of m h = subst (λ (o : Option Stored). (state_in o).counts ≡ counts_of m h) i.is left.counts in
-    let before : h.versions ≡ h.start.versions ++ h.versions = ap (λ (o : Opening). o.versions ++ h.versions) (sym start) in
-    ap (λ (v : List Descent). record (opening_in m.shape p) { versions = v }) (descents m s h start holds r i.there.versions refl ∙ before)
+    ap (λ (v : List Descent). record (opening_in m.shape p) { versions = v }) (descents m s h start holds r i.there.versions refl)
     ∙ ap (λ (hs : List Heap). record (taken_up m h) { heaps = hs; counts = i.there.counts }) (heaps m s h start holds r (heap_in m.shape p) i.denotes)
     ∙ ap (λ (c : Counts). record (taken_up m h) { counts = c }) counted

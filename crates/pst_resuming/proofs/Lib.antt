@@ -1,2 +1,2 @@
-mod Taking
-mod Rows
+pub mod Taking
+pub mod Rows

@@ -14,7 +14,6 @@ use Rattle.pst_engine.specs.Stands.{IsOpeningHeap, opening_of, row_of}
 use Rattle.pst_meaning.specs.declared.place.Place.{Place}
 use Rattle.pst_meaning.specs.Arena.{heap_at}
 use Rattle.pst_meaning.specs.Store.{Stored, arena, begin_of, state_of, IsStore}
-use Rattle.pst_meaning.proofs.Places.{in_list}
 use Rattle.pst_store.specs.Whole.{state_in}
 use Rattle.pst_form.specs.declared.parts.VersionPart.{VersionPart}
 use Rattle.pst_form.specs.declared.parts.ImageParts.{ImageParts}
@@ -34,29 +33,24 @@ further : (r : ℕ → ℕ) (vs : List (VersionRow Place)) → map row_of (drop 
 further r [] = refl
 further r (v ∷ vs) = descents r vs
 
--- two readings of positions that give one heap at each, where the versions begin
-heaps_alike : (f g : ℕ → Heap) (r : ℕ → ℕ) (n : ℕ) → ((k : ℕ) → k < n → f k ≡ g k) → (vs : List (VersionRow Place)) → ((i : ℕ) (row : VersionRow Place) → slice_get vs i ≡ Some row → r row.place.begin.0 < n)
-    → map (λ row. f (r row.place.begin.0)) vs ≡ map (λ v. g v.begin) (map (version_part r) vs)
-heaps_alike f g r n same [] low = refl
-heaps_alike f g r n same (row ∷ vs) low =
+-- two readings of positions that give one heap at each
+heaps_alike : (f g : ℕ → Heap) (r : ℕ → ℕ) → ((k : ℕ) → f k ≡ g k) → (vs : List (VersionRow Place)) → map (λ row. f (r row.place.begin.0)) vs ≡ map (λ v. g v.begin) (map (version_part r) vs)
+heaps_alike f g r same [] = refl
+heaps_alike f g r same (row ∷ vs) =
     let at = r row.place.begin.0 in
-    ap (λ h. h ∷ map (λ row. f (r row.place.begin.0)) vs) (same at (low 0 row refl))
-    ∙ ap (λ l. g at ∷ l) (heaps_alike f g r n same vs (λ i other e. low (suc i) other e))
+    ap (λ h. h ∷ map (λ row. f (r row.place.begin.0)) vs) (same at) ∙ ap (λ l. g at ∷ l) (heaps_alike f g r same vs)
 
 -- an opening of these parts
 abbrev opening_by : List Descent → List Heap → (next budget : ℕ) → Counts → Opening
 opening_by versions heaps next budget counts = record { versions = versions; heaps = heaps; next_run = next; budget = budget; counts = counts }
 
 module _ (shape : List TypeShape) (p : ImageParts) (s : Stored) (is : IsRebuilt shape p s) (k : IsStore s) where
-  low : (v : ℕ) (row : VersionRow Place) → slice_get s.versions v ≡ Some row → begin_of s row.place < p.places
-  low v row e = subst (λ (n : ℕ). begin_of s row.place < n) (ap (λ (q : ImageParts). q.places) is.parts) (in_list s k.nested row.place (k.versions.placed v row e))
-
   same_opening : opening_of (state_of s) p.next_run.0 p.budget ≡ opening_in shape p
   same_opening =
       let versions : map row_of (drop 1 s.versions) ≡ map descent_of (drop 1 p.versions) =
       further (rank s.places) s.versions ∙ ap (λ (q : ImageParts). map descent_of (drop 1 q.versions)) is.parts in
       let heaps : map (λ (row : VersionRow Place). heap_at s.shape (arena s) (begin_of s row.place)) s.versions ≡ map (λ (v : VersionPart). heap_in shape p v.begin) p.versions =
-      heaps_alike (heap_at s.shape (arena s)) (heap_in shape p) (rank s.places) p.places is.heaps s.versions low
+      heaps_alike (heap_at s.shape (arena s)) (heap_in shape p) (rank s.places) is.heaps s.versions
       ∙ ap (λ (q : ImageParts). map (λ (v : VersionPart). heap_in shape p v.begin) q.versions) is.parts in
       let counts : s.counts ≡ p.counts = ap (λ (q : ImageParts). q.counts) is.parts in
       ap (λ (v : List Descent). opening_by v (map (λ (row : VersionRow Place). heap_at s.shape (arena s) (begin_of s row.place)) s.versions) p.next_run.0 p.budget s.counts) versions
@@ -64,7 +58,7 @@ module _ (shape : List TypeShape) (p : ImageParts) (s : Stored) (is : IsRebuilt 
       ∙ ap (λ (c : Counts). opening_by (map descent_of (drop 1 p.versions)) (map (λ (v : VersionPart). heap_in shape p v.begin) p.versions) p.next_run.0 p.budget c) counts
 
   opens : (m : Meaning) → shape ≡ m.shape → IsInRange p → IsOpeningHeap m (state_of s) p.next_run.0
-  opens m e r = opens_law m s p.next_run.0 k r.run_low is.left.named is.left.versions is.runs (is.shape_is ∙ e) is.left.counts
+  opens m e r = opens_law m s p.next_run.0 k r.run_low is.left.named is.left.versions is.forks is.runs (is.shape_is ∙ e) is.left.counts
 
 -- an engine takes it up
 pub opens_in : (m : Meaning) (shape : List TypeShape) (p : ImageParts) (o : Option Stored) (next : RunNo) → shape ≡ m.shape → IsInRange p → next ≡ p.next_run → IsSomeAnd o (IsRebuilt shape p) → IfSome o IsStore

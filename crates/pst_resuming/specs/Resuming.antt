@@ -93,12 +93,17 @@ Resumes Usage k input out = ⊥
 
 -- ---- the table
 
+-- The row of a status where an input is read to its end before anything else is done: what comes of it then, by the status; or reading
+-- stopped, and nothing was done.
+abbrev pub WholeRow : (Comes : Status → Resumed → (input out : List ℕ) → Type 0) → Status → Resumed → List ℕ → Option (List ℕ) → List ℕ → Type 0
+WholeRow Comes Done k input left out = ReadsWhole input left × Comes Done k input out
+WholeRow Comes Refused k input left out = ReadsWhole input left × Comes Refused k input out
+WholeRow Comes WriteFault k input left out = ReadsWhole input left × Comes WriteFault k input out
+WholeRow Comes ReadFault k input left out = IsUntouched k out × ReadsSome input left
+WholeRow Comes TooLong k input left out = IsUntouched k out × (MOST_INPUT < length input) × (left ≡ Some (drop (MOST_INPUT + 1) input))
+WholeRow Comes Memory k input left out = (IsUntouched k out × ReadsSome input left) ⊎ (ReadsWhole input left × Comes Memory k input out)
+WholeRow Comes Usage k input left out = ⊥
+
 -- The row of a status, for what is held, an input, what the source has left of it, and what was written.
 abbrev pub ResumeRow : Status → Resumed → List ℕ → Option (List ℕ) → List ℕ → Type 0
-ResumeRow Done k input left out = ReadsWhole input left × Resumes Done k input out
-ResumeRow Refused k input left out = ReadsWhole input left × Resumes Refused k input out
-ResumeRow WriteFault k input left out = ReadsWhole input left × Resumes WriteFault k input out
-ResumeRow ReadFault k input left out = IsUntouched k out × ReadsSome input left
-ResumeRow TooLong k input left out = IsUntouched k out × (MOST_INPUT < length input) × (left ≡ Some (drop (MOST_INPUT + 1) input))
-ResumeRow Memory k input left out = (IsUntouched k out × ReadsSome input left) ⊎ (ReadsWhole input left × Resumes Memory k input out)
-ResumeRow Usage k input left out = ⊥
+ResumeRow status k input left out = WholeRow Resumes status k input left out

@@ -14,4 +14,4 @@
 
 mod resuming;
 
-pub use resuming::resume_input;
+pub use resuming::{refuse_image, resume_input};

@@ -35,7 +35,7 @@ fn refusal_text(alloc: Global, rule: Rule) -> Result<String, NoMemory>
 
 /// Writes the line of a rule that fails, as one piece. `Refused` where it was written whole; `WriteFault` where a write failed, after a
 /// proper part of the line; `Memory` where nothing was written for want of memory.
-fn refuse_image<K: Sink>(alloc: Global, sink: &mut K, rule: Rule) -> Status
+pub fn refuse_image<K: Sink>(alloc: Global, sink: &mut K, rule: Rule) -> Status
     ensures refused { HasTaken K.taken sink.old sink.new (Refuses result rule) }
     ensures later { K.faults sink.old ≤ K.faults sink.new }
     ensures write { result ≡ Status.WriteFault → Rose (K.faults sink.old) (K.faults sink.new) }
@@ -58,7 +58,7 @@ fn go_on<K: Sink, O: Walked + Drop, N: Listed>(
     sink: &mut K,
     store: &mut StoreOf<O, N>,
 ) -> Status
-    requires taken { (p : ImageParts) × Tells unpacked.program unpacked.next_run unpacked.budget unpacked.length bytes.now p × IsSomeAnd unpacked.store (IsRebuilt unpacked.program.shape p) }
+    requires taken { (p : ImageParts) × Tells unpacked.program unpacked.text unpacked.next_run unpacked.budget unpacked.length bytes.now p × IsSomeAnd unpacked.store (IsRebuilt unpacked.program.shape p) }
     requires typed { IsTyped (routines_of unpacked.program) }
     requires rested { queue_in unpacked.store ≡ [] }
     ensures resumed { HasTaken K.taken sink.old sink.new (Resumes result (resumed_in store.old store.new) bytes.now) }
@@ -67,6 +67,7 @@ fn go_on<K: Sink, O: Walked + Drop, N: Listed>(
 {
     let Unpacked {
         program,
+        text: _,
         store: taken,
         next_run,
         budget,

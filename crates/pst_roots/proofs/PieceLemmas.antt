@@ -203,6 +203,20 @@ module _ (ps : List (List ℕ)) (starts : List ℕ) (are : starts ≡ starts_fro
       let at_is : before ps at + (index - get_or starts at 0) ≡ index = omega (arith, start_at at falls.there, falls.early) in
       sym (element_at ps at (index - get_or starts at 0) falls.there (omega (arith, falls.early, falls.within))) ∙ ap (λ (i : ℕ). get_or (concat ps) i 0) at_is
 
+  -- the first element of a piece stands where the piece starts
+  module _ (each : All IsPiece ps) (k : ℕ) (l : k < length ps) where
+    some : IsPiece (get_or ps k [])
+    some = each k [] l
+
+    pub first_within : get_or starts k 0 < length (concat ps)
+    first_within = omega (arith, start_at k l, end_within ps k l, some.some)
+
+    pub first_element : get_or (get_or ps k []) 0 0 ≡ get_or (concat ps) (get_or starts k 0) 0
+    first_element =
+        let none : get_or starts k 0 - get_or starts k 0 ≡ 0 = omega arith in
+        ap (λ (i : ℕ). get_or (get_or ps k []) i 0) (sym none)
+        ∙ falls_element (get_or starts k 0) k (record { there = l; early = omega arith; within = omega (arith, some.some) })
+
 -- the starts are far below the end of a `usize`
 pub starts_are_low : (pieces : Vec (List ℕ) Global) (starts : Vec ℕ Global) (pool : Vec (List ℕ) Global) → AreCut pieces starts pool → All (λ start. start < 2 ^ 63) starts.items
 starts_are_low pieces starts pool cut k d l =

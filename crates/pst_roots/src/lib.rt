@@ -5,12 +5,13 @@
 //!
 //! Contract: `at` gives the last held node that does not begin after a place; `at_with` finds it in at most `s` comparisons,
 //! where `2 ^ s` is at most `2 * n + 1` for the `n` nodes held. `add` puts a node directly behind the last one that does
-//! not begin after it, without taking memory; it moves the nodes of one piece. (A bisection over one list, with its comparisons
+//! not begin after it, without taking memory; it moves the nodes of one piece. Where the caller guesses which one that is, it is
+//! found among the nodes with which pieces begin, and in one piece. (A bisection over one list, with its comparisons
 //! where pieces start as far as the bound leaves that open, so that most searches look at the same nodes first; the root of each
 //! version in the paper of Driscoll, Sarnak, Sleator and Tarjan.)
 //!
 //!     roots.reserve(1)?;
-//!     roots.add(&order, &nodes, right);
+//!     roots.add(&order, &nodes, near, right);
 //!     let node = roots.at(&order, &nodes, place);
 #![tactic(auto)]
 

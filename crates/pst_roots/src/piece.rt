@@ -28,7 +28,7 @@ impl Model for Piece {
 }
 
 impl Piece {
-    ghost use Rattle.std.specs.Prelude.{◌≡◌, ◌<◌, ◌≤◌, [], length, get_or, take, drop, insert, IfOk};
+    ghost use Rattle.std.specs.Prelude.{◌≡◌, ◌<◌, ◌≤◌, [], length, get_or, take, drop, insert, IfOk, IfSome};
 
     /// A piece with no node. `NoMemory` where there is no memory for it.
     pub fn new(alloc: Global) -> Result<Piece, NoMemory>
@@ -55,6 +55,18 @@ impl Piece {
         ensures { result.0 ≡ get_or self.now index 0 }
     {
         self.nodes[index]
+    }
+
+    /// The index of a node, or None where it is not among them.
+    pub fn find(&self, id: NodeId) -> Option<usize>
+        ensures { IfSome result (λ i. i < length self.now) }
+    {
+        for (index, node) in self.nodes.iter().enumerate() {
+            if *node == id {
+                return Some(index);
+            }
+        }
+        None
     }
 
     /// Puts a node at an index.

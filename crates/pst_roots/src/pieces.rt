@@ -13,6 +13,13 @@ use std::marker::Model;
 /// The most pieces, far more than there is memory for: the count of the nodes fits a `usize`.
 const MOST_PIECES: usize = 1 << 48;
 
+/// A node of a list, and its index.
+#[derive(Clone, Copy)]
+pub struct Spot {
+    pub index: usize,
+    pub node: NodeId,
+}
+
 /// Nodes in an order, in pieces. Each piece has a node, and at most `PIECE`. Empty pieces are kept for those to come.
 #[derive(Drop)]
 pub struct Pieces {
@@ -36,7 +43,8 @@ impl Model for Pieces {
 }
 
 impl Pieces {
-    ghost use Rattle.std.specs.Prelude.{◌≡◌, suc, ◌+◌, ◌<◌, ◌≤◌, [], ◌∷◌, length, get_or, insert, IfOk, OnOk, OnErr};
+    ghost use Rattle.std.specs.Prelude.{◌≡◌, suc, ◌+◌, ◌<◌, ◌≤◌, [], ◌∷◌, length, get_or, insert, IfOk, IfSome, OnOk, OnErr};
+    ghost use Rattle.pst_roots.specs.Spots.{IsSpotIn};
 
     /// The list of one node. `NoMemory` where there is no memory for it.
     pub fn new(alloc: Global, first: NodeId) -> Result<Pieces, NoMemory>
@@ -82,6 +90,34 @@ impl Pieces {
         ensures { result ≤ index }
     {
         self.starts[piece_at(&self.starts, index)]
+    }
+
+    /// How many pieces there are.
+    #[inline]
+    pub fn pieces(&self) -> usize {
+        self.pieces.len()
+    }
+
+    /// The first node of a piece, or None where there is no such piece.
+    #[inline]
+    pub fn first(&self, piece: usize) -> Option<Spot>
+        ensures { IfSome result (IsSpotIn self.now.nodes) }
+    {
+        if piece >= self.pieces.len() {
+            return None;
+        }
+        let index = self.starts[piece];
+        let node = self.pieces[piece].get(0);
+        Some(Spot { index, node })
+    }
+
+    /// The index of a node, looked for in one piece.
+    pub fn find(&self, piece: usize, id: NodeId) -> Option<usize> {
+        if piece >= self.pieces.len() {
+            return None;
+        }
+        let offset = self.pieces[piece].find(id)?;
+        Some(self.starts[piece].saturating_add(offset))
     }
 
     /// Makes room for so many nodes more, wherever they come. A refusal changes nothing.

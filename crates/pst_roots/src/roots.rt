@@ -75,9 +75,10 @@ impl RootIndex {
         self.pieces.reserve(n)
     }
 
-    /// Puts a node directly behind the last held one that does not begin after it, in the room that was made. The place is
-    /// mostly found beside the node that came in before, else by bisection.
-    pub fn add<O: Order>(&mut self, order: &O, nodes: &Nodes, right: NodeId)
+    /// Puts a node directly behind the last held one that does not begin after it, in the room that was made. That one is looked
+    /// for beside the node that came in before; then it is seen whether it is `near`, where the caller guesses that it is the
+    /// one; and else it is found by bisection.
+    pub fn add<O: Order>(&mut self, order: &O, nodes: &Nodes, near: NodeId, right: NodeId)
         requires roots { AreRoots (O.places order.now) nodes.now.list.items (held_of self.old) (lo_at nodes.now.list.items right.0) }
         requires place { IsIn (O.places order.now) (lo_at nodes.now.list.items right.0) }
         requires room { 1 ≤ spare_of self.old }
@@ -85,24 +86,59 @@ impl RootIndex {
         ensures room { spare_of self.old ≤ spare_of self.new + 1 }
     {
         let begin = begin_of(nodes, right);
-        let left = self.left_of(order, nodes, begin);
+        let left = self.left_of(order, nodes, near, begin);
         self.pieces.insert_behind(left, right);
         self.recent = left;
     }
 
-    // The index of the last held node that does not begin after a place: looked for beside the node that came in last.
-    fn left_of<O: Order>(&self, order: &O, nodes: &Nodes, place: Pos) -> usize
+    // The index of the last held node that does not begin after a place: looked for beside the node that came in last, and then
+    // where the node stands that may be the one.
+    fn left_of<O: Order>(&self, order: &O, nodes: &Nodes, near: NodeId, place: Pos) -> usize
         requires roots { AreRoots (O.places order.now) nodes.now.list.items (held_of self.now) place.0 }
         requires place { IsIn (O.places order.now) place.0 }
         ensures { IsLastIndex (O.places order.now) nodes.now.list.items (held_of self.now) place.0 result }
     {
         let behind = self.recent.saturating_add(1);
         if self.is_last(order, nodes, behind, place) {
-            behind
-        } else if self.is_last(order, nodes, self.recent, place) {
-            self.recent
-        } else {
-            self.last_before(&mut Counting::new(order), nodes, place)
+            return behind;
+        }
+        if self.is_last(order, nodes, self.recent, place) {
+            return self.recent;
+        }
+        match self.guess(order, nodes, near, place) {
+            Some(index) if self.is_last(order, nodes, index, place) => index,
+            Some(_) | None => self.last_before(&mut Counting::new(order), nodes, place),
+        }
+    }
+
+    // The index of a node, if it stands in the one piece in which the last node can stand that does not begin after a place. Pieces
+    // are told apart by their first nodes, which are few, so that most of a bisection is among what was looked at just before.
+    fn guess<O: Order>(&self, order: &O, nodes: &Nodes, near: NodeId, place: Pos) -> Option<usize>
+        requires roots { AreRoots (O.places order.now) nodes.now.list.items (held_of self.now) place.0 }
+        requires place { IsIn (O.places order.now) place.0 }
+    {
+        let mut piece = 0;
+        let mut end = self.pieces.pieces();
+        while end.saturating_sub(piece) > 1 {
+            let middle = piece + (end - piece) / 2;
+            if self.begins_by(order, nodes, middle, place) {
+                piece = middle;
+            } else {
+                end = middle;
+            }
+        }
+        self.pieces.find(piece, near)
+    }
+
+    // Whether a piece is there and its first node does not begin after a place.
+    #[inline]
+    fn begins_by<O: Order>(&self, order: &O, nodes: &Nodes, piece: usize, place: Pos) -> bool
+        requires roots { AreRoots (O.places order.now) nodes.now.list.items (held_of self.now) place.0 }
+        requires place { IsIn (O.places order.now) place.0 }
+    {
+        match self.pieces.first(piece) {
+            Some(first) => !order.before(place, begin_of(nodes, first.node)),
+            None => false,
         }
     }
 

@@ -6,7 +6,7 @@ use Rattle.pst_io.specs.Text.{whole_lines}
 use Rattle.pst_jobs.specs.declared.job.Job.{Job}
 use Rattle.pst_jobs.specs.declared.job.Job.TheVariants.{Run, Replay, Line, Check, Code}
 use Rattle.pst_jobs.specs.declared.job.Task.{Task}
-use Rattle.pst_jobs.specs.declared.job.Task.TheVariants.{Input, Bench, Ask, Pack, Resume}
+use Rattle.pst_jobs.specs.declared.job.Task.TheVariants.{Input, Bench, Ask, Pack, Resume, Repack}
 use Rattle.pst_judge.specs.declared.page.Page.{Page}
 use Rattle.pst_judge.specs.declared.page.Page.TheVariants.{Canonical, Listing}
 use Rattle.pst_jobs.specs.declared.status.Status.{Status}
@@ -147,3 +147,4 @@ IsServable (Some (Bench number)) input = Unit {0}
 IsServable (Some (Ask question)) input = IsWithin Run input
 IsServable (Some Pack) input = IsWithin Run input
 IsServable (Some Resume) input = length input ≤ MOST_INPUT
+IsServable (Some Repack) input = length input ≤ MOST_INPUT

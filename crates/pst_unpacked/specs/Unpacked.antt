@@ -26,9 +26,10 @@ pub record IsAccepted (bytes : List ℕ) (p : ImageParts) (named : NamedProgram)
   pub text : IsOwnText p.text named
   pub rules : IsJudged named.shape p None
 
--- The bytes begin with an accepted image, of this length, of this program, next run number and budget.
-pub record Tells (program : Program) (next_run : RunNo) (budget len : ℕ) (bytes : List ℕ) (p : ImageParts) : Type 0 where
+-- The bytes begin with an accepted image, of this length, of this program with its text, next run number and budget.
+pub record Tells (program : Program) (text : List ℕ) (next_run : RunNo) (budget len : ℕ) (bytes : List ℕ) (p : ImageParts) : Type 0 where
   pub accepted : IsAccepted bytes p (program_of program) len
+  pub text_is : text ≡ p.text
   pub next_run_is : next_run ≡ p.next_run
   pub budget_is : budget ≡ p.budget
 

@@ -16,7 +16,7 @@ ghost use Rattle.pst_unpacked.specs.Unpacked.{IsOwnText, IsAccepted, Tells, Fail
 
 use crate::fault::ImageFault;
 use pst_arena::Listed;
-use pst_base::{NoMemory, RunNo};
+use pst_base::{NoMemory, RunNo, Text};
 use pst_form::{FormFault, Image, ImageParts, read_image};
 use pst_image_rules::{Rule, first_failed};
 use pst_judge::{NoProgram, canonical_program};
@@ -31,6 +31,8 @@ use std::alloc::Global;
 pub struct Unpacked<O: Walked + Drop, N: Listed> {
     /// The program.
     pub program: Program,
+    /// Its canonical text, which is that of the image.
+    pub text: Text,
     /// The store.
     pub store: StoreOf<O, N>,
     /// The number that the next run gets.
@@ -106,7 +108,7 @@ pub fn unpack<O: Walked + Drop, N: Listed>(
     alloc: Global,
     bytes: &[u8],
 ) -> Result<Unpacked<O, N>, ImageFault>
-    ensures taken { IfOk result (λ u. (p : ImageParts) × Tells u.program u.next_run u.budget u.length bytes.now p × IsSomeAnd u.store (IsRebuilt u.program.shape p)) }
+    ensures taken { IfOk result (λ u. (p : ImageParts) × Tells u.program u.text u.next_run u.budget u.length bytes.now p × IsSomeAnd u.store (IsRebuilt u.program.shape p)) }
     ensures typed { IfOk result (λ u. IsTyped (routines_of u.program)) }
     ensures rested { IfOk result (λ u. queue_in u.store ≡ []) }
     ensures bad { (rule : Rule) → result ≡ Err (Bad rule) → FailsFirst bytes.now rule }
@@ -119,5 +121,6 @@ pub fn unpack<O: Walked + Drop, N: Listed>(
         next_run: parts.next_run,
         budget: parts.budget,
         length,
+        text: parts.text,
     })
 }

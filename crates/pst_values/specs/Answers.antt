@@ -1,12 +1,15 @@
 -- What the answers of expressions mean.
-use Rattle.std.specs.Prelude.{ℤ, List, ◌++◌, Option, Some, None, Result, Ok, Err}
+use Rattle.std.specs.Prelude.{ℕ, ℤ, List, ◌++◌, Option, Some, None, Result, Ok, Err}
 use Rattle.std.specs.declared.vec.Vec.{Vec}
 use Rattle.std.specs.declared.alloc.Global.{Global}
 use Rattle.pst_base.specs.declared.names.TrapKind.{TrapKind}
 use Rattle.pst_base.specs.declared.names.TrapKind.TheVariants.{Overflow}
 use Rattle.pst_program.specs.declared.meaning.Value.{Value}
 use Rattle.pst_program.specs.declared.meaning.Value.TheVariants.{Number as ANumber}
-use Rattle.pst_program.specs.Value.{Answer, Gives, Traps}
+use Rattle.pst_base.specs.declared.shape.TypeShape.{TypeShape}
+use Rattle.pst_base.specs.Heap.{Heap}
+use Rattle.pst_program.specs.Syntax.{Expr}
+use Rattle.pst_program.specs.Value.{Answer, Env, Gives, Traps, and_then, value, object_of, load_element, index_of, number_of}
 use Rattle.pst_program.specs.Meaning.{Answers, Gives_all, Traps_at}
 
 -- what a value or a trap says
@@ -18,6 +21,12 @@ answer_of (Err t) = Traps t
 abbrev pub given_of : Option ℤ → Result Value TrapKind
 given_of (Some n) = Ok (ANumber n)
 given_of None = Err Overflow
+
+-- what an element of an array is, of the record that an expression gives, at the index that another one gives
+abbrev pub element_answer : List TypeShape → (object : Expr) → (slot elements : ℕ) → (index : Expr) → Env → Heap → Answer
+element_answer shape object slot elements index env heap =
+    and_then (value shape object env heap) (λ v. and_then (object_of v) (λ o.
+    and_then (value shape index env heap) (λ i. load_element shape heap slot (index_of elements (number_of i)) o)))
 
 -- what the values of arguments say, or the first trap
 abbrev pub values_of : Result (Vec Value Global) TrapKind → Answers

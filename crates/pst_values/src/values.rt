@@ -1,17 +1,41 @@
 //! The value of an expression.
 
-ghost use Rattle.std.specs.Prelude.{◌≡◌, ◌+◌, ◌-◌, ◌^◌, min, slice_index_or};
+ghost use Rattle.std.specs.Prelude.{◌≡◌, ◌+◌, ◌-◌, ◌^◌, neg_ℤ, not, min, slice_index_or};
 ghost use Rattle.pst_base.specs.Heap.{kind_in};
-ghost use Rattle.pst_program.specs.Value.{number_of, truth_of, same_value, operate, decides, content, load, object_of, index_of, load_element, value as value_of};
+ghost use Rattle.pst_program.specs.Value.{Gives, number_of, truth_of, same_value, operate, decides, binary, and_then, content, load, limited as limited_to, object_of, index_of, load_element, value as value_of};
 ghost use Rattle.pst_program.specs.View.{expr_of};
-ghost use Rattle.pst_values.specs.Answers.{answer_of, given_of};
+ghost use Rattle.pst_values.specs.Answers.{answer_of, given_of, element_answer};
 
 use pst_base::{Kind, Name, Op, ROOT, SlotNo, TrapKind};
 use pst_heap::PlainHeap;
 use pst_program::{Typed, Value};
 
-/// The value of an expression, or the kind of its first trap from left to right.
+/// The value of an expression, or the kind of its first trap from left to right. A number and a local, which most operands are, are
+/// told without a call.
+#[cycle(value)]
+#[inline(always)]
 pub fn value(e: &Typed, env: &[Value], heap: &PlainHeap) -> Result<Value, TrapKind>
+    ensures { answer_of result ≡ value_of heap.now.shape (expr_of e.now) env.now heap.now.heap }
+{
+    match e {
+        Typed::Number(n) => Ok(Value::Number(*n)),
+        Typed::Local(x) => Ok(local_at(env, *x)),
+        Typed::Null(_)
+        | Typed::Root(_)
+        | Typed::Parens(_)
+        | Typed::Load { .. }
+        | Typed::LoadIndexed { .. }
+        | Typed::Negate(_)
+        | Typed::Not(_)
+        | Typed::Binary { .. } => by_parts(e, env, heap),
+    }
+}
+
+/// The same, by the values of the parts of the expression. Each form that has parts is a function of its own: what a function keeps of
+/// values it sets at each call, whichever form it meets.
+#[cycle(value)]
+#[inline(never)]
+fn by_parts(e: &Typed, env: &[Value], heap: &PlainHeap) -> Result<Value, TrapKind>
     ensures { answer_of result ≡ value_of heap.now.shape (expr_of e.now) env.now heap.now.heap }
 {
     match e {
@@ -20,35 +44,85 @@ pub fn value(e: &Typed, env: &[Value], heap: &PlainHeap) -> Result<Value, TrapKi
         Typed::Local(x) => Ok(local_at(env, *x)),
         Typed::Root(slot) => Ok(content(heap, ROOT, *slot)),
         Typed::Parens(inner) => value(inner, env, heap),
-        Typed::Load { object, field, .. } => {
-            let object = value(object, env, heap)?;
-            load(heap, object, *field)
-        }
+        Typed::Load { object, field, .. } => loaded(object, *field, env, heap),
         Typed::LoadIndexed {
             object,
             field,
             elements,
             index,
             ..
-        } => {
-            let object = object_of(value(object, env, heap)?)?;
-            let index = value(index, env, heap)?;
-            load_element(heap, object, *field, index_of(*elements, number(index)))
-        }
-        Typed::Negate(operand) => limited(number(value(operand, env, heap)?).checked_neg()),
-        Typed::Not(operand) => {
-            let v = value(operand, env, heap)?;
-            Ok(Value::Truth(!truth(v)))
-        }
-        Typed::Binary { op, left, right } => {
-            let v = value(left, env, heap)?;
-            if decides(*op, v) {
-                return Ok(Value::Truth(truth(v)));
-            }
-            let w = value(right, env, heap)?;
-            operate(*op, v, w)
-        }
+        } => element(object, *field, *elements, index, env, heap),
+        Typed::Negate(operand) => negated(operand, env, heap),
+        Typed::Not(operand) => denied(operand, env, heap),
+        Typed::Binary { op, left, right } => combined(*op, left, right, env, heap),
     }
+}
+
+/// `o.f`.
+#[cycle(value)]
+#[inline(never)]
+fn loaded(object: &Typed, field: SlotNo, env: &[Value], heap: &PlainHeap) -> Result<Value, TrapKind>
+    ensures { answer_of result ≡ and_then (value_of heap.now.shape (expr_of object.now) env.now heap.now.heap) (load heap.now.shape heap.now.heap field.0) }
+{
+    let object = value(object, env, heap)?;
+    load(heap, object, field)
+}
+
+/// `o.f(i)`: the slot of the array's first element, and how many there are.
+#[cycle(value)]
+#[inline(never)]
+fn element(
+    object: &Typed,
+    field: SlotNo,
+    elements: u8,
+    index: &Typed,
+    env: &[Value],
+    heap: &PlainHeap,
+) -> Result<Value, TrapKind>
+    ensures { answer_of result ≡ element_answer heap.now.shape (expr_of object.now) field.0 elements (expr_of index.now) env.now heap.now.heap }
+{
+    let object = object_of(value(object, env, heap)?)?;
+    let index = value(index, env, heap)?;
+    load_element(heap, object, field, index_of(elements, number(index)))
+}
+
+/// `-e`.
+#[cycle(value)]
+#[inline(never)]
+fn negated(operand: &Typed, env: &[Value], heap: &PlainHeap) -> Result<Value, TrapKind>
+    ensures { answer_of result ≡ and_then (value_of heap.now.shape (expr_of operand.now) env.now heap.now.heap) (λ v. limited_to (neg_ℤ (number_of v))) }
+{
+    limited(number(value(operand, env, heap)?).checked_neg())
+}
+
+/// `not e`.
+#[cycle(value)]
+#[inline(never)]
+fn denied(operand: &Typed, env: &[Value], heap: &PlainHeap) -> Result<Value, TrapKind>
+    ensures { answer_of result ≡ and_then (value_of heap.now.shape (expr_of operand.now) env.now heap.now.heap) (λ v. Gives (Value.Truth (not (truth_of v)))) }
+{
+    let v = value(operand, env, heap)?;
+    Ok(Value::Truth(!truth(v)))
+}
+
+/// Two operands with an operator between them: the right one is left out where the left one decides.
+#[cycle(value)]
+#[inline(never)]
+fn combined(
+    op: Op,
+    left: &Typed,
+    right: &Typed,
+    env: &[Value],
+    heap: &PlainHeap,
+) -> Result<Value, TrapKind>
+    ensures { answer_of result ≡ binary op (value_of heap.now.shape (expr_of left.now) env.now heap.now.heap) (value_of heap.now.shape (expr_of right.now) env.now heap.now.heap) }
+{
+    let v = value(left, env, heap)?;
+    if decides(op, v) {
+        return Ok(Value::Truth(truth(v)));
+    }
+    let w = value(right, env, heap)?;
+    operate(op, v, w)
 }
 
 /// What a local holds; one that is not there is null.

@@ -28,20 +28,20 @@ decreases-run_while l = l.deep * (2 * deepest l.program.now.procedures.items.ite
 -- what is left to do comes to what all comes to
 abbrev pub invariant-run_block-loop-statement : goal.invariant-run_block-loop-statement
 invariant-run_block-loop-statement l = record {
-  ready : IsAtWork l.program.shape l.heap l.tally;
-  fewer : l.tally.charges ≤ l.fn.tally.charges;
-  rest : exec l.program.shape (call (routines_of l.program) l.deep) (statements_of (drop l.statement-index l.statement-items)) l.env.items (world_of l.heap l.tally)
-      ≡ exec l.program.shape (call (routines_of l.program) l.deep) (actions_of l.block) l.fn.env.items (world_of l.fn.heap l.fn.tally);
+  ready : IsAtWork l.program.shape l.heap l.work.tally;
+  fewer : l.work.tally.charges ≤ l.fn.work.tally.charges;
+  rest : exec l.program.shape (call (routines_of l.program) l.deep) (statements_of (drop l.statement-index l.statement-items)) l.env.items (world_of l.heap l.work.tally)
+      ≡ exec l.program.shape (call (routines_of l.program) l.deep) (actions_of l.block) l.fn.env.items (world_of l.fn.heap l.fn.work.tally);
 }
 
-abbrev pub invariant-run_while-loop-end : goal.invariant-run_while-loop-end
-invariant-run_while-loop-end l = record {
-  ready : IsAtWork l.program.shape l.heap l.tally;
-  fewer : l.tally.charges ≤ l.fn.tally.charges;
-  rest : (n : ℕ) × (l.tally.charges ≤ n)
-      × (turns n l.program.shape (expr_of l.e) (exec l.program.shape (call (routines_of l.program) l.deep) (actions_of l.body)) l.line l.env.items (world_of l.heap l.tally)
-      ≡ turns l.fn.tally.charges l.program.shape (expr_of l.e) (exec l.program.shape (call (routines_of l.program) l.deep) (actions_of l.body)) l.line l.fn.env.items (world_of l.fn.heap l.fn.tally));
+abbrev pub invariant-run_while-turns : goal.invariant-run_while-turns
+invariant-run_while-turns l = record {
+  ready : IsAtWork l.program.shape l.heap l.work.tally;
+  fewer : l.work.tally.charges ≤ l.fn.work.tally.charges;
+  rest : (n : ℕ) × (l.work.tally.charges ≤ n)
+      × (turns n l.program.shape (expr_of l.e) (exec l.program.shape (call (routines_of l.program) l.deep) (actions_of l.body)) l.line l.env.items (world_of l.heap l.work.tally)
+      ≡ turns l.fn.work.tally.charges l.program.shape (expr_of l.e) (exec l.program.shape (call (routines_of l.program) l.deep) (actions_of l.body)) l.line l.fn.env.items (world_of l.fn.heap l.fn.work.tally));
 }
 
-abbrev pub decreases-run_while-loop-end : goal.decreases-run_while-loop-end
-decreases-run_while-loop-end l = l.tally.charges
+abbrev pub decreases-run_while-turns : goal.decreases-run_while-turns
+decreases-run_while-turns l = l.work.tally.charges

@@ -1,16 +1,18 @@
-use Rattle.std.proofs.Common.{◌≡◌, inl, refl, sym, ap, ◌∙◌, subst}
+use Rattle.std.proofs.Common.{◌≡◌, ◌^◌, inl, refl, sym, ap, ◌∙◌, subst}
 use Rattle.std.proofs.lemmas.Result.{err_from_is_err_and}
+use Rattle.pst_base.specs.declared.names.Counts.{Counts}
+use Rattle.pst_program.specs.Sound.{CountsWithin}
 use Rattle.pst_program.specs.View.{routines_of}
 use Rattle.pst_history.specs.Direct.{meaning_of}
 use Rattle.pst_history.proofs.DirectLemmas.{direct_is_lawful}
-use Rattle.pst_compiled.specs.Compiled.{code_of}
+use Rattle.pst_history.specs.History.{counts_of, next_run}
 use Rattle.pst_answers.specs.Script.{by_tree}
 use Rattle.pst_answers.specs.Kept.{kept_by, first_history, history_after}
 use Rattle.pst_sessions.specs.Storing.{IsLeft, IsBroken}
 use Rattle.pst_asking.proofs.Finding.{carrying_stopped}
+use Rattle.pst_left.proofs.Counted.{few_counts_law}
 use Rattle.pst_packing.proofs.Found.{image_stopped, image_lacks}
-use Rattle.pst_packing.proofs.Starts.{script-start}
-use Rattle.pst_packing.proofs.Leaving.{leaves, numbers, imaged}
+use Rattle.pst_packing.proofs.Counted.{script_counts_law}
 use Rattle.pst_packing.proofs.packing.image_of.Goals as goal
 
 pub returns-in_default-clause-found : goal.returns-in_default-clause-found
@@ -25,37 +27,27 @@ returns-in_err-carry_script-clause-found g c =
     image_stopped (kept_by by_tree IsLeft IsBroken c.args.store.now c.carry_script.new.held) c.carry_script.new.held m c.args.text.now _ _ _ _ c.from_residual.result s p.0 p.1 p.2
     (carrying_stopped by_tree IsLeft IsBroken c.args.store.now c.carry_script.new.held m s _ _ _ _ lines stops)
 
-pub pack-requires-clause-rested : goal.pack-requires-clause-rested
-pack-requires-clause-rested g c =
+pub image_of_session-requires-clause-stands : goal.image_of_session-requires-clause-stands
+image_of_session-requires-clause-stands g c =
     let m = meaning_of c.args.program in
     let (lines, all, now) = c.in_ok-carry_script.ensures.carried m (first_history by_tree m) c.in-Ok.ensures.stands in
-    (c.known.ensures.leaves m (history_after by_tree m lines) now).rested
+    (m, history_after by_tree m lines, now)
 
-pub pack-requires-clause-left : goal.pack-requires-clause-left
-pack-requires-clause-left g c =
-    let m = meaning_of c.args.program in
-    let (lines, all, now) = c.in_ok-carry_script.ensures.carried m (first_history by_tree m) c.in-Ok.ensures.stands in
-    let law = direct_is_lawful (routines_of c.args.program) c.requires.typed.valid in
-    leaves m _ c.carry_script.new.session.engine (history_after by_tree m lines) (script-start m lines) c.carry_script.new.held c.next_run.result c.next_run.ensures law c.whole.ensures.store now.stands
-
-pub pack-requires-clause-numbers : goal.pack-requires-clause-numbers
-pack-requires-clause-numbers g c =
-    let m = meaning_of c.args.program in
-    let (lines, all, now) = c.in_ok-carry_script.ensures.carried m (first_history by_tree m) c.in-Ok.ensures.stands in
-    numbers m _ c.carry_script.new.session.engine (history_after by_tree m lines) (script-start m lines) c.carry_script.new.held c.next_run.result c.budget.result c.next_run.ensures c.budget.ensures now.stands
-
-pub returns-in-Ok-pack-clause-found : goal.returns-in-Ok-pack-clause-found
-returns-in-Ok-pack-clause-found g c =
+pub image_of_session-requires-clause-counts : goal.image_of_session-requires-clause-counts
+image_of_session-requires-clause-counts g c =
     let m = meaning_of c.args.program in
     let (lines, all, now) = c.in_ok-carry_script.ensures.carried m (first_history by_tree m) c.in-Ok.ensures.stands in
     let h = history_after by_tree m lines in
-    let left = c.known.ensures.leaves m h now in (
-      lines,
-      all,
-      left,
-      imaged m _ c.carry_script.new.session.engine h (script-start m lines) c.carry_script.new.held c.next_run.result c.budget.result c.args.text.now c.in-Ok-pack.image c.next_run.ensures c.budget.ensures now.stands
-          c.in-Ok-pack.ensures.image c.in-Ok-pack.ensures.fits c.pack.ensures.rules c.in-Ok-pack.ensures.denotes,
-    )
+    let few = few_counts_law (counts_of m h) (next_run h) (script_counts_law m (direct_is_lawful (routines_of c.args.program) c.requires.typed.valid) lines) now.stands.sound.few in
+    let Q : Counts → Type 0 = λ k. CountsWithin k (2 ^ 50) in
+    subst Q (sym now.stands.counts) few
+
+pub returns-in-Ok-image_of_session-clause-found : goal.returns-in-Ok-image_of_session-clause-found
+returns-in-Ok-image_of_session-clause-found g c =
+    let m = meaning_of c.args.program in
+    let (lines, all, now) = c.in_ok-carry_script.ensures.carried m (first_history by_tree m) c.in-Ok.ensures.stands in
+    let h = history_after by_tree m lines in
+    (lines, all, c.known.ensures.leaves m h now, c.in-Ok-image_of_session.ensures.image m h now)
 
 pub returns-clause-found : goal.returns-clause-found
 returns-clause-found g c =

@@ -1,5 +1,6 @@
+use Rattle.std.proofs.Common.{[]}
 use Rattle.pst_line_nodes.proofs.Results.{on_err}
-use Rattle.pst_line.proofs.Entering.{some_line, newest_there, enter_failed, root_entered, linked_entered, found_failed, enter_unchanged, slot_entered, entered}
+use Rattle.pst_line.proofs.Entering.{some_line, newest_there, enter_failed, root_entered, linked_entered, found_kept, found_more, enter_unchanged, slot_entered, entered}
 use Rattle.pst_line.proofs.inner.Core.enter.Goals as goal
 
 pub make_room-requires-clause-line : goal.make_room-requires-clause-line
@@ -9,10 +10,10 @@ pub make_room-requires-clause-newest : goal.make_room-requires-clause-newest
 make_room-requires-clause-newest g c = newest_there _ _ c.self.view_is c.self.invariant _ c.stamp-stamp.ensures c.cover-found.result c.cover-found.ensures.covers
 
 pub invariant_of-self : goal.invariant_of-self
-invariant_of-self g c = enter_failed _ _ c.self.view_is c.self.invariant _ c.stamp-stamp.ensures c.requires.open _ c.make_room.ensures.carried c.make_room.ensures.kept _
+invariant_of-self g c = enter_failed _ _ c.self.view_is c.self.invariant _ c.stamp-stamp.ensures c.requires.open _ c.make_room.ensures.carried c.make_room.ensures.kept _ c.self.invariant.once
 
 pub returns-in_err-x-clause-err : goal.returns-in_err-x-clause-err
-returns-in_err-x-clause-err g c = on_err _ _ (enter_unchanged _ _ c.self.view_is c.self.invariant _ c.stamp-stamp.ensures c.requires.open _ c.make_room.ensures.carried c.make_room.ensures.kept c.self.inside.undo.items)
+returns-in_err-x-clause-err g c = on_err _ _ (enter_unchanged _ _ c.self.view_is c.self.invariant _ c.stamp-stamp.ensures c.requires.open _ c.make_room.ensures.carried c.make_room.ensures.kept [])
 
 pub cover-requires-clause-linked : goal.cover-requires-clause-linked
 cover-requires-clause-linked g c = linked_entered _ _ c.self.view_is c.self.invariant _ c.stamp-stamp.ensures c.requires.open _ c.make_room.ensures.carried c.make_room.ensures.kept
@@ -27,16 +28,16 @@ pub read-content-requires-clause-slot : goal.read-content-requires-clause-slot
 read-content-requires-clause-slot g c =
     slot_entered _ _ c.self.view_is c.self.invariant _ c.stamp-stamp.ensures c.requires.open _ c.make_room.ensures.carried c.make_room.ensures.kept c.args.r.0 c.args.field.0 c.cover-found.result c.in_ok-x.x c.requires.live c.requires.field c.cover-found.ensures.covers c.cover-found.ensures.home c.in_ok-x.ensures.room c.in_ok-x.ensures.quiet
 
-pub invariant_of-self-in_err-push : goal.invariant_of-self-in_err-push
-invariant_of-self-in_err-push g c = found_failed _ _ c.self.view_is c.self.invariant _ c.stamp-stamp.ensures c.requires.open _ c.make_room.ensures.carried c.make_room.ensures.kept _ c.cover.ensures.covers c.cover.ensures.home _
+pub invariant_of-self-in_err-note : goal.invariant_of-self-in_err-note
+invariant_of-self-in_err-note g c = found_kept _ _ c.self.view_is c.self.invariant _ c.stamp-stamp.ensures c.requires.open _ c.make_room.ensures.carried c.make_room.ensures.kept _ c.cover.ensures.covers c.cover.ensures.home _ c.in_err-note.ensures.err
 
-pub returns-in_err-push-clause-err : goal.returns-in_err-push-clause-err
-returns-in_err-push-clause-err g c = on_err _ _ (enter_unchanged _ _ c.self.view_is c.self.invariant _ c.stamp-stamp.ensures c.requires.open _ c.make_room.ensures.carried c.make_room.ensures.kept c.push.new.self.items)
+pub returns-in_err-note-clause-err : goal.returns-in_err-note-clause-err
+returns-in_err-note-clause-err g c = on_err _ _ (enter_unchanged _ _ c.self.view_is c.self.invariant _ c.stamp-stamp.ensures c.requires.open _ c.make_room.ensures.carried c.make_room.ensures.kept [])
 
 pub invariant_of-self-2 : goal.invariant_of-self-2
-invariant_of-self-2 g c = found_failed _ _ c.self.view_is c.self.invariant _ c.stamp-stamp.ensures c.requires.open _ c.make_room.ensures.carried c.make_room.ensures.kept _ c.cover.ensures.covers c.cover.ensures.home _
+invariant_of-self-2 g c = found_more _ _ c.self.view_is c.self.invariant _ c.stamp-stamp.ensures c.requires.open _ c.make_room.ensures.carried c.make_room.ensures.kept _ c.cover.ensures.covers c.cover.ensures.home _ _ c.in_ok-note.ensures.ok
 
 pub returns-clause-ok : goal.returns-clause-ok
 returns-clause-ok g c =
     entered _ _ c.self.view_is c.self.invariant _ c.stamp-stamp.ensures c.requires.open _ c.make_room.ensures.carried c.make_room.ensures.kept c.args.r.0 c.args.field.0 c.cover-found.result c.in_ok-x.x c.requires.live c.requires.field c.cover-found.ensures.covers c.cover-found.ensures.home c.in_ok-x.ensures.room c.in_ok-x.ensures.quiet
-    _ c.cover.ensures.covers c.cover.ensures.home _ c.read-content.result c.read-content.ensures c.in_ok-push.ensures.items
+    _ c.cover.ensures.covers c.cover.ensures.home _ c.read-content.result c.home.result c.read-content.ensures c.home.ensures c.in_ok-note.ensures.ok

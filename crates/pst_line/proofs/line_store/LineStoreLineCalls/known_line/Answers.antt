@@ -1,4 +1,4 @@
-use Rattle.pst_line.proofs.Wholes.{means_in, chain_in, stored_whole, rested_whole, closed_whole, empty_whole}
+use Rattle.pst_line.proofs.Wholes.{means_in, chain_in, stored_whole, rested_whole, closed_whole, empty_whole, listed_whole}
 use Rattle.pst_line.proofs.line_store.LineStoreLineCalls.known_line.Goals as goal
 
 pub returns-clause-means : goal.returns-clause-means
@@ -18,3 +18,6 @@ returns-clause-closed c = closed_whole c.args.self.now c.whole.ensures
 
 pub returns-clause-empty : goal.returns-clause-empty
 returns-clause-empty c = empty_whole c.args.self.now c.whole.ensures
+
+pub returns-clause-listed : goal.returns-clause-listed
+returns-clause-listed c = listed_whole c.args.self.now c.whole.ensures

@@ -1,0 +1,2 @@
+pub mod Repacking
+pub mod Left
