@@ -1,5 +1,5 @@
 -- What a session stands for, and what comes of answering lines by it.
-use Rattle.std.specs.Prelude.{◌≡◌, ℕ, ◌⊎◌, List, [], ◌++◌, Option, Some, Result, Ok, Err, MatchResult}
+use Rattle.std.specs.Prelude.{◌≡◌, ℕ, ◌⊎◌, Bool, true, false, List, [], ◌++◌, Option, Some, None, Result, Ok, Err, MatchResult}
 use Rattle.std.specs.List.{concat}
 use Rattle.std.specs.Option.{option_to_list}
 use Rattle.std.specs.Io.KnownBytes.{Appends, IsAtEnd}
@@ -31,6 +31,11 @@ StopsAtReply stop.Write reply out = (piece : List ℕ) × (reply ≡ Some piece)
 StopsAtReply stop.Memory reply out = out ≡ []
 StopsAtReply stop.Read reply out = ⊥
 StopsAtReply stop.TooLong reply out = ⊥
+
+-- the piece that was made, if one was
+abbrev pub made_piece : Bool → List ℕ → Option (List ℕ)
+made_piece false text = None
+made_piece true text = Some text
 
 -- what was written of the reply to a line, if it has one: all of it, or so much where it stopped
 abbrev pub IsSaid : {T : Type 0} → Result T Stop → (reply : Option (List ℕ)) → (out : List ℕ) → Type 0

@@ -6,13 +6,13 @@ ghost use Rattle.pst_io.specs.Causes.{Rose};
 ghost use Rattle.pst_script.specs.Commands.{reading};
 ghost use Rattle.pst_script.specs.Texts.{text_of};
 ghost use Rattle.pst_answers.specs.Script.{script_of, answer_of, next_of};
-ghost use Rattle.pst_answers.specs.Sessions.{HasTaken, StandForSome, OnEachHistory, StopsAtReply, HeldAtReply, IsSaid};
+ghost use Rattle.pst_answers.specs.Sessions.{HasTaken, StandForSome, OnEachHistory, StopsAtReply, HeldAtReply, IsSaid, made_piece};
 
 use crate::session::Session;
 use crate::stop::Stop;
-use pst_base::{NoMemory, Text};
+use pst_base::NoMemory;
 use pst_io::{Sink, put};
-use pst_script::{LineFault, Refusal, Reply, read_line, reply_text};
+use pst_script::{LineFault, Refusal, Reply, put_reply, read_line};
 use std::alloc::Global;
 
 /// Writes a piece.
@@ -52,40 +52,46 @@ pub fn reply_to<X: Session>(
     }
 }
 
-/// The text of a reply, if there is one.
-fn text_for(alloc: Global, reply: Option<Reply>) -> Result<Option<Text>, NoMemory>
-    ensures { IfOk result (λ text. text ≡ option_map text_of reply) }
+/// Puts the text of a reply, if there is one, in the place of what a list holds, and answers whether there is one.
+#[inline(always)]
+fn put_text(text: &mut Vec<u8>, reply: Option<Reply>) -> Result<bool, NoMemory>
+    ensures { IfOk result (λ there. made_piece there text.new.items ≡ option_map text_of reply) }
 {
     match reply {
-        None => Ok(None),
-        Some(reply) => Ok(Some(reply_text(alloc, &reply)?)),
+        None => Ok(false),
+        Some(reply) => {
+            put_reply(text, &reply)?;
+            Ok(true)
+        }
     }
 }
 
-/// The piece that answers a line, if it has a reply.
-fn piece_for<X: Session>(
+/// Puts the piece that answers a line, if it has a reply, in the place of what a list holds, and answers whether it has one.
+fn put_piece<X: Session>(
     alloc: Global,
     session: &mut X,
     held: &mut X::Held,
     line: &[u8],
-) -> Result<Option<Text>, NoMemory>
+    text: &mut Vec<u8>,
+) -> Result<bool, NoMemory>
     requires { StandForSome X.stands session.old held.old }
-    ensures piece { IfOk result (λ piece. OnEachHistory X.stands session.old held.old (λ m h. piece ≡ (script_of X.rules m).reply h line.now)) }
+    ensures piece { IfOk result (λ there. OnEachHistory X.stands session.old held.old (λ m h. made_piece there text.new.items ≡ (script_of X.rules m).reply h line.now)) }
     ensures stands { OnOk result (OnEachHistory X.stands session.old held.old (λ m h. X.stands session.new held.new m ((script_of X.rules m).next h line.now))) }
     ensures breaks { OnErr result (OnEachHistory X.stands session.old held.old (λ m h. X.breaks m held.new h ⊎ X.breaks m held.new ((script_of X.rules m).next h line.now))) }
 {
     let reply = reply_to(alloc, session, held, line)?;
     session.known(held);
-    text_for(alloc, reply)
+    put_text(text, reply)
 }
 
-/// Answers a line: its command is carried out, and then the reply is written.
+/// Answers a line: its command is carried out, and then the reply is written. Its text is made in a list that is used again.
 pub(crate) fn answer_line<X: Session, K: Sink>(
     alloc: Global,
     session: &mut X,
     held: &mut X::Held,
     sink: &mut K,
     line: &[u8],
+    text: &mut Vec<u8>,
 ) -> Result<(), Stop>
     requires { StandForSome X.stands session.old held.old }
     ensures answered { OnEachHistory X.stands session.old held.old (λ m h. HasTaken K.taken sink.old sink.new (IsSaid result ((script_of X.rules m).reply h line.now))) }
@@ -94,12 +100,12 @@ pub(crate) fn answer_line<X: Session, K: Sink>(
     ensures later { K.faults sink.old ≤ K.faults sink.new }
     ensures write { result ≡ Err Stop.Write → Rose (K.faults sink.old) (K.faults sink.new) }
 {
-    match piece_for(alloc, session, held, line) {
+    match put_piece(alloc, session, held, line, text) {
         Err(_) => Err(Stop::Memory),
-        Ok(None) => Ok(()),
-        Ok(Some(piece)) => {
+        Ok(false) => Ok(()),
+        Ok(true) => {
             session.known(held);
-            say(sink, piece.as_slice())
+            say(sink, text.as_slice())
         }
     }
 }

@@ -34,6 +34,7 @@ pub fn answer_script<X: Session, S: Source, K: Sink>(
     ensures read { result ≡ Err Stop.Read → Rose (S.faults source.old) (S.faults source.new) }
     ensures write { result ≡ Err Stop.Write → Rose (K.faults sink.old) (K.faults sink.new) }
 {
+    let mut answer = Vec::new(alloc);
     'answering: loop {
         session.known(held);
         match lines.next(source) {
@@ -41,7 +42,7 @@ pub fn answer_script<X: Session, S: Source, K: Sink>(
             Ok(false) => return Ok(()),
             Err(fault) => return Err(Stop::from(fault)),
         }
-        match answer_line(alloc, session, held, sink, lines.line()) {
+        match answer_line(alloc, session, held, sink, lines.line(), &mut answer) {
             Ok(()) => {}
             Err(stop) => return Err(stop),
         }

@@ -42,12 +42,13 @@ pub fn answer_text<X: Session, K: Sink>(
     ensures write { result ≡ Err Stop.Write → Rose (K.faults sink.old) (K.faults sink.new) }
 {
     let mut rest = text;
+    let mut answer = Vec::new(alloc);
     'answering: loop {
         session.known(held);
         match split_line(rest) {
             None => return Ok(()),
             Some((line, behind)) => {
-                match answer_line(alloc, session, held, sink, line) {
+                match answer_line(alloc, session, held, sink, line, &mut answer) {
                     Ok(()) => {}
                     Err(stop) => return Err(stop),
                 }

@@ -215,6 +215,7 @@ impl FatNodes for Arena {
         )
     }
 
+    #[inline(always)]
     fn repair<O: Order>(&mut self, shape: &Shape, order: &O) -> Result<(), NoMemory> {
         repair_and_hold(
             order,

@@ -20,6 +20,7 @@ use pst_roots::RootIndex;
 
 /// Splits what waits, and then lets the root index hold the root record's nodes that are new. After `NoMemory` some splits
 /// are made, the rest waits, and what is not held yet is held by the next call.
+#[inline(always)]
 pub fn repair_and_hold<O: Order>(
     order: &O,
     shape: &Shape,
@@ -54,6 +55,7 @@ fn first_of(queue: &Queue) -> NodeId {
 /// Lets the root index hold the root record's nodes among those that were not looked at yet. They may have been cut off from the
 /// node `near`: behind it their place is looked for first. After a refusal the nodes before the one that could not be held are
 /// looked at.
+#[inline(always)]
 pub fn hold_new<O: Order>(
     order: &O,
     nodes: &Nodes,
@@ -76,6 +78,7 @@ pub fn hold_new<O: Order>(
 }
 
 // Lets the root index hold a node where it is one of the root record. A refusal changes nothing but room.
+#[inline(never)]
 fn hold<O: Order>(
     order: &O,
     nodes: &Nodes,

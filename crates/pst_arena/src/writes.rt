@@ -133,6 +133,7 @@ pub fn set_target<O: Order>(
 }
 
 // The node that a field leads to at a place, or None where the field is null there.
+#[inline(always)]
 fn led_to<O: Order>(order: &O, nodes: &Nodes, id: NodeId, field: SlotNo, at: Pos) -> Option<NodeId>
     requires rows { AreRows (O.places order.now) nodes.now.list.items }
     requires slot { IsSlot (O.places order.now) nodes.now.list.items id.0 field.0 (rank (O.places order.now) at.0) }
@@ -147,6 +148,7 @@ fn led_to<O: Order>(order: &O, nodes: &Nodes, id: NodeId, field: SlotNo, at: Pos
 
 // Makes room for a pointer write in the row of a node and of the one that its field leads to. A refusal changes nothing but
 // room.
+#[inline(always)]
 fn reserve_pair(
     nodes: &mut Nodes,
     id: NodeId,
@@ -202,6 +204,7 @@ fn slot_stamps(node: NodeId, set: NodeId) -> usize
 }
 
 // Takes away the pointer that a field holds over a place, if it holds one, and its entry.
+#[inline(always)]
 fn clear<O: Order>(
     order: &O,
     nodes: &mut Nodes,
@@ -224,6 +227,7 @@ fn clear<O: Order>(
 }
 
 // Lets a node and the one that its field led to wait, each where it is over its capacity.
+#[inline(always)]
 fn queue_pair(
     shape: &Shape,
     nodes: &mut Nodes,

@@ -20,6 +20,7 @@ pub enum Lexeme<'a> {
 }
 
 /// A keyword or symbol on a line.
+#[inline(always)]
 fn mark_lexeme<'a>(mark: Mark, line: u32) -> Lexeme<'a>
     ensures { as_read result ≡ marked line mark }
 {
@@ -67,6 +68,7 @@ fn mark_lexeme<'a>(mark: Mark, line: u32) -> Lexeme<'a>
 }
 
 /// What a token is to the parser.
+#[inline(always)]
 fn lexeme_of(token: &Token) -> Lexeme<'_>
     ensures { as_read result ≡ lexeme token.now }
 {
@@ -81,6 +83,7 @@ fn lexeme_of(token: &Token) -> Lexeme<'_>
 }
 
 /// The first token, and the tokens after it.
+#[inline(always)]
 pub fn peek<'a>(tokens: &'a [Token]) -> Option<(Lexeme<'a>, &'a [Token])>
     ensures seen { MatchOption result (lexemes tokens.now ≡ []) (λ x. lexemes tokens.now ≡ as_read x.0 ∷ lexemes x.1.now) }
     ensures shorter { MatchOption result (tokens.now ≡ []) (λ x. length x.1.now < length tokens.now) }

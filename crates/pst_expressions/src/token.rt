@@ -13,6 +13,7 @@ use pst_lex::Token;
 use pst_tree::TypeName;
 
 /// The tokens after a sign that has to come.
+#[inline(always)]
 pub fn expect<'a>(tokens: &'a [Token], sign: Sign) -> Result<&'a [Token], Stop<'a>>
     ensures given { GivesRest result (expecting sign (lexemes tokens.now)) }
     ensures shorter { IfOk result (λ rest. length rest.now < length tokens.now) }
@@ -29,6 +30,7 @@ pub fn expect<'a>(tokens: &'a [Token], sign: Sign) -> Result<&'a [Token], Stop<'
 }
 
 /// A name that has to come, and the tokens after it.
+#[inline(always)]
 pub fn name<'a>(tokens: &'a [Token]) -> Result<(Label, &'a [Token]), Stop<'a>>
     ensures given { Gives itself result (labelling (lexemes tokens.now)) }
     ensures shorter { IfOk result (λ x. length x.1.now < length tokens.now) }
@@ -69,6 +71,7 @@ pub fn type_name<'a>(tokens: &'a [Token]) -> Result<(TypeName, &'a [Token]), Sto
 }
 
 /// The tokens after a sign, if it stands there.
+#[inline(always)]
 pub fn after<'a>(tokens: &'a [Token], sign: Sign) -> Option<&'a [Token]>
     ensures seen { MatchOption result (Lacks sign (lexemes tokens.now)) (λ rest. lexemes tokens.now ≡ Plain sign ∷ lexemes rest.now) }
     ensures shorter { MatchOption result (Unit {0}) (λ rest. length rest.now < length tokens.now) }

@@ -67,6 +67,7 @@ impl Input {
     }
 
     // Reads once more. Where this fails, what is held stays.
+    #[inline(never)]
     fn read_more<S: Source>(&mut self, source: &mut S) -> Result<(), LinesFault>
         requires { self.old.ended ≡ false }
         ensures reads { OnOk result (Hands self.old (S.left source.old) self.new (S.left source.new) []) }
@@ -102,6 +103,7 @@ impl Input {
     }
 
     // Reads until a line feed is held, and gives its index, or until the input ends.
+    #[inline(always)]
     pub fn seek_feed<S: Source>(&mut self, source: &mut S) -> Result<Option<usize>, LinesFault>
         requires { EndsWhereSeen self.old (S.left source.old) }
         ensures reads { (result ≡ Err LinesFault.TooLong → ⊥) → Reads self.old (S.left source.old) self.new (S.left source.new) }

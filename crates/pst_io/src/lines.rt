@@ -67,6 +67,7 @@ impl Lines {
     /// Each call has to be given the same source. A read is made only where no whole line is left, and
     /// none once the end of the input was seen. After an `Err` the reader has failed and is not asked again;
     /// every whole line that was read has then been handed out.
+    #[inline(always)]
     pub fn next<S: Source>(&mut self, source: &mut S) -> Result<bool, LinesFault>
         requires { IsOpen self.old (S.left source.old) }
 

@@ -117,6 +117,7 @@ fn hold_first<R: Copy>(
     requires { registers.old.items ≡ [] }
     ensures { OnOk result (registers.new.items ≡ map register.Number arguments.now ++ map register_default (drop (length arguments.now) kinds.now)) }
 {
+    registers.reserve(kinds.len())?;
     for n in arguments {
         registers.push(Register::Number(*n))?;
     }

@@ -17,6 +17,7 @@ use pst_split::split::split;
 /// Splits the node that waits first, and gives whether one waited: then there is one node more, and the potential is lower
 /// by at least 1. Where none waits nothing changes. No heap changes. After `NoMemory` no node was split, one that is over
 /// its capacity waits, and all that the call needs still holds.
+#[inline(always)]
 pub fn split_next<O: Order>(
     order: &O,
     shape: &Shape,
@@ -52,6 +53,7 @@ pub fn split_next<O: Order>(
 /// Splits until the queue is empty, and gives the number of splits, which is at most the potential that the nodes had:
 /// each split lowers it by at least 1 and adds one node. No heap changes. After `NoMemory` a node that is over its
 /// capacity waits again, what was split stays so, and all that the call needs still holds.
+#[inline(always)]
 pub fn repair<O: Order>(
     order: &O,
     shape: &Shape,

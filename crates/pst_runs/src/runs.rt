@@ -82,7 +82,7 @@ pub fn add<H: HeapAt, C: Meant>(
     let code = code.code();
     code.known();
     let call = call_of(code, procedure, arguments)?;
-    activation.add(code, &call)
+    activation.add(code, call)
 }
 
 /// Grants a run that many more charges, never more than its budget in all, and carries out its calls as far as they reach. Other

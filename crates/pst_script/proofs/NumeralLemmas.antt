@@ -1,14 +1,16 @@
 -- Numerals against what std reads.
-use Rattle.std.proofs.Common.{◌≡◌, ℕ, suc, zero, ◌+◌, ◌*◌, ◌<◌, ◌≤◌, ◌^◌, Bool, true, false, cond, not, List, [], ◌∷◌, length, refl, sym, ap, ◌∙◌, subst, arith, rules, tests, Option, Some, None, Result, Ok, Err, Bor}
+use Rattle.std.proofs.Common.{◌≡◌, ℕ, suc, zero, ◌+◌, ◌-◌, ◌*◌, ◌<◌, ◌≤◌, ◌^◌, take, get_or, Bool, true, false, cond, not, List, [], ◌∷◌, length, refl, sym, ap, ◌∙◌, subst, arith, rules, tests, Option, Some, None, Result, Ok, Err, Bor}
 use Rattle.std.specs.Prelude.{if◌then◌else◌, ◌==◌, nat_lt, ◌&&◌, IsUtf8, MatchResult, ℤ, pos, neg_ℤ, is_some, nat_le}
 use Rattle.std.specs.Option.{option_map}
 use Rattle.std.specs.Result.{OkIff, result_ok}
 use Rattle.std.specs.Char.{is_ascii_digit, digit_value}
 use Rattle.std.specs.Str.{bytes_eq}
 use Rattle.std.specs.List.{list_all}
-use Rattle.std.specs.Str.Parse.{digits_value, digits_value_after, ParsesUnsigned, ParsesSigned}
+use Rattle.std.specs.Str.Parse.{digits_value, digits_value_after, ParsesSigned}
 use Rattle.std.proofs.lemmas.Bool.{false≢true}
-use Rattle.std.proofs.lemmas.Str.Parse.{IsNumeralModel, numerals_by_value, parse_digits, parse_signed_digits, parse_signed_minus}
+use Rattle.std.proofs.lemmas.Int.Digits.{digits_value_more}
+use Rattle.std.proofs.lemmas.Str.{digit_value_digit}
+use Rattle.std.proofs.lemmas.Str.Parse.{IsNumeralModel, numerals_by_value, digit_at, digits_value-take-le, parse_signed_digits, parse_signed_minus}
 use Rattle.std.proofs.lemmas.Fmt.{IsAscii-from_digits}
 use Rattle.std.proofs.lemmas.Str.{IsUtf8-from_ascii}
 use Rattle.std.proofs.lemmas.Str.Ascii.{IsAscii-cons}
@@ -64,10 +66,16 @@ numeral_utf8 word h = IsUtf8-from_ascii word (IsAscii-from_digits word (own.to w
 pub number_of-numeral : (word : List ℕ) → is_numeral word ≡ true → number_of word ≡ Some (digits_value 10 word)
 number_of-numeral word h = rw h
 
--- what `parse` gives of a numeral
-pub number_read : {E : Type 0} (word text : List ℕ) (r : Result ℕ E) → is_numeral word ≡ true → text ≡ word → ParsesUnsigned 32 10 text r → result_ok r ≡ passing fits_32_bits (number_of word)
-number_read word text r h e p = let q : ParsesUnsigned 32 10 word r = subst (λ (t : List ℕ). ParsesUnsigned 32 10 t r) e p in
-    rw (number_of-numeral word h) (ok_if ((0 < length word) × (digits_value 10 word < 2 ^ 32)) (digits_value 10 word) r (nat_lt (digits_value 10 word) (2 ^ 32)) (parse_digits own 32 word r q (numeral_digits word h)) (λ t. (numeral_some word h, search (rules, tests))) (λ t. search (rules, tests)))
+-- one more digit makes the value ten times as great, and adds the digit
+pub numeral_more : (word : List ℕ) (i : ℕ) → is_numeral word ≡ true → i < length word → digits_value 10 (take (i + 1) word) ≡ digits_value 10 (take i word) * 10 + (get_or word i 0 - 48)
+numeral_more word i h lt = omega (arith, digits_value_more 10 word i lt, digit_value_digit (get_or word i 0) (digit_at word i (own.to word (numeral_digits word h)) lt))
+
+-- where the first digits are too great a number, all are
+pub numeral_great : (word : List ℕ) (i : ℕ) → is_numeral word ≡ true → 2 ^ 32 ≤ digits_value 10 (take i word) → None ≡ passing fits_32_bits (number_of word)
+numeral_great word i h great =
+    let whole = digits_value-take-le 10 word i (omega arith) in
+    let no : nat_lt (digits_value 10 word) (2 ^ 32) ≡ false = search (rules, tests) in
+    rw (number_of-numeral word h, no) refl
 
 -- ---- minus
 

@@ -41,7 +41,14 @@ pub(crate) fn number(word: &[u8]) -> Option<u32>
     requires { is_numeral word.now ≡ true }
     ensures { result ≡ passing fits_32_bits (number_of word.now) }
 {
-    str::from_utf8(word).ok()?.parse().ok()
+    let mut value: u64 = 0;
+    for digit in word {
+        value = value * 10 + u64::from(*digit - b'0');
+        if value > u64::from(u32::MAX) {
+            return None;
+        }
+    }
+    Some(value as u32)
 }
 
 /// The number of charges that a numeral writes. None where it is not from 1 to 1,000,000,000.

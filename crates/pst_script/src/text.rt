@@ -49,6 +49,7 @@ fn refusal_name(refusal: Refusal) -> &'static [u8]
 }
 
 /// Puts a number between two pieces of text.
+#[inline(always)]
 fn push_number<N: Integer>(
     text: &mut Vec<u8>,
     before: &[u8],
@@ -127,6 +128,7 @@ fn push_counts(text: &mut Vec<u8>, counts: &Counts, bound: u128) -> Result<(), N
 }
 
 /// Puts the text of a reply.
+#[inline(always)]
 fn push_reply(text: &mut Vec<u8>, reply: &Reply) -> Result<(), NoMemory>
     ensures { OnOk result (text.new.items ≡ text.old.items ++ text_of reply.now) }
 {
@@ -160,6 +162,19 @@ fn push_reply(text: &mut Vec<u8>, reply: &Reply) -> Result<(), NoMemory>
             text.extend_from_slice(b"\n")
         }
     }
+}
+
+/// Puts the text of a reply in the place of what a list holds. It is never empty, and each of its lines ends with a line feed.
+///
+/// # Errors
+///
+/// `NoMemory` where there is none for the text.
+#[inline(always)]
+pub fn put_reply(text: &mut Vec<u8>, reply: &Reply) -> Result<(), NoMemory>
+    ensures { OnOk result (text.new.items ≡ text_of reply.now) }
+{
+    text.clear();
+    push_reply(text, reply)
 }
 
 /// The text of a reply, which is never empty. Each of its lines ends with a line feed.

@@ -18,6 +18,7 @@ use pst_queue::queue::Queue;
 
 /// Splits a node that has more stamped values than its capacity, and queues each half and each partner that is over
 /// its capacity then. Gives the right half. A refusal changes nothing but room.
+#[inline(never)]
 pub fn split<O: Order>(
     order: &O,
     shape: &Shape,

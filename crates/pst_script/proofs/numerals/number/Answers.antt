@@ -1,9 +1,13 @@
-use Rattle.std.proofs.Common.{◌∙◌}
-use Rattle.pst_script.proofs.NumeralLemmas.{numeral_utf8, never_none, text_now, number_read}
+use Rattle.std.proofs.Common.{◌+◌, arith}
+use Rattle.pst_script.proofs.NumeralLemmas.{numeral_great, numeral_more}
 use Rattle.pst_script.proofs.numerals.number.Goals as goal
 
-pub returns-in_err-ok : goal.returns-in_err-ok
-returns-in_err-ok c = absurd (never_none _ _ _ _ c.from_utf8.result c.ok.ensures.value c.in_err-ok.was c.from_utf8.ensures.cases (numeral_utf8 c.args.word.now c.requires))
+pub returns-then-value-from : goal.returns-then-value-from
+returns-then-value-from c =
+    let more = numeral_more c.args.word.now c.loop-digit.digit-index c.requires c.loop-digit-test.true in
+    numeral_great c.args.word.now (c.loop-digit.digit-index + 1) c.requires (omega (arith, more, c.loop-digit.invariant.0, c.from.ensures))
 
-pub returns : goal.returns
-returns c = c.ok-2.ensures.value ∙ number_read c.args.word.now c.in_ok-ok.field-0.now c.parse.result c.requires (text_now _ _ _ _ c.from_utf8.result _ c.ok.ensures.value c.in_ok-ok.was c.from_utf8.ensures.cases) c.parse.ensures.value.0
+pub loop-digit-preserved : goal.loop-digit-preserved
+loop-digit-preserved c =
+    let more = numeral_more c.args.word.now c.loop-digit.digit-index c.requires c.loop-digit-test.true in
+    (omega (arith, more, c.loop-digit.invariant.0, c.from.ensures), omega arith)

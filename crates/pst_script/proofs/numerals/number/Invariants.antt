@@ -1,0 +1,6 @@
+use Rattle.std.proofs.Common.{◌≡◌, ◌<◌, ◌^◌, take}
+use Rattle.std.specs.Str.Parse.{digits_value}
+use Rattle.pst_script.proofs.numerals.number.Given as goal
+
+abbrev pub invariant-loop-digit : goal.invariant-loop-digit
+invariant-loop-digit l = (digits_value 10 (take l.digit-index l.word) ≡ l.value) × (l.value < 2 ^ 32)
