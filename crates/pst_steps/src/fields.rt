@@ -215,6 +215,7 @@ pub fn write<H: HeapAt>(
 }
 
 /// Writes a field of the root record. The answer is why it was refused, if it was.
+#[inline(always)]
 pub fn set_root<H: HeapAt>(
     heap: &mut H,
     at: H::Place,
@@ -232,6 +233,7 @@ pub fn set_root<H: HeapAt>(
 }
 
 /// Writes a field of the record that a register points to; null traps.
+#[inline(always)]
 pub fn store<H: HeapAt>(
     heap: &mut H,
     at: H::Place,
@@ -255,6 +257,7 @@ pub fn store<H: HeapAt>(
 }
 
 /// Writes an element of an array of the record that a register points to; null traps, and then an index of no element.
+#[inline(always)]
 pub fn store_element<H: HeapAt>(
     heap: &mut H,
     at: H::Place,
