@@ -18,6 +18,10 @@ use Rattle.pst_steps.specs.declared.standing.Step.TheVariants.{Next, Here, Switc
 abbrev pub held_in : {R : Type 0} → CallFrame R → Reg → Register R
 held_in frame r = slice_index_or frame.registers.items r.0 Null
 
+-- a frame has this register
+abbrev pub HasRegister : {R : Type 0} → CallFrame R → Reg → Type 0
+HasRegister frame r = r.0 < length frame.registers.items
+
 -- what a register holds at first
 abbrev pub register_default : {R : Type 0} → Kind → Register R
 register_default Int = Number (pos 0)

@@ -3,7 +3,7 @@
 ghost use Rattle.std.specs.Prelude.{◌≡◌, ◌+◌, ◌<◌, ◌^◌, ◌++◌, ◌∷◌, [], map, drop, length, IfOk, OnOk, IfSome, slice_get};
 ghost use Rattle.pst_steps.specs.Calls.{HoldsNothing, held_in, register_default, SameTally, Called, with_register, given_back, Left};
 
-use crate::frame::{held, set};
+use crate::frame::{held, set_at};
 use crate::register::Register;
 use crate::standing::{CallFrame, Standing, Step, Waiting};
 use pst_base::{Kind, NoMemory, ProcNo, TrapKind};
@@ -178,6 +178,6 @@ fn keep<R: Copy>(frame: &mut CallFrame<R>, into: Option<Reg>, v: Option<Register
     ensures same { (frame.new.procedure ≡ frame.old.procedure) × (frame.new.at ≡ frame.old.at) × (frame.new.line ≡ frame.old.line) }
 {
     if let (Some(d), Some(v)) = (into, v) {
-        set(frame, d, v);
+        set_at(&mut frame.registers, d, v);
     }
 }

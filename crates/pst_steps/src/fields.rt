@@ -13,11 +13,11 @@ ghost use Rattle.pst_places.specs.State.{IsFresh, IsNewType, HasRoom};
 ghost use Rattle.pst_places.specs.Store.{MayStorePointer};
 ghost use Rattle.pst_steps.specs.View.{value_of, frame_of, set_to};
 ghost use Rattle.pst_steps.specs.Live.{IsLive, IsPlainRegister};
-ghost use Rattle.pst_steps.specs.Calls.{held_in};
+ghost use Rattle.pst_steps.specs.Calls.{held_in, HasRegister};
 ghost use Rattle.pst_steps.specs.Steps.{MayWriteRoot, MayStore, MayStoreElements, ReadsAs, Stored, StoredElement, slot_in, RefusesElement};
 ghost use Rattle.pst_steps.specs.Fields.{FieldIs, ElementsAre, MayWriteField, FieldWritten, PointerWritten, Made, KeepsOthers};
 
-use crate::frame::{held, index, set};
+use crate::frame::{held, index, read, set};
 use crate::register::Register;
 use crate::standing::{CallFrame, Standing, Step};
 use pst_base::{Kind, Name, NoMemory, SlotNo, TrapKind, TypeNo};
@@ -124,6 +124,7 @@ pub fn root<H: HeapAt>(
     d: Reg,
     slot: SlotNo,
 ) -> Step
+    requires there { HasRegister frame.old d }
     requires has { (H.state heap.now).has at }
     requires kind { kind_in (H.state heap.now).shape ((H.state heap.now).heap at) root_name slot.0 ≡ slice_get procedure.now.kinds d.0 }
     ensures acts { ReadsAs (H.state heap.now) at frame.old (λ parts f c w. set_to d (load_of parts.shape w.heap slot.0 (value.Record root_name)) f c w) result frame.new }
@@ -146,13 +147,14 @@ pub fn load<H: HeapAt>(
     object: Reg,
     slot: SlotNo,
 ) -> Step
+    requires there { HasRegister frame.old d × HasRegister frame.old object }
     requires live { All (IsLive (H.state heap.now) at) frame.old.registers.items }
     requires kind { FieldIs (H.state heap.now) at (slice_get procedure.now.kinds d.0) slot.0 (slice_index_or frame.old.registers.items object.0 Register.Null) }
     ensures acts { ReadsAs (H.state heap.now) at frame.old (λ parts f c w. set_to d (load_of parts.shape w.heap slot.0 (held f.registers object)) f c w) result frame.new }
     ensures live { All (IsLive (H.state heap.now) at) frame.new.registers.items }
     ensures same { frame.new.procedure ≡ frame.old.procedure }
 {
-    match held(frame, object) {
+    match read(frame, object) {
         Register::Reference(r) => {
             let v = field(heap, at, r, slot, kind_at(procedure, d));
             set(frame, d, v)
@@ -173,6 +175,7 @@ pub fn load_element<H: HeapAt>(
     object: Reg,
     element: Element,
 ) -> Step
+    requires there { HasRegister frame.old d }
     requires live { All (IsLive (H.state heap.now) at) frame.old.registers.items }
     requires kind { ElementsAre (H.state heap.now) at (slice_get procedure.now.kinds d.0) element.first.0 element.elements (held_in frame.old object) }
     ensures acts { ReadsAs (H.state heap.now) at frame.old (λ parts. act parts (Some (Loadx d object element.first element.elements element.index))) result frame.new }
@@ -309,6 +312,7 @@ pub fn make<H: HeapAt>(
     d: Reg,
     ty: TypeNo,
 ) -> Result<Step, NoMemory>
+    requires there { HasRegister standing.old.current d }
     requires writable { (H.state heap.old).writable standing.old.place }
     requires known_type { IsNewType (H.state heap.old) ty }
     requires fresh { IsFresh (H.state heap.old) record { run = standing.old.run; ordinal = standing.old.made } }

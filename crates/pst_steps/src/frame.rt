@@ -1,13 +1,13 @@
 //! The registers of a frame.
 
-ghost use Rattle.std.specs.Prelude.{◌≡◌, ◌<◌, IfSome, slice_set, slice_index_or};
+ghost use Rattle.std.specs.Prelude.{◌≡◌, ◌<◌, IfSome, length, slice_set, slice_index_or};
 ghost use Rattle.pst_base.specs.declared.names.Name.{Name};
 ghost use Rattle.pst_program.specs.Value.{number_of, index_of};
 ghost use Rattle.pst_code.specs.declared.procedure.Parts.{Parts};
 ghost use Rattle.pst_code.specs.Machine.{Goes, behind, held};
 ghost use Rattle.pst_steps.specs.View.{value_of, frame_of, ActsAs};
 ghost use Rattle.pst_steps.specs.Live.{IsPlainRegister, KeptFrom};
-ghost use Rattle.pst_steps.specs.Calls.{held_in};
+ghost use Rattle.pst_steps.specs.Calls.{held_in, HasRegister};
 
 use crate::register::{Register, number};
 use crate::standing::{CallFrame, Step};
@@ -33,12 +33,23 @@ fn held_at<R: Copy>(registers: &[Register<R>], r: Reg) -> Register<R>
     }
 }
 
+/// What a register that is there holds.
+#[inline(always)]
+pub fn read<R: Copy>(frame: &CallFrame<R>, r: Reg) -> Register<R>
+    requires { HasRegister frame.now r }
+    ensures is { result ≡ slice_index_or frame.now.registers.items r.0 Register.Null }
+    ensures value { (parts : Parts) (name : R → Name) → value_of name result ≡ held (frame_of parts name frame.now).registers r }
+{
+    frame.registers[usize::from(r.0)]
+}
+
 /// The number that a register holds.
 #[inline(always)]
 pub fn operand<R: Copy>(frame: &CallFrame<R>, r: Reg) -> i64
+    requires { HasRegister frame.now r }
     ensures { (parts : Parts) (name : R → Name) → result ≡ number_of (held (frame_of parts name frame.now).registers r) }
 {
-    number(held(frame, r))
+    number(read(frame, r))
 }
 
 /// Which of so many elements a register holds the index of; None where its number is the index of none.
@@ -65,6 +76,7 @@ fn index_among(elements: u8, n: i64) -> Option<u8>
 /// Sets a register.
 #[inline(always)]
 pub fn set<R: Copy>(frame: &mut CallFrame<R>, d: Reg, v: Register<R>) -> Step
+    requires { HasRegister frame.old d }
     ensures acts { (name : R → Name) → ActsAs name frame.old (λ parts f. Goes (behind f (slice_set f.registers d.0 (value_of name v)))) result frame.new }
     ensures registers { frame.new.registers.items ≡ slice_set frame.old.registers.items d.0 v }
     ensures kept { IsPlainRegister v → KeptFrom frame.old.registers.items frame.new.registers.items }
@@ -73,13 +85,22 @@ pub fn set<R: Copy>(frame: &mut CallFrame<R>, d: Reg, v: Register<R>) -> Step
     ensures line { frame.new.line ≡ frame.old.line }
     ensures goes_on { result ≡ Step.Next }
 {
-    set_at(&mut frame.registers, d, v);
+    put_at(&mut frame.registers, d, v);
     Step::Next
+}
+
+/// Sets a register in a list that has it.
+#[inline(always)]
+fn put_at<R: Copy>(registers: &mut Vec<Register<R>>, d: Reg, v: Register<R>)
+    requires { d.0 < length registers.old.items }
+    ensures { registers.new.items ≡ slice_set registers.old.items d.0 v }
+{
+    registers[usize::from(d.0)] = v;
 }
 
 /// Sets a register in a list, if it is there.
 #[inline(always)]
-fn set_at<R: Copy>(registers: &mut Vec<Register<R>>, d: Reg, v: Register<R>)
+pub fn set_at<R: Copy>(registers: &mut Vec<Register<R>>, d: Reg, v: Register<R>)
     ensures { registers.new.items ≡ slice_set registers.old.items d.0 v }
 {
     let d = usize::from(d.0);

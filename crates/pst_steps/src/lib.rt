@@ -21,7 +21,7 @@ mod standing;
 
 pub use calls::{call, fill, leave, let_go};
 pub use fields::{Element, load, load_element, make, renew, root, set_root, store, store_element};
-pub use frame::{held, operand, set};
+pub use frame::{held, operand, read, set};
 pub use plain::{apply, bound, check, copy, jump, jump_at_most, jump_less, negate, take_charge};
 pub use register::{Register, same};
 pub use standing::{CallFrame, Standing, Step, Waiting};

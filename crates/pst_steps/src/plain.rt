@@ -10,9 +10,10 @@ ghost use Rattle.pst_code.specs.declared.procedure.Parts.{Parts};
 ghost use Rattle.pst_code.specs.Machine.{held, after_effect, put, apply, jump_where};
 ghost use Rattle.pst_steps.specs.View.{frame_of, answer_of, given_of, set_to, ActsAs, IsArithmetic};
 ghost use Rattle.pst_steps.specs.Live.{KeptFrom};
+ghost use Rattle.pst_steps.specs.Calls.{HasRegister};
 ghost use Rattle.pst_steps.specs.Steps.{Charged, index_checked};
 
-use crate::frame::{held, index, operand, set};
+use crate::frame::{index, operand, read, set};
 use crate::register::Register;
 use crate::standing::{CallFrame, Step};
 use pst_base::{Op, TrapKind};
@@ -21,17 +22,19 @@ use pst_code::Reg;
 /// Sets a register to what another one holds.
 #[inline(always)]
 pub fn copy<R: Copy>(frame: &mut CallFrame<R>, d: Reg, s: Reg) -> Step
+    requires { HasRegister frame.old d × HasRegister frame.old s }
     ensures acts { (name : R → Name) → ActsAs name frame.old (λ parts f c w. after_effect (put d (held f.registers s) f.registers w) f c) result frame.new }
     ensures kept { KeptFrom frame.old.registers.items frame.new.registers.items }
     ensures same { frame.new.procedure ≡ frame.old.procedure }
 {
-    let v = held(frame, s);
+    let v = read(frame, s);
     set(frame, d, v)
 }
 
 /// Sets a register to an exact result, or traps.
 #[inline(always)]
 fn put<R: Copy>(frame: &mut CallFrame<R>, d: Reg, answer: Result<i64, TrapKind>) -> Step
+    requires { HasRegister frame.old d }
     ensures acts { (name : R → Name) → ActsAs name frame.old (λ parts. set_to d (answer_of answer)) result frame.new }
     ensures kept { KeptFrom frame.old.registers.items frame.new.registers.items }
     ensures same { frame.new.procedure ≡ frame.old.procedure }
@@ -45,6 +48,7 @@ fn put<R: Copy>(frame: &mut CallFrame<R>, d: Reg, answer: Result<i64, TrapKind>)
 /// Sets a register to the number with the other sign, or traps.
 #[inline(always)]
 pub fn negate<R: Copy>(frame: &mut CallFrame<R>, d: Reg, a: Reg) -> Step
+    requires { HasRegister frame.old d × HasRegister frame.old a }
     ensures acts { (name : R → Name) → ActsAs name frame.old (λ parts f. set_to d (limited (neg_ℤ (number_of (held f.registers a)))) f) result frame.new }
     ensures kept { KeptFrom frame.old.registers.items frame.new.registers.items }
     ensures same { frame.new.procedure ≡ frame.old.procedure }
@@ -56,6 +60,7 @@ pub fn negate<R: Copy>(frame: &mut CallFrame<R>, d: Reg, a: Reg) -> Step
 /// Whether the number in one register is less than that in another.
 #[inline(always)]
 fn is_less<R: Copy>(frame: &CallFrame<R>, a: Reg, b: Reg) -> bool
+    requires { HasRegister frame.now a × HasRegister frame.now b }
     ensures { (parts : Parts) (name : R → Name) → let f = frame_of parts name frame.now in result ≡ int_lt (number_of (held f.registers a)) (number_of (held f.registers b)) }
 {
     operand(frame, a) < operand(frame, b)
@@ -64,6 +69,7 @@ fn is_less<R: Copy>(frame: &CallFrame<R>, a: Reg, b: Reg) -> bool
 /// Whether the number in one register is at most that in another.
 #[inline(always)]
 fn is_at_most<R: Copy>(frame: &CallFrame<R>, a: Reg, b: Reg) -> bool
+    requires { HasRegister frame.now a × HasRegister frame.now b }
     ensures { (parts : Parts) (name : R → Name) → let f = frame_of parts name frame.now in result ≡ int_le (number_of (held f.registers a)) (number_of (held f.registers b)) }
 {
     operand(frame, a) <= operand(frame, b)
@@ -72,7 +78,8 @@ fn is_at_most<R: Copy>(frame: &CallFrame<R>, a: Reg, b: Reg) -> bool
 /// Sets a register to what an operator gives of two others, or traps.
 #[inline(always)]
 pub fn apply<R: Copy>(frame: &mut CallFrame<R>, op: Op, d: Reg, a: Reg, b: Reg) -> Step
-    requires { IsArithmetic op }
+    requires op { IsArithmetic op }
+    requires there { HasRegister frame.old d × HasRegister frame.old a × HasRegister frame.old b }
     ensures acts { (name : R → Name) → ActsAs name frame.old (λ parts f c w. after_effect (apply op d a b f.line f.registers w) f c) result frame.new }
     ensures kept { KeptFrom frame.old.registers.items frame.new.registers.items }
     ensures same { frame.new.procedure ≡ frame.old.procedure }
@@ -85,9 +92,10 @@ pub fn apply<R: Copy>(frame: &mut CallFrame<R>, op: Op, d: Reg, a: Reg, b: Reg) 
 /// Traps where a register holds null.
 #[inline(always)]
 pub fn check<R: Copy>(frame: &CallFrame<R>, o: Reg) -> Step
+    requires { HasRegister frame.now o }
     ensures acts { (name : R → Name) → ActsAs name frame.now (λ parts f c w. after_effect (with_object (held f.registers o) f.line w (λ _. Normal f.registers w)) f c) result frame.now }
 {
-    match held(frame, o) {
+    match read(frame, o) {
         Register::Reference(_) => Step::Next,
         _ => Step::Trap(TrapKind::Null),
     }
@@ -121,6 +129,7 @@ pub fn jump<R: Copy>(frame: &mut CallFrame<R>, holds: bool, to: u32) -> Step
 /// Goes to an index where the number in one register is less than that in another.
 #[inline(always)]
 pub fn jump_less<R: Copy>(frame: &mut CallFrame<R>, a: Reg, b: Reg, to: u32) -> Step
+    requires { HasRegister frame.old a × HasRegister frame.old b }
     ensures acts { (name : R → Name) → ActsAs name frame.old (λ parts f. jump_where (int_lt (number_of (held f.registers a)) (number_of (held f.registers b))) to f) result frame.new }
     ensures registers { frame.new.registers ≡ frame.old.registers }
     ensures same { frame.new.procedure ≡ frame.old.procedure }
@@ -132,6 +141,7 @@ pub fn jump_less<R: Copy>(frame: &mut CallFrame<R>, a: Reg, b: Reg, to: u32) -> 
 /// Goes to an index where the number in one register is at most that in another.
 #[inline(always)]
 pub fn jump_at_most<R: Copy>(frame: &mut CallFrame<R>, a: Reg, b: Reg, to: u32) -> Step
+    requires { HasRegister frame.old a × HasRegister frame.old b }
     ensures acts { (name : R → Name) → ActsAs name frame.old (λ parts f. jump_where (int_le (number_of (held f.registers a)) (number_of (held f.registers b))) to f) result frame.new }
     ensures registers { frame.new.registers ≡ frame.old.registers }
     ensures same { frame.new.procedure ≡ frame.old.procedure }

@@ -8,4 +8,4 @@ use Rattle.pst_steps.proofs.frame.operand.Goals as goal
 pub returns : goal.returns
 returns g c = λ parts name.
     let fits : SFits w64 c.number.result = search rules in
-    to_z-of_z w64 c.number.result fits ∙ c.number.ensures name ∙ ap number_of (c.held.ensures.value parts name)
+    to_z-of_z w64 c.number.result fits ∙ c.number.ensures name ∙ ap number_of (c.read.ensures.value parts name)

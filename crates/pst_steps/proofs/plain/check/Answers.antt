@@ -12,8 +12,8 @@ returns-in_default g c = record {
   acts = λ name parts cs w.
       let f = frame_of parts name c.args.frame.now in
       let go = λ (n : Name). Normal f.registers w in
-      ap (λ (v : Value). after_effect (with_object v f.line w go) f cs) (sym (c.held.ensures.value parts name))
-      ∙ ap (λ (o : Ending). after_effect o f cs) (object_null name c.held.result f.line w go c.in_default.not-Reference);
+      ap (λ (v : Value). after_effect (with_object v f.line w go) f cs) (sym (c.read.ensures.value parts name))
+      ∙ ap (λ (o : Ending). after_effect o f cs) (object_null name c.read.result f.line w go c.in_default.not-Reference);
 }
 
 pub returns-in-Reference : goal.returns-in-Reference
@@ -21,6 +21,6 @@ returns-in-Reference g c = record {
   acts = λ name parts cs w.
       let f = frame_of parts name c.args.frame.now in
       let go = λ (n : Name). Normal f.registers w in
-      ap (λ (v : Value). after_effect (with_object v f.line w go) f cs) (sym (c.held.ensures.value parts name))
-      ∙ ap (λ (o : Ending). after_effect o f cs) (object_there name c.held.result _ f.line w go c.in-Reference.is);
+      ap (λ (v : Value). after_effect (with_object v f.line w go) f cs) (sym (c.read.ensures.value parts name))
+      ∙ ap (λ (o : Ending). after_effect o f cs) (object_there name c.read.result _ f.line w go c.in-Reference.is);
 }
