@@ -17,7 +17,7 @@ ghost use Rattle.pst_steps.specs.Calls.{held_in, HasRegister};
 ghost use Rattle.pst_steps.specs.Steps.{MayWriteRoot, MayStore, MayStoreElements, ReadsAs, Stored, StoredElement, slot_in, RefusesElement};
 ghost use Rattle.pst_steps.specs.Fields.{FieldIs, ElementsAre, MayWriteField, FieldWritten, PointerWritten, Made, KeepsOthers};
 
-use crate::frame::{held, index, read, set};
+use crate::frame::{index, read, set};
 use crate::register::Register;
 use crate::standing::{CallFrame, Standing, Step};
 use pst_base::{Kind, Name, NoMemory, SlotNo, TrapKind, TypeNo};
@@ -59,7 +59,8 @@ fn kind_at(procedure: &Procedure, r: Reg) -> Option<Kind>
 /// The slot of an element, or None where the index is that of none.
 #[inline(always)]
 fn slot_of<R: Copy>(frame: &CallFrame<R>, element: Element) -> Option<SlotNo>
-    requires { element.first.0 + element.elements ≤ 2 ^ 16 }
+    requires there { HasRegister frame.now element.index }
+    requires numbered { element.first.0 + element.elements ≤ 2 ^ 16 }
     ensures { (name : R → Name) → option_map (λ s. s.0) result ≡ slot_in name frame.now element }
 {
     let k = index(frame, element.index, element.elements)?;
@@ -175,14 +176,14 @@ pub fn load_element<H: HeapAt>(
     object: Reg,
     element: Element,
 ) -> Step
-    requires there { HasRegister frame.old d }
+    requires there { HasRegister frame.old d × HasRegister frame.old object × HasRegister frame.old element.index }
     requires live { All (IsLive (H.state heap.now) at) frame.old.registers.items }
     requires kind { ElementsAre (H.state heap.now) at (slice_get procedure.now.kinds d.0) element.first.0 element.elements (held_in frame.old object) }
     ensures acts { ReadsAs (H.state heap.now) at frame.old (λ parts. act parts (Some (Loadx d object element.first element.elements element.index))) result frame.new }
     ensures live { All (IsLive (H.state heap.now) at) frame.new.registers.items }
     ensures same { frame.new.procedure ≡ frame.old.procedure }
 {
-    let Register::Reference(r) = held(frame, object) else {
+    let Register::Reference(r) = read(frame, object) else {
         return Step::Trap(TrapKind::Null);
     };
     match slot_of(frame, element) {
@@ -226,12 +227,13 @@ pub fn set_root<H: HeapAt>(
     slot: SlotNo,
     s: Reg,
 ) -> Result<Option<TrapKind>, NoMemory>
-    requires { MayWriteRoot (H.state heap.old) at slot.0 (held_in frame.now s) }
+    requires there { HasRegister frame.now s }
+    requires may { MayWriteRoot (H.state heap.old) at slot.0 (held_in frame.now s) }
     ensures ok { IfOk result (λ trap. FieldWritten (H.state heap.old) at root_name slot.0 (held_in frame.now s) trap (H.state heap.new)) }
     ensures err { OnErr result (KeepsOthers at (H.state heap.old) (H.state heap.new)) }
 {
     let r = heap.root(at);
-    let v = held(frame, s);
+    let v = read(frame, s);
     write(heap, at, r, slot, v)
 }
 
@@ -245,14 +247,15 @@ pub fn store<H: HeapAt>(
     slot: SlotNo,
     s: Reg,
 ) -> Result<Option<TrapKind>, NoMemory>
-    requires { MayStore (H.state heap.old) at (held_in frame.now object) slot.0 (held_in frame.now s) }
+    requires there { HasRegister frame.now object × HasRegister frame.now s }
+    requires may { MayStore (H.state heap.old) at (held_in frame.now object) slot.0 (held_in frame.now s) }
     ensures ok { IfOk result (λ trap. Stored (H.state heap.old) at (held_in frame.now object) slot.0 (held_in frame.now s) trap (H.state heap.new)) }
     ensures null { IsPlainRegister (held_in frame.now object) → heap.new ≡ heap.old }
     ensures err { OnErr result (KeepsOthers at (H.state heap.old) (H.state heap.new)) }
 {
-    match held(frame, object) {
+    match read(frame, object) {
         Register::Reference(r) => {
-            let v = held(frame, s);
+            let v = read(frame, s);
             write(heap, at, r, slot, v)
         }
         _ => Ok(Some(TrapKind::Null)),
@@ -269,18 +272,19 @@ pub fn store_element<H: HeapAt>(
     element: Element,
     s: Reg,
 ) -> Result<Option<TrapKind>, NoMemory>
-    requires { MayStoreElements (H.state heap.old) at (held_in frame.now object) element.first.0 element.elements (held_in frame.now s) }
+    requires there { HasRegister frame.now object × HasRegister frame.now element.index × HasRegister frame.now s }
+    requires may { MayStoreElements (H.state heap.old) at (held_in frame.now object) element.first.0 element.elements (held_in frame.now s) }
     ensures ok { IfOk result (λ trap. StoredElement (H.state heap.old) at frame.now object element (held_in frame.now s) trap (H.state heap.new)) }
     ensures refused { RefusesElement (held_in frame.now object) (slot_in (H.state heap.old).name frame.now element) → heap.new ≡ heap.old }
     ensures err { OnErr result (KeepsOthers at (H.state heap.old) (H.state heap.new)) }
 {
-    let Register::Reference(r) = held(frame, object) else {
+    let Register::Reference(r) = read(frame, object) else {
         return Ok(Some(TrapKind::Null));
     };
     match slot_of(frame, element) {
         None => Ok(Some(TrapKind::Index)),
         Some(slot) => {
-            let v = held(frame, s);
+            let v = read(frame, s);
             write(heap, at, r, slot, v)
         }
     }

@@ -55,10 +55,11 @@ pub fn operand<R: Copy>(frame: &CallFrame<R>, r: Reg) -> i64
 /// Which of so many elements a register holds the index of; None where its number is the index of none.
 #[inline(always)]
 pub fn index<R: Copy>(frame: &CallFrame<R>, r: Reg, elements: u8) -> Option<u8>
+    requires { HasRegister frame.now r }
     ensures is { (name : R → Name) → result ≡ index_of elements (number_of (value_of name (held_in frame.now r))) }
     ensures below { IfSome result (λ k. k < elements) }
 {
-    index_among(elements, number(held(frame, r)))
+    index_among(elements, number(read(frame, r)))
 }
 
 /// Which of so many elements a number is the index of.

@@ -104,6 +104,7 @@ pub fn check<R: Copy>(frame: &CallFrame<R>, o: Reg) -> Step
 /// Traps where a register holds the index of none of so many elements.
 #[inline(always)]
 pub fn bound<R: Copy>(frame: &CallFrame<R>, i: Reg, elements: u8) -> Step
+    requires { HasRegister frame.now i }
     ensures acts { (name : R → Name) → ActsAs name frame.now (λ parts. index_checked i elements) result frame.now }
 {
     match index(frame, i, elements) {

@@ -20,6 +20,6 @@ write-requires g c =
     let e : ElementSlot first c.args.element.elements c.in-Some.slot.0 = element_slot first c.args.element.elements (number_of (value_of s.name (held_in frame c.args.element.index))) c.in-Some.slot.0
     (sym (ap (option_map (λ (n : SlotNo). n.0)) c.in-Some.is) ∙ c.slot_of.ensures s.name) in
     let may : MayStore s c.args.at (Reference c.in-Reference.r) (first + e.index) x =
-    subst (λ (v : Register g.row.H-Ref.Denot). MayStore s c.args.at v (first + e.index) x) (sym c.held.ensures.is ∙ c.in-Reference.is) (c.requires.each e.index e.below) in
-    subst (λ (v : Register g.row.H-Ref.Denot). MayWriteField s c.args.at c.in-Reference.r c.in-Some.slot.0 v) (sym c.held-v.ensures.is)
+    subst (λ (v : Register g.row.H-Ref.Denot). MayStore s c.args.at v (first + e.index) x) (sym c.read.ensures.is ∙ c.in-Reference.is) (c.requires.may.each e.index e.below) in
+    subst (λ (v : Register g.row.H-Ref.Denot). MayWriteField s c.args.at c.in-Reference.r c.in-Some.slot.0 v) (sym c.read-v.ensures.is)
     (subst (λ (n : ℕ). MayWriteField s c.args.at c.in-Reference.r n x) (sym e.is) may)
