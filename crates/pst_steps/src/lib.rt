@@ -3,10 +3,10 @@
 //! Model: a frame as the machine's definition has it, by what its registers hold, where pointers are names (`frame_of`); where a
 //! run stands, as its place, charges, frames and printed numbers (`Standing`).
 //!
-//! Contract: an instruction leaves the frame that one step of the definition leaves, and answers whether the run goes on, waits,
-//! ends or traps; one that reads changes no heap, and one that writes changes that of its own place alone. Calls keep the frame
-//! that waits, and returns go back to it. A reference that is brought up to date (`renew`) stands for the same record. Where a run goes is said above: here nothing is repeated, and no code is looked up but
-//! the procedure that is called.
+//! Contract: an instruction, whose registers the frame has, leaves the frame that one step of the definition leaves, and answers
+//! whether the run goes on, waits, ends or traps; one that reads changes no heap, and one that writes changes that of its own place
+//! alone. Calls keep the frame that waits, and returns go back to it. A reference that is brought up to date (`renew`) stands for the
+//! same record. Where a run goes is said above: here nothing is repeated, and no code is looked up but the procedure that is called.
 //!
 //!     let step = apply(&mut frame, Op::Add, sum, left, right);
 //!     let step = load(&heap, at, &mut frame, procedure, d, object, slot);
