@@ -105,7 +105,7 @@ impl Session {
             procedure,
             arguments,
         };
-        Ok(run.add(&self.code, &call)?)
+        Ok(run.add(&self.code, call)?)
     }
 
     /// Grants a run more charges.
