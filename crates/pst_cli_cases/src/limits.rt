@@ -1,7 +1,8 @@
 //! Inputs of the greatest size, one byte more, and all run numbers. They stand here and not in a file, since a program is run
 //! as two compilers build it, and one of them makes it too slow for these.
 
-use pst_trials::{Score, run_file};
+use crate::file::run_file;
+use crate::run::Score;
 use std::test::Fail;
 
 /// Inputs of 67,108,864 bytes, and of one byte more.

@@ -4,10 +4,14 @@
 //! `data/programs` tells how the files are written.
 #![tactic(auto)]
 
+mod file;
 #[cfg(test)]
 mod limits;
+mod run;
+mod turns;
 
-use pst_trials::{Score, run_file};
+use crate::file::run_file;
+use crate::run::Score;
 use std::rt::Files;
 use std::{fs, io};
 

@@ -1,1 +1,4 @@
 pub mod Behind
+pub mod Openings
+pub mod Resumes
+pub mod Days

@@ -1,2 +1,4 @@
 pub mod Repacking
 pub mod Left
+pub mod Laws
+pub mod Days

@@ -37,9 +37,9 @@ use Rattle.pst_packing.specs.Packing.{IsImage}
 use Rattle.pst_packing.proofs.Starts.{script-start, lines-start}
 use Rattle.pst_resuming.specs.Opening.{opening_in}
 use Rattle.pst_repacking.specs.Repacking.{left_behind}
-use Rattle.pst_resumed.specs.Days.{KeepsHistory, PackedKeepsLaw, RepackedKeepsLaw, NeverRefusedAgainLaw}
-use Rattle.pst_resumed.proofs.Openings.{is_taken_up, length-heaps}
-use Rattle.pst_resumed.proofs.Behind.{meaning, valid, accepted_always}
+use Rattle.pst_repacking.specs.Days.{KeepsHistory, PackedKeepsLaw, RepackedKeepsLaw, NeverRefusedAgainLaw}
+use Rattle.pst_repacking.proofs.Openings.{is_taken_up, length-heaps}
+use Rattle.pst_repacking.proofs.Resumes.{meaning, valid, accepted_always}
 
 -- ---- an image that is packed
 

@@ -1,7 +1,7 @@
 //! The laws. Each is the contract of a function that does nothing.
 
-ghost use Rattle.pst_resumed.specs.Laws.{NeverRefusedLaw, PackedIsAcceptedLaw, ResumedLaw};
-ghost use Rattle.pst_resumed.specs.Days.{NeverRefusedAgainLaw, PackedKeepsLaw, RepackedKeepsLaw};
+ghost use Rattle.pst_repacking.specs.Laws.{NeverRefusedLaw, PackedIsAcceptedLaw, ResumedLaw};
+ghost use Rattle.pst_repacking.specs.Days.{NeverRefusedAgainLaw, PackedKeepsLaw, RepackedKeepsLaw};
 
 /// An image that was written is accepted, and never refused; and a script behind it has the replies that it has behind the script that
 /// was packed, with its open runs dropped and its program read again.

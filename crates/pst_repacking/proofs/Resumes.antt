@@ -41,8 +41,8 @@ use Rattle.pst_unpacked.proofs.Deciding.{one_program, never_both}
 use Rattle.pst_packing.specs.Packing.{IsImage, PacksWhole}
 use Rattle.pst_packing.proofs.Starts.{script-start}
 use Rattle.pst_resuming.specs.Opening.{opening_in}
-use Rattle.pst_resumed.specs.Laws.{IsPacked, HasShortText, Programs, PackedIsAcceptedLaw, ResumedLaw, NeverRefusedLaw}
-use Rattle.pst_resumed.proofs.Openings.{is_taken_up}
+use Rattle.pst_repacking.specs.Laws.{IsPacked, HasShortText, Programs, PackedIsAcceptedLaw, ResumedLaw, NeverRefusedLaw}
+use Rattle.pst_repacking.proofs.Openings.{is_taken_up}
 
 -- ---- what was packed
 

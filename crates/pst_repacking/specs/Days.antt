@@ -19,7 +19,7 @@ use Rattle.pst_unpacked.specs.Unpacked.{IsAccepted}
 use Rattle.pst_resuming.specs.Opening.{opening_in}
 use Rattle.pst_resuming.specs.Resuming.{resumed_in}
 use Rattle.pst_repacking.specs.Repacking.{RepackRow}
-use Rattle.pst_resumed.specs.Laws.{IsPacked, HasShortText, Programs}
+use Rattle.pst_repacking.specs.Laws.{IsPacked, HasShortText, Programs}
 
 -- what comes of an input that is an image with a script behind it, to be carried out and packed again, by the status
 abbrev pub ComesOfRepacking : Status → (input out : List ℕ) → Type 0
