@@ -2,8 +2,7 @@
 ghost use Rattle.std.specs.Prelude.{◌≡◌, ◌+◌, ◌*◌, ◌^◌, ◌<◌, ◌≤◌, ◌++◌, OnOk};
 ghost use Rattle.pst_bench.specs.Script.{key, path_line, branch_line, count_line, key_line};
 
-use itoa::{Buffer, Integer};
-use pst_base::NoMemory;
+use pst_base::{NoMemory, put_number_between};
 
 /// The keys are below this number.
 const KEYS: u64 = 1_000;
@@ -18,31 +17,16 @@ fn key(number: u64, index: u32) -> u64
     (number % KEYS + u64::from(index)) % KEYS
 }
 
-/// Puts a number between two pieces of text.
-fn push_number<N: Integer>(
-    text: &mut Vec<u8>,
-    before: &[u8],
-    number: N,
-    behind: &[u8],
-) -> Result<(), NoMemory>
-    ensures { OnOk result (text.new.items ≡ text.old.items ++ (before.now ++ N.text number ++ behind.now)) }
-{
-    let mut digits = Buffer::new();
-    text.extend_from_slice(before)?;
-    text.extend_from_slice(digits.format(number).as_bytes())?;
-    text.extend_from_slice(behind)
-}
-
 /// Puts the line that makes a version of the path.
 pub(crate) fn push_path_line(text: &mut Vec<u8>, number: u64, version: u32) -> Result<(), NoMemory>
     requires { 1 ≤ version }
     ensures { OnOk result (text.new.items ≡ text.old.items ++ path_line number version) }
 {
-    push_number(text, b"run ", version - 1, b"")?;
+    put_number_between(text, b"run ", version - 1, b"")?;
     if version % 4 == 0 {
         text.extend_from_slice(b" move\n")
     } else {
-        push_number(text, b" insert ", key(number, version), b"\n")
+        put_number_between(text, b" insert ", key(number, version), b"\n")
     }
 }
 
@@ -51,8 +35,8 @@ pub(crate) fn push_branch_line(text: &mut Vec<u8>, number: u64, branch: u32) -> 
     requires { 100 * branch < 2 ^ 32 }
     ensures { OnOk result (text.new.items ≡ text.old.items ++ branch_line number branch) }
 {
-    push_number(text, b"run ", SPACING * branch, b"")?;
-    push_number(text, b" set ", key(number, branch), b"\n")
+    put_number_between(text, b"run ", SPACING * branch, b"")?;
+    put_number_between(text, b" set ", key(number, branch), b"\n")
 }
 
 /// Puts the query that counts the records where a branch begins.
@@ -60,7 +44,7 @@ pub(crate) fn push_count_line(text: &mut Vec<u8>, branch: u32) -> Result<(), NoM
     requires { 100 * branch < 2 ^ 32 }
     ensures { OnOk result (text.new.items ≡ text.old.items ++ count_line branch) }
 {
-    push_number(text, b"query ", SPACING * branch, b" count\n")
+    put_number_between(text, b"query ", SPACING * branch, b" count\n")
 }
 
 /// Puts the query for the first key of a branch, behind a path of so many versions.
@@ -68,5 +52,5 @@ pub(crate) fn push_key_line(text: &mut Vec<u8>, size: u32, branch: u32) -> Resul
     requires { size + branch < 2 ^ 32 }
     ensures { OnOk result (text.new.items ≡ text.old.items ++ key_line size branch) }
 {
-    push_number(text, b"query ", size + branch, b" key\n")
+    put_number_between(text, b"query ", size + branch, b" key\n")
 }

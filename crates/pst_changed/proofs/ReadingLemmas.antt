@@ -1,5 +1,5 @@
 -- The reading of a path, field by field.
-use Rattle.std.proofs.Common.{◌≡◌, ◌==◌, false, List, [], ◌∷◌, length, Option, Some, None, refl, ap, sym, ◌∙◌, subst}
+use Rattle.std.proofs.Common.{◌≡◌, ◌==◌, false, List, [], ◌∷◌, length, Option, Some, refl, ap, sym, ◌∙◌, subst}
 use Rattle.std.specs.Prelude.{option_and_then}
 use Rattle.std.specs.Option.{option_map}
 use Rattle.pst_base.specs.declared.names.Kind.{Kind}
@@ -8,9 +8,8 @@ use Rattle.pst_base.specs.declared.names.TypeNo.{TypeNo}
 use Rattle.pst_base.specs.declared.shape.TypeShape.{TypeShape}
 use Rattle.pst_base.specs.Name.{root_name}
 use Rattle.pst_base.specs.Shape.{root_type}
-use Rattle.pst_base.specs.Heap.{IsPointer, kind_in, kind_from, pointer_in, type_in}
+use Rattle.pst_base.specs.Heap.{kind_in, kind_from, pointer_in, type_in}
 use Rattle.pst_program.proofs.Fields.{held_type}
-use Rattle.pst_program.specs.Value.{content}
 use Rattle.pst_places.specs.State.{State, IsSound, IsRef}
 use Rattle.pst_changed.specs.declared.slots.PathStep.{PathStep}
 use Rattle.pst_changed.specs.Path.{FieldsLead, IsPathIn}
@@ -44,28 +43,13 @@ module _ {P R : Type 0} (s : State P R) (at : P) (path : List PathStep) (r : R) 
     same = ap (reading_from (s.heap at) path) is;
   }
 
-  -- where no field is left
-  pub reads_nothing : Reads s at path r [] → reading (s.heap at) path ≡ None
-  reads_nothing d = sym d.same
-
   module _ (step : PathStep) where
     pub reads_kind : (rest : List PathStep) → Reads s at path r (step ∷ rest) → kind_in s.shape (s.heap at) (s.name r) step.slot.0 ≡ Some step.kind
     reads_kind rest d = ap (kind_from s.shape step.slot.0) d.ref.typed ∙ d.leads.0
 
-    -- the last field
-    pub reads_last : Reads s at path r (step ∷ []) → reading (s.heap at) path ≡ Some (content (Some step.kind) (s.heap at) (s.name r) step.slot.0)
-    reads_last d = sym d.same
-
     module _ (next : PathStep) (rest : List PathStep) (d : Reads s at path r (step ∷ next ∷ rest)) where
       on : LeadsOn s.shape step.kind (next ∷ rest)
       on = leads_on s.shape step.kind next rest d.leads.1
-
-      -- a field that is not the last holds a pointer
-      pub reads_pointer : IsPointer (kind_in s.shape (s.heap at) (s.name r) step.slot.0)
-      reads_pointer = subst IsPointer (sym (reads_kind (next ∷ rest) d ∙ ap Some on.is)) tt
-
-      pub reads_null : pointer_in (s.heap at) (s.name r) step.slot.0 ≡ None → reading (s.heap at) path ≡ None
-      reads_null null = sym d.same ∙ ap (option_and_then (reading_from (s.heap at) (next ∷ rest))) null
 
       pub reads_on : (q : R) → IsSound s → s.has at → s.live at q → pointer_in (s.heap at) (s.name r) step.slot.0 ≡ Some (s.name q) → Reads s at path q (next ∷ rest)
       reads_on q sound has live held = record {

@@ -2,15 +2,15 @@
 use Rattle.std.proofs.Common.{refl, Option}
 use Rattle.pst_base.specs.declared.names.NodeId.{NodeId}
 use Rattle.pst_places.specs.State.{State}
-use Rattle.pst_meaning.specs.Store.{Stored}
+use Rattle.pst_store_meaning.specs.Store.{Stored}
 use Rattle.pst_line.specs.declared.place.LinePlace.{LinePlace}
 use Rattle.pst_line.specs.Store.{Stored as LineStored}
-use Rattle.pst_jobs.specs.declared.job.Job.{Job}
-use Rattle.pst_jobs.specs.declared.job.Job.TheVariants.{Run, Replay, Line, Check, Code}
-use Rattle.pst_answers.specs.Kept.{Kept, still, together}
-use Rattle.pst_serving.specs.Held.{kept_in}
+use Rattle.pst_cli_words.specs.declared.job.Job.{Job}
+use Rattle.pst_cli_words.specs.declared.job.Job.TheVariants.{Run, Replay, Line, Check, Code}
+use Rattle.pst_cli_scripts.specs.Kept.{Kept, still, together}
+use Rattle.pst_cli_serving.specs.Held.{kept_in}
 use Rattle.pst_cli.specs.Held.{lined_in}
-use Rattle.pst_serving.proofs.Serving.{Implies}
+use Rattle.pst_cli_serving.proofs.Serving.{Implies}
 
 -- nothing was done with either
 pub untouched : {T : Type 0} (state : T → State LinePlace NodeId) (stored : T → LineStored) (store : Option Stored) (line : T) (job : Job)

@@ -1,11 +1,11 @@
 -- What each word works over, and how a call of it may end.
 use Rattle.std.specs.Prelude.{◌≡◌, Bool, true, false, Option, Some, None}
-use Rattle.pst_jobs.specs.declared.job.Job.TheVariants.{Run, Replay, Line, Check, Code}
-use Rattle.pst_jobs.specs.declared.job.Task.{Task}
-use Rattle.pst_jobs.specs.declared.job.Task.TheVariants.{Input, Bench, Ask, Pack, Resume, Repack}
-use Rattle.pst_jobs.specs.declared.status.Status.{Status}
-use Rattle.pst_jobs.specs.declared.status.Status.TheVariants.{Done, ReadFault, WriteFault, Usage, Refused, TooLong, Memory}
-use Rattle.pst_serving.specs.Rows.{IsComplete}
+use Rattle.pst_cli_words.specs.declared.job.Job.TheVariants.{Run, Replay, Line, Check, Code}
+use Rattle.pst_cli_words.specs.declared.job.Task.{Task}
+use Rattle.pst_cli_words.specs.declared.job.Task.TheVariants.{Input, Bench, Ask, Pack, Resume, Repack}
+use Rattle.pst_cli_words.specs.declared.status.Status.{Status}
+use Rattle.pst_cli_words.specs.declared.status.Status.TheVariants.{Done, ReadFault, WriteFault, Usage, Refused, TooLong, Memory}
+use Rattle.pst_cli_serving.specs.Rows.{IsComplete}
 
 -- whether what the words ask for works over the store: `run`, the bench, the questions, `pack`, `resume` and `repack` do
 abbrev pub works_over_store : Option Task → Bool

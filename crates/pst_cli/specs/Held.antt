@@ -2,15 +2,15 @@
 use Rattle.std.specs.Prelude.{◌≡◌, Option}
 use Rattle.pst_base.specs.declared.names.NodeId.{NodeId}
 use Rattle.pst_places.specs.State.{State}
-use Rattle.pst_meaning.specs.Store.{Stored as FatStored}
+use Rattle.pst_store_meaning.specs.Store.{Stored as FatStored}
 use Rattle.pst_line.specs.declared.place.LinePlace.{LinePlace}
 use Rattle.pst_line.specs.Store.{Stored}
-use Rattle.pst_jobs.specs.declared.job.Job.{Job}
-use Rattle.pst_jobs.specs.declared.job.Job.TheVariants.{Run, Replay, Line, Check, Code}
-use Rattle.pst_answers.specs.Kept.{Kept, kept_by, still, together}
-use Rattle.pst_sessions.specs.Lining.{IsLineLeft, IsLineBroken}
-use Rattle.pst_serving.specs.Output.{rules_of}
-use Rattle.pst_serving.specs.Held.{kept_in}
+use Rattle.pst_cli_words.specs.declared.job.Job.{Job}
+use Rattle.pst_cli_words.specs.declared.job.Job.TheVariants.{Run, Replay, Line, Check, Code}
+use Rattle.pst_cli_scripts.specs.Kept.{Kept, kept_by, still, together}
+use Rattle.pst_cli_sessions.specs.Lining.{IsLineLeft, IsLineBroken}
+use Rattle.pst_cli_serving.specs.Output.{rules_of}
+use Rattle.pst_cli_serving.specs.Held.{kept_in}
 
 -- `line` leaves the line store in a history; every other job leaves it as it was handed in
 abbrev pub lined_in : {T : Type 0} → (state : T → State LinePlace NodeId) → (stored : T → Stored) → (old new : T) → Job → Kept

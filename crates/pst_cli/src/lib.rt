@@ -16,7 +16,7 @@
 
 mod top;
 
-pub use pst_jobs::{Job, Question, Status, Task, number};
-pub use pst_judge::{Fault, FaultKind, text_has_one_verdict};
-pub use pst_serving::input_has_one_output;
+pub use pst_cli_serving::input_has_one_output;
+pub use pst_cli_words::{Job, Question, Status, Task, number};
+pub use pst_front::{Fault, FaultKind, text_has_one_verdict};
 pub use top::persist;

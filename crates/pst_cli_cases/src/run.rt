@@ -2,8 +2,8 @@
 
 use crate::turns::{fail_each, run_cuts};
 use pst_base::Counts;
-use pst_case_files::{Case, UNTOUCHED};
 use pst_cli::{Status, number, persist};
+use pst_cli_case_files::{Case, UNTOUCHED};
 use pst_io::{MemSink, MemSource};
 use pst_line::calls::LineCalls;
 use pst_line::line_store::LineStore;

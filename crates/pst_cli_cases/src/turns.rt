@@ -2,7 +2,7 @@
 //! number of the first bytes of its input.
 
 use crate::run::{Devices, Score, Trial, Wanted, run_once, sizes};
-use pst_case_files::{Case, Cut, Step, UNTOUCHED};
+use pst_cli_case_files::{Case, Cut, Step, UNTOUCHED};
 use std::alloc::{AllocError, Global};
 use std::io;
 

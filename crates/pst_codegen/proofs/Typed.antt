@@ -15,14 +15,14 @@ use Rattle.pst_program.specs.Typed as typed
 use Rattle.pst_program.specs.Typed.{Sort, Of, Truth, root_kind, sort_of, depth, deepest, action_depth, block_depth, IsTyped, IsTypedProcedure, IsTypedAction, IsTypedBlock}
 use Rattle.pst_program.proofs.Soundness.{given_some}
 use Rattle.pst_program.specs.Meaning.{is_target}
-use Rattle.pst_compiled.specs.declared.need.Need.{Need}
-use Rattle.pst_compiled.specs.Needs.{need, expr_needs, test_needs, arguments_needs, return_needs, action_needs, block_needs, end_needs, table_of}
-use Rattle.pst_compiled.proofs.Valid.{few_registers}
-use Rattle.pst_compiled.proofs.ValidLists.{all_front, all_back}
-use Rattle.pst_compiled.proofs.ValidSorts.{of_truth, FieldOf, field_is, ArrayOf, array_is, load_kind, element_kind, negated, no_not, denied, Operands, number_operands, and_operands, or_operands, is_logical, Compared, compared_operands}
-use Rattle.pst_compiled.proofs.ValidActions.{Put, put}
-use Rattle.pst_compiled.proofs.ValidTables.{noted_covers}
-use Rattle.pst_registers.specs.Ready.{Has, HasAll, HasNoted, HasEnd, IsOperand, IsTest, AreArguments, IsResult, IsReady, AreReady, IsReadyProcedure}
+use Rattle.pst_translation.specs.declared.need.Need.{Need}
+use Rattle.pst_translation.specs.Needs.{need, expr_needs, test_needs, arguments_needs, return_needs, action_needs, block_needs, end_needs, table_of}
+use Rattle.pst_translation.proofs.Valid.{few_registers}
+use Rattle.pst_translation.proofs.ValidLists.{all_front, all_back}
+use Rattle.pst_translation.proofs.ValidSorts.{of_truth, FieldOf, field_is, ArrayOf, array_is, load_kind, element_kind, negated, no_not, denied, Operands, number_operands, and_operands, or_operands, is_logical, Compared, compared_operands}
+use Rattle.pst_translation.proofs.ValidActions.{Put, put}
+use Rattle.pst_translation.proofs.ValidTables.{noted_covers}
+use Rattle.pst_codegen_registers.specs.Ready.{Has, HasAll, HasNoted, HasEnd, IsOperand, IsTest, AreArguments, IsResult, IsReady, AreReady, IsReadyProcedure}
 
 -- ---- expressions
 

@@ -4,18 +4,18 @@
 ghost use Rattle.std.specs.Prelude.{◌≡◌, ◌+◌, ◌++◌, length, IfOk, OnOk};
 ghost use Rattle.pst_program.specs.Syntax.{If, Either, While};
 ghost use Rattle.pst_program.specs.View.{expr_of, action_of, actions_of};
-ghost use Rattle.pst_compiled.specs.Code.{block_code};
-ghost use Rattle.pst_compiled.specs.Needs.{temp_of};
-ghost use Rattle.pst_registers.specs.Ready.{HasNoted, IsTest, IsReady, AreReady};
-ghost use Rattle.pst_actions.specs.Made.{code_by};
+ghost use Rattle.pst_translation.specs.Code.{block_code};
+ghost use Rattle.pst_translation.specs.Needs.{temp_of};
+ghost use Rattle.pst_codegen_registers.specs.Ready.{HasNoted, IsTest, IsReady, AreReady};
+ghost use Rattle.pst_codegen_statements.specs.Made.{code_by};
 
-use pst_actions::{
+use pst_base::NoMemory;
+use pst_code::{Instr, Reg};
+use pst_codegen_expressions::{Layout, after, put, test_len};
+use pst_codegen_statements::{
     emit_call, emit_choice, emit_guarded, emit_print, emit_return, emit_set, emit_set_root,
     emit_store, emit_store_element,
 };
-use pst_base::NoMemory;
-use pst_code::{Instr, Reg};
-use pst_conditions::{Layout, after, put, test_len};
 use pst_program::{Typed, TypedBlock, TypedForm, TypedStatement};
 use std::alloc::Global;
 

@@ -8,19 +8,10 @@ ghost use Rattle.pst_dump.specs.Walk.{names_of, IsRecordWith, record_of, values_
 
 use crate::numbering::Numbering;
 use crate::walk::records;
-use itoa::{Buffer, Integer};
-use pst_base::{NoMemory, SlotNo, Text, TypeShape};
+use pst_base::{NoMemory, SlotNo, Text, TypeShape, put_number};
 use pst_places::HeapAt;
 use pst_program::Program;
 use std::alloc::Global;
-
-/// Puts a number.
-fn put_number<N: Integer>(out: &mut Vec<u8>, number: N) -> Result<(), NoMemory>
-    ensures { OnOk result (out.new.items ≡ out.old.items ++ N.text number) }
-{
-    let mut digits = Buffer::new();
-    out.extend_from_slice(digits.format(number).as_bytes())
-}
 
 /// Puts a number that a record holds.
 fn put_value(out: &mut Vec<u8>, value: i64) -> Result<(), NoMemory>

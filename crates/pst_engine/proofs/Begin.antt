@@ -24,10 +24,10 @@ use Rattle.pst_history.proofs.Sound.{older-more}
 use Rattle.pst_history.proofs.After.{may_open-sound, run_at-new}
 use Rattle.pst_history.specs.Accepted.{MayOpen}
 use Rattle.pst_machine.specs.declared.activation.Activation.{Activation}
-use Rattle.pst_active.specs.declared.entry.OpenEntry.{OpenEntry}
-use Rattle.pst_runs.specs.Runs.{Runs, SurvivesOthers}
-use Rattle.pst_active.specs.Stands.{HasVersion, IsForkOf, HoldsForks, IsEntry, StandsFor, MayCall}
-use Rattle.pst_active.proofs.Parts.{given-kept, versions-kept, versions-same, entry-run, entry-writable, entry-kept, forked-alone}
+use Rattle.pst_engine_runs.specs.declared.entry.OpenEntry.{OpenEntry}
+use Rattle.pst_engine_runs.specs.Runs.{Runs, SurvivesOthers}
+use Rattle.pst_engine_runs.specs.Stands.{HasVersion, IsForkOf, HoldsForks, IsEntry, StandsFor, MayCall}
+use Rattle.pst_engine_runs.proofs.Parts.{given-kept, versions-kept, versions-same, entry-run, entry-writable, entry-kept, forked-alone}
 
 -- an empty run has counted nothing
 pub idle-counts : (m : Meaning) → IsLawful m → (h : History) (version : VersionNo) → run_counts m h (next_run h) (new_run h version []) ≡ no_counts

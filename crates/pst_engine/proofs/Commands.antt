@@ -9,7 +9,7 @@ use Rattle.pst_places.specs.State.{State}
 use Rattle.pst_history.specs.declared.history.Descent.{Descent}
 use Rattle.std.specs.Option.{option_map}
 use Rattle.std.proofs.Common.{map, take, drop, length-append, ◌-◌}
-use Rattle.pst_active.specs.Stands.{HoldsVersions}
+use Rattle.pst_engine_runs.specs.Stands.{HoldsVersions}
 use Rattle.pst_script.specs.declared.command.Command.{Command}
 use Rattle.pst_script.specs.declared.command.Command.TheVariants as command
 use Rattle.pst_script.specs.Commands.{in_range}
@@ -17,10 +17,10 @@ use Rattle.pst_script.specs.declared.reply.Refusal.{Refusal}
 use Rattle.pst_history.specs.Meaning.{Meaning, IsLawful}
 use Rattle.pst_history.specs.History.{History, run_at, refusal, next_run}
 use Rattle.pst_machine.specs.declared.activation.Activation.{Activation}
-use Rattle.pst_active.specs.declared.entry.OpenEntry.{OpenEntry}
-use Rattle.pst_runs.specs.Runs.{Runs}
-use Rattle.pst_active.specs.Stands.{StandsFor}
-use Rattle.pst_active.proofs.Parts.{entry-run}
+use Rattle.pst_engine_runs.specs.declared.entry.OpenEntry.{OpenEntry}
+use Rattle.pst_engine_runs.specs.Runs.{Runs}
+use Rattle.pst_engine_runs.specs.Stands.{StandsFor}
+use Rattle.pst_engine_runs.proofs.Parts.{entry-run}
 use Rattle.pst_engine.proofs.Leaving.{leave-keeps}
 use Rattle.std.specs.Prelude.{remove}
 use Rattle.pst_script.specs.declared.command.Call.{Call}

@@ -21,17 +21,17 @@ use Rattle.pst_history.proofs.Numbered.{numbered-same, numbered-length}
 use Rattle.pst_history.proofs.Steps.{restated, run-sound, heap_of-restated}
 use Rattle.pst_history.proofs.After.{same_calls, closing, closed-is, closed-publishable}
 use Rattle.pst_machine.specs.declared.activation.Activation.{Activation}
-use Rattle.pst_active.specs.declared.entry.OpenEntry.{OpenEntry}
-use Rattle.pst_steps.specs.Fields.{KeepsOthers}
-use Rattle.pst_runs.specs.Runs.{Runs, IsWaiting, RanOn, StandingWaits, SurvivesOthers}
-use Rattle.pst_active.specs.Stands.{IsEntry, StandsFor}
+use Rattle.pst_engine_runs.specs.declared.entry.OpenEntry.{OpenEntry}
+use Rattle.pst_machine_steps.specs.Fields.{KeepsOthers}
+use Rattle.pst_engine_runs.specs.Runs.{Runs, IsWaiting, RanOn, StandingWaits, SurvivesOthers}
+use Rattle.pst_engine_runs.specs.Stands.{IsEntry, StandsFor}
 use Rattle.pst_engine.specs.Stands.{MayPublish, Settled}
-use Rattle.pst_active.proofs.Parts.{IsOpenAt, entry-run, entry-open, entry-writable}
-use Rattle.pst_active.proofs.Moving.{move-keeps, restated-run}
+use Rattle.pst_engine_runs.proofs.Parts.{IsOpenAt, entry-run, entry-open, entry-writable}
+use Rattle.pst_engine_runs.proofs.Moving.{move-keeps, restated-run}
 use Rattle.pst_engine.proofs.Leaving.{leave-keeps}
 use Rattle.pst_engine.proofs.Publishing.{IsEnded, publish-keeps}
-use Rattle.pst_active.proofs.Slicing.{entry-waits}
-use Rattle.pst_active.proofs.Entries.{if-some}
+use Rattle.pst_engine_runs.proofs.Slicing.{entry-waits}
+use Rattle.pst_engine_runs.proofs.Entries.{if-some}
 
 set-twice : {X : Type 0} (xs : List X) (i : ℕ) (a b : X) → slice_set (slice_set xs i a) i b ≡ slice_set xs i b
 set-twice [] i a b = refl

@@ -24,8 +24,8 @@ use Rattle.pst_history.proofs.Sound.{get_or-is, initial-before}
 use Rattle.pst_history.proofs.Sums.{counts_plus-none}
 use Rattle.pst_history.proofs.After.{begun-sound}
 use Rattle.pst_machine.specs.declared.activation.Activation.{Activation}
-use Rattle.pst_runs.specs.Runs.{Runs}
-use Rattle.pst_active.specs.Stands.{AreGivenForks, StandsFor}
+use Rattle.pst_engine_runs.specs.Runs.{Runs}
+use Rattle.pst_engine_runs.specs.Stands.{AreGivenForks, StandsFor}
 use Rattle.pst_engine.specs.Stands.{IsOpeningHeap, opening_of, row_of, IsStartedHeap}
 use Rattle.pst_engine.proofs.Commands.{get-drop}
 use Rattle.pst_script.specs.declared.numerals.TheConstants.{MOST_CHARGES}

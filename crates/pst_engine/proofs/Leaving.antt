@@ -16,11 +16,11 @@ use Rattle.pst_history.proofs.Numbered.{numbered-at, numbered-of, numbered-same,
 use Rattle.pst_history.proofs.Steps.{IsRestated, restated, restated-sound, heap_of-restated, counts_of-restated}
 use Rattle.pst_history.proofs.After.{same_calls, run-granted}
 use Rattle.pst_machine.specs.declared.activation.Activation.{Activation}
-use Rattle.pst_active.specs.declared.entry.OpenEntry.{OpenEntry}
-use Rattle.pst_runs.specs.Runs.{Runs}
-use Rattle.pst_active.specs.Stands.{IsEntry, StandsFor}
-use Rattle.pst_active.proofs.Parts.{counts_plus-cancel, versions-same, entry-run}
-use Rattle.pst_active.proofs.Moving.{forks-restated, other-run}
+use Rattle.pst_engine_runs.specs.declared.entry.OpenEntry.{OpenEntry}
+use Rattle.pst_engine_runs.specs.Runs.{Runs}
+use Rattle.pst_engine_runs.specs.Stands.{IsEntry, StandsFor}
+use Rattle.pst_engine_runs.proofs.Parts.{counts_plus-cancel, versions-same, entry-run}
+use Rattle.pst_engine_runs.proofs.Moving.{forks-restated, other-run}
 
 module _ {H P R : Type 0} (m : Meaning) (x : Runs P R (Activation H R P)) (s : State P R) where
   pub leaving : (h : History) (n : ℕ) (r : Run) (state : RunState) → (sound : IsSoundHistory m h) → run_at h n ≡ Some r → is_open r ≡ true → IsRestated m h n r (record r { state = state })

@@ -14,10 +14,10 @@ use Rattle.pst_history.proofs.Lists.{slice_get-before, slice_get-last, slice_get
 use Rattle.pst_history.proofs.Heaps.{heap_of-more, heap_of-new}
 use Rattle.pst_history.proofs.Steps.{IsPublishable, published, published-sound, counts_of-published, run-sound}
 use Rattle.pst_machine.specs.declared.activation.Activation.{Activation}
-use Rattle.pst_active.specs.declared.entry.OpenEntry.{OpenEntry}
-use Rattle.pst_runs.specs.Runs.{Runs, SurvivesOthers}
-use Rattle.pst_active.specs.Stands.{IsVersion, SameRow, HasVersion, IsForkOf, IsPlaced, IsEntry, StandsFor}
-use Rattle.pst_active.proofs.Parts.{given-kept, entry-run, entry-writable, entry-kept, published-alone}
+use Rattle.pst_engine_runs.specs.declared.entry.OpenEntry.{OpenEntry}
+use Rattle.pst_engine_runs.specs.Runs.{Runs, SurvivesOthers}
+use Rattle.pst_engine_runs.specs.Stands.{IsVersion, SameRow, HasVersion, IsForkOf, IsPlaced, IsEntry, StandsFor}
+use Rattle.pst_engine_runs.proofs.Parts.{given-kept, entry-run, entry-writable, entry-kept, published-alone}
 
 -- ---- lists of forks
 

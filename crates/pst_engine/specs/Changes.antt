@@ -1,4 +1,5 @@
 -- What an open run more and the end of one need and do.
+-- Letters: m is the meaning of a program, h a history, s the state of the heap before and t after, r a reply.
 use Rattle.std.specs.Prelude.{◌≡◌, ℕ, ◌+◌, List, [], ◌∷◌}
 use Rattle.pst_base.specs.declared.names.RunNo.{RunNo}
 use Rattle.pst_base.specs.declared.names.VersionNo.{VersionNo}
@@ -10,8 +11,8 @@ use Rattle.pst_history.specs.declared.history.NamedCall.{NamedCall}
 use Rattle.pst_history.specs.Meaning.{Meaning}
 use Rattle.pst_history.specs.History.{History, call_of, closed, close_reply, opened, run_at}
 use Rattle.pst_history.specs.Accepted.{MayOpen}
-use Rattle.pst_active.specs.declared.entry.OpenEntry.{OpenEntry}
-use Rattle.pst_active.specs.Stands.{StandsFor, machine_runs}
+use Rattle.pst_engine_runs.specs.declared.entry.OpenEntry.{OpenEntry}
+use Rattle.pst_engine_runs.specs.Stands.{StandsFor, machine_runs}
 
 -- ---- a run more
 

@@ -1,4 +1,5 @@
 -- What an engine and a heap stand for: a history, of which neither keeps anything but what is here.
+-- Letters: m is the meaning of a program, h a history, s the state of the heap before and t after, r a reply, v a version.
 use Rattle.std.specs.Prelude.{◌≡◌, ◌≢◌, ℕ, ◌+◌, ◌<◌, ◌^◌, List, ℤ, [], ◌∷◌, map, drop, None, Some, IfSome, true, length, slice_get}
 use Rattle.pst_base.specs.declared.names.RunNo.{RunNo}
 use Rattle.pst_base.specs.declared.names.Name.{Name}
@@ -20,7 +21,7 @@ use Rattle.pst_history.specs.declared.history.Descent.{Descent}
 use Rattle.pst_history.specs.Meaning.{Meaning}
 use Rattle.pst_history.specs.History.{Opening, History, refusal, changed, answered, after, reply}
 use Rattle.pst_engine.specs.declared.engine.Engine.{Engine}
-use Rattle.pst_active.specs.Stands.{AreGivenForks, HoldsVersions, StandsFor, machine_runs}
+use Rattle.pst_engine_runs.specs.Stands.{AreGivenForks, HoldsVersions, StandsFor, machine_runs}
 
 -- ---- the end of a run
 
@@ -42,28 +43,28 @@ abbrev pub EngineStands : {H P R : Type 0} → Meaning → Parts → Engine H R 
 EngineStands m parts engine s h = StandsFor m (machine_runs parts) engine.active.items.items engine.budget engine.next_run.0 s h
 
 -- they stand for a history that does not refuse the command
-pub record MayAnswer {H P R : Type 0} (m : Meaning) (parts : Parts) (engine : Engine H R P) (s : State P R) (line : Command) : Type 0 where
+pub record MayAnswer {H P R : Type 0} (m : Meaning) (parts : Parts) (engine : Engine H R P) (s : State P R) (command : Command) : Type 0 where
   pub history : History
   pub stands : EngineStands m parts engine s history
-  pub accepted : refusal m history line ≡ None
+  pub accepted : refusal m history command ≡ None
 
 -- the answer to a command is that of the history, and engine and heap stand for the history after it, if a line can give it
-pub record IsCarried {H P R : Type 0} (m : Meaning) (parts : Parts) (line : Command) (r : Reply) (new : Engine H R P) (t : State P R) (h : History) : Type 0 where
-  pub stands : in_range line ≡ true → EngineStands m parts new t (changed m h line)
-  pub reply : r ≡ answered m h line
+pub record IsCarried {H P R : Type 0} (m : Meaning) (parts : Parts) (command : Command) (r : Reply) (new : Engine H R P) (t : State P R) (h : History) : Type 0 where
+  pub stands : in_range command ≡ true → EngineStands m parts new t (changed m h command)
+  pub reply : r ≡ answered m h command
 
 -- so for every history for which they stood and that does not refuse the command
 abbrev pub Carries : {H P R : Type 0} → Meaning → Parts → (old : Engine H R P) → (s : State P R) → Command → Reply → (new : Engine H R P) → (t : State P R) → Type 0
-Carries m parts old s line r new t = (h : History) → EngineStands m parts old s h → refusal m h line ≡ None → IsCarried m parts line r new t h
+Carries m parts old s command r new t = (h : History) → EngineStands m parts old s h → refusal m h command ≡ None → IsCarried m parts command r new t h
 
 -- the answer to a command is the reply, and engine and heap stand for the history after it, if a line can give it
-pub record IsAnswered {H P R : Type 0} (m : Meaning) (parts : Parts) (line : Command) (r : Reply) (new : Engine H R P) (t : State P R) (h : History) : Type 0 where
-  pub stands : in_range line ≡ true → EngineStands m parts new t (after m h line)
-  pub reply : r ≡ reply m h line
+pub record IsAnswered {H P R : Type 0} (m : Meaning) (parts : Parts) (command : Command) (r : Reply) (new : Engine H R P) (t : State P R) (h : History) : Type 0 where
+  pub stands : in_range command ≡ true → EngineStands m parts new t (after m h command)
+  pub reply : r ≡ reply m h command
 
 -- so for every history for which they stood
 abbrev pub Answers : {H P R : Type 0} → Meaning → Parts → (old : Engine H R P) → (s : State P R) → Command → Reply → (new : Engine H R P) → (t : State P R) → Type 0
-Answers m parts old s line r new t = (h : History) → EngineStands m parts old s h → IsAnswered m parts line r new t h
+Answers m parts old s command r new t = (h : History) → EngineStands m parts old s h → IsAnswered m parts command r new t h
 
 -- they stand for some history
 pub record MayApply {H P R : Type 0} (m : Meaning) (parts : Parts) (engine : Engine H R P) (s : State P R) : Type 0 where

@@ -1,15 +1,14 @@
 //! The answer to a command that is not refused.
 
 ghost use Rattle.std.specs.Prelude.{◌≡◌, ◌<◌, ◌+◌, IfOk, OnErr, length, map, drop, slice_get, Some};
-ghost use Rattle.pst_active.specs.Stands.{VersionsStay};
+ghost use Rattle.pst_engine_runs.specs.Stands.{VersionsStay};
 ghost use Rattle.pst_engine.specs.Stands.{Carries, MayAnswer};
 
 use crate::engine::Engine;
 use crate::lines::{ask, call_run, close_run, drop_run, open_empty, open_run, run, step_run};
 use pst_base::{NoMemory, VersionNo};
-use pst_coded::Meant;
+use pst_engine_runs::{Meant, known};
 use pst_places::VersionedHeap;
-use pst_runs::known;
 use pst_script::{Command, Parents, Reply};
 use std::alloc::Global;
 
@@ -30,16 +29,16 @@ pub(crate) fn answer<H: VersionedHeap, C: Meant>(
     code: &C,
     heap: &mut H,
     engine: &mut Engine<H>,
-    line: &Command,
+    command: &Command,
 ) -> Result<Reply, NoMemory>
-    requires { MayAnswer (C.meaning code.now) (C.parts code.now) engine.old (H.state heap.old) line.now }
-    ensures ok { IfOk result (λ r. Carries (C.meaning code.now) (C.parts code.now) engine.old (H.state heap.old) line.now r engine.new (H.state heap.new)) }
+    requires { MayAnswer (C.meaning code.now) (C.parts code.now) engine.old (H.state heap.old) command.now }
+    ensures ok { IfOk result (λ r. Carries (C.meaning code.now) (C.parts code.now) engine.old (H.state heap.old) command.now r engine.new (H.state heap.new)) }
     ensures err { OnErr result (VersionsStay (H.state heap.old) (H.state heap.new)) }
     ensures same_failed { engine.new.failed ≡ engine.old.failed }
 {
     heap.known_versions();
     known::<H, C>(code);
-    match line {
+    match command {
         Command::Run(call) => run(alloc, code, heap, engine, call),
         Command::Query(call) => ask(alloc, code, heap, engine, call),
         Command::OpenRun(call) => open_run(alloc, code, heap, engine, call),

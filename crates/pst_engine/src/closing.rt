@@ -1,16 +1,14 @@
 //! The ends of open runs.
 
 ghost use Rattle.std.specs.Prelude.{◌≡◌, ◌<◌, IfOk, OnErr, length};
-ghost use Rattle.pst_active.specs.Stands.{IsRunAt, StandForSome, VersionsStay};
+ghost use Rattle.pst_engine_runs.specs.Stands.{IsRunAt, StandForSome, VersionsStay};
 ghost use Rattle.pst_engine.specs.Stands.{MayPublish, Settled};
 ghost use Rattle.pst_engine.specs.Changes.{Closes};
 
-use pst_active::{OpenEntry, copy_of};
 use pst_base::{NoMemory, Numbers, RunNo, VersionNo};
-use pst_coded::Meant;
+use pst_engine_runs::{Meant, OpenEntry, advance, copy_of, known};
 use pst_places::VersionedHeap;
 use pst_program::Ended;
-use pst_runs::{advance, known};
 use pst_script::Reply;
 use std::alloc::Global;
 

@@ -9,12 +9,10 @@ ghost use Rattle.pst_engine.specs.Stands.{Answers, MayApply, Wants};
 ghost use Rattle.pst_history.specs.declared.history.TheConstants.{BUDGET, RUNS};
 
 use crate::answer::answer;
-use pst_active::{Activations, refused};
 use pst_base::{NoMemory, RunNo};
-use pst_coded::Meant;
+use pst_engine_runs::{Activations, Meant, known, refused};
 use pst_history::BUDGET;
 use pst_places::VersionedHeap;
-use pst_runs::known;
 use pst_script::{Command, Reply};
 use std::alloc::Global;
 
@@ -70,13 +68,13 @@ impl<H: VersionedHeap> Engine<H> {
         alloc: Global,
         code: &C,
         heap: &mut H,
-        line: &Command,
+        command: &Command,
     ) -> Result<Reply, NoMemory>
         requires { self.old.failed ≡ false → MayApply (C.meaning code.now) (C.parts code.now) self.old (H.state heap.old) }
         ensures ok { IfOk result (λ r. (self.old.failed ≡ false) × (self.new.failed ≡ false)) }
-        ensures answers { IfOk result (λ r. Answers (C.meaning code.now) (C.parts code.now) self.old (H.state heap.old) line.now r self.new (H.state heap.new)) }
+        ensures answers { IfOk result (λ r. Answers (C.meaning code.now) (C.parts code.now) self.old (H.state heap.old) command.now r self.new (H.state heap.new)) }
         ensures refused { IfOk result (λ r. (why : Refusal) → r ≡ answer.Refused why → (self.new ≡ self.old) × (heap.new ≡ heap.old)) }
-        ensures may { IfOk result (λ r. in_range line.now ≡ true → MayApply (C.meaning code.now) (C.parts code.now) self.new (H.state heap.new)) }
+        ensures may { IfOk result (λ r. in_range command.now ≡ true → MayApply (C.meaning code.now) (C.parts code.now) self.new (H.state heap.new)) }
         ensures err { OnErr result (self.new.failed ≡ true) }
         ensures wants { OnErr result (Wants (C.meaning code.now) (C.parts code.now) self.old (H.state heap.old) (H.state heap.new)) }
         ensures failed { self.old.failed ≡ true → IsErr result × (self.new ≡ self.old) × (heap.new ≡ heap.old) }
@@ -87,11 +85,11 @@ impl<H: VersionedHeap> Engine<H> {
         heap.known_versions();
         known::<H, C>(code);
         let active = self.active.items.as_slice();
-        if let Some(refusal) = refused(code, heap, active, self.next_run, line) {
+        if let Some(refusal) = refused(code, heap, active, self.next_run, command) {
             return Ok(Reply::Refused(refusal));
         }
         self.failed = true;
-        let reply = answer(alloc, code, heap, self, line)?;
+        let reply = answer(alloc, code, heap, self, command)?;
         self.failed = false;
         Ok(reply)
     }

@@ -7,7 +7,7 @@
 //! for the history after it. So it answers as the replayer of `pst_replay` does, but a version is not made again to be read.
 //!
 //!     let mut engine = Engine::new(alloc);
-//!     let reply = engine.apply(alloc, &code, &mut heap, &line)?;
+//!     let reply = engine.apply(alloc, &code, &mut heap, &command)?;
 #![tactic(auto)]
 
 mod answer;

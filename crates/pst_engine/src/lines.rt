@@ -2,15 +2,14 @@
 
 ghost use Rattle.std.specs.Prelude.{◌≡◌, IfOk, OnErr};
 ghost use Rattle.pst_script.specs.declared.command.Command.TheVariants as command;
-ghost use Rattle.pst_active.specs.Stands.{VersionsStay};
+ghost use Rattle.pst_engine_runs.specs.Stands.{VersionsStay};
 ghost use Rattle.pst_engine.specs.Stands.{Carries, MayAnswer};
 
 use crate::closing::close;
 use crate::engine::Engine;
 use crate::opening::{open, open_with};
-use pst_active::{call, index_of, query, step};
 use pst_base::{NoMemory, Numbers, RunNo, Text, VersionNo};
-use pst_coded::Meant;
+use pst_engine_runs::{Meant, call, index_of, query, step};
 use pst_places::VersionedHeap;
 use pst_script::{Call, Reply};
 use std::alloc::Global;

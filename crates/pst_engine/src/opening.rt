@@ -2,14 +2,12 @@
 
 ghost use Rattle.std.specs.Prelude.{◌≡◌, ◌+◌, ◌<◌, ◌∷◌, [], IfOk, OnOk, length};
 ghost use Rattle.pst_history.specs.History.{call_of};
-ghost use Rattle.pst_active.specs.Stands.{IsRunAt, VersionsStay};
+ghost use Rattle.pst_engine_runs.specs.Stands.{IsRunAt, VersionsStay};
 ghost use Rattle.pst_engine.specs.Changes.{MayOpenSome, Opens, OpensWith};
 
-use pst_active::{OpenEntry, call, place_at};
 use pst_base::{NoMemory, RunNo, VersionNo};
-use pst_coded::Meant;
+use pst_engine_runs::{Meant, OpenEntry, bare, call, known, place_at};
 use pst_places::VersionedHeap;
-use pst_runs::{bare, known};
 use pst_script::Call;
 use std::alloc::Global;
 

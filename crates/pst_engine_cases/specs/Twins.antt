@@ -3,7 +3,7 @@ use Rattle.std.specs.Prelude.{◌≡◌, false}
 use Rattle.pst_program.specs.declared.program.Program.{Program}
 use Rattle.pst_program.specs.Typed.{IsTyped}
 use Rattle.pst_program.specs.View.{routines_of}
-use Rattle.pst_compiled.specs.Compiled.{code_of}
+use Rattle.pst_translation.specs.Compiled.{code_of}
 use Rattle.pst_places.specs.State.{State}
 use Rattle.pst_history.specs.Direct.{meaning_of}
 use Rattle.pst_replay.specs.declared.replayer.Replayer.{Replayer}

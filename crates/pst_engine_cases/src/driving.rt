@@ -7,8 +7,8 @@ use crate::forms::Forms;
 use crate::lines::next_line;
 use crate::twins::Twins;
 use pst_base::NoMemory;
+use pst_engine_testing::{Random, Trouble};
 use pst_places::VersionedHeap;
-use pst_testing::{Random, Trouble};
 use std::alloc::Global;
 
 /// What stands before each line of a reply in a story: a script with the replies to its lines.

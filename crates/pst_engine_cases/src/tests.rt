@@ -8,8 +8,8 @@ use crate::driving::{drive, tell_anew};
 use crate::forms::Forms;
 use crate::lines::PROGRAM;
 use crate::twins::Twins;
+use pst_engine_testing::{Random, Trouble, compiled, forest_for, program_of};
 use pst_forest::Forest;
-use pst_testing::{Random, Trouble, compiled, forest_for, program_of};
 use std::alloc::Global;
 
 /// A list of numbers.

@@ -9,13 +9,13 @@ ghost use Rattle.pst_engine.specs.Stands.{IsStartedHeap};
 ghost use Rattle.pst_engine_cases.specs.Twins.{CanAnswer};
 
 use pst_base::Text;
-use pst_coded::Compiled;
 use pst_engine::{Engine, a_new_engine_stands};
+use pst_engine_runs::Compiled;
+use pst_engine_testing::Trouble;
 use pst_places::VersionedHeap;
 use pst_program::Program;
 use pst_replay::Replayer;
 use pst_script::{Command, LineFault, read_line, reply_text};
-use pst_testing::Trouble;
 use std::alloc::Global;
 
 /// An engine with its heap, and a replayer: two that answer the lines of a script.

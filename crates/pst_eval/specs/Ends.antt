@@ -15,9 +15,9 @@ use Rattle.pst_program.specs.Syntax.{Expr, Action}
 use Rattle.pst_program.specs.Value.{Env, number_of, index_of, value}
 use Rattle.pst_program.specs.Meaning.{World, Ending, Calls, call, call_with, exec, exec_action, turns, run_body, if_else, with_index, with_answer, write, store_element}
 use Rattle.pst_program.specs.View.{expr_of, action_of, actions_of, routines_of}
-use Rattle.pst_values.specs.declared.tally.Tally.{Tally}
-use Rattle.pst_values.specs.declared.tally.End.{End}
-use Rattle.pst_values.specs.Work.{world_of, ending_of}
+use Rattle.pst_eval_values.specs.declared.tally.Tally.{Tally}
+use Rattle.pst_eval_values.specs.declared.tally.End.{End}
+use Rattle.pst_eval_values.specs.Work.{world_of, ending_of}
 
 -- the end of all, or what goes on where there is none
 abbrev pub last_or : Option End → (World → Ending) → World → Ending

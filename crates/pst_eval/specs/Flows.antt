@@ -1,7 +1,7 @@
 -- What the flow of statements tells, beside the end that is noted.
 use Rattle.std.specs.Prelude.{Bool, Option, Some, None, Result, Ok, Err}
-use Rattle.pst_values.specs.declared.tally.End.{End}
-use Rattle.pst_values.specs.declared.tally.End.TheVariants.{Normal}
+use Rattle.pst_eval_values.specs.declared.tally.End.{End}
+use Rattle.pst_eval_values.specs.declared.tally.End.TheVariants.{Normal}
 use Rattle.pst_eval.specs.declared.work.Flow.{Flow}
 use Rattle.pst_eval.specs.declared.work.Flow.TheVariants.{On, Over}
 

@@ -2,11 +2,11 @@
 
 ghost use Rattle.std.specs.Prelude.{◌≡◌, MatchOption, None, Some, slice_get};
 ghost use Rattle.pst_program.specs.Meaning.{World, after_call};
-ghost use Rattle.pst_values.specs.Work.{ending_of};
+ghost use Rattle.pst_eval_values.specs.Work.{ending_of};
 
 use crate::steps::set_at;
+use pst_eval_values::End;
 use pst_program::{Program, TypedProc, Value};
-use pst_values::End;
 
 /// The procedure with a number.
 pub fn procedure_at(program: &Program, procedure: u16) -> Option<&TypedProc>

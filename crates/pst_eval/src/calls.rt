@@ -4,15 +4,15 @@ ghost use Rattle.std.specs.Prelude.{◌≡◌, [], map, IfOk, OnOk};
 ghost use Rattle.pst_program.specs.Meaning.{World, Ending};
 ghost use Rattle.pst_program.specs.Outcome.{calls_of, in_order, next_call, one_call, task_call};
 ghost use Rattle.pst_program.specs.View.{routines_of};
-ghost use Rattle.pst_values.specs.Work.{ending_of, world_of, IsAtWork};
+ghost use Rattle.pst_eval_values.specs.Work.{ending_of, world_of, IsAtWork};
 ghost use Rattle.pst_eval.specs.Ends.{last_or};
 
 use crate::run::run_body;
 use crate::work::Work;
 use pst_base::NoMemory;
+use pst_eval_values::End;
 use pst_heap::PlainHeap;
 use pst_program::{ProcCall, Program, Value};
-use pst_values::End;
 use std::alloc::Global;
 
 /// How many more calls may become active beside the first.

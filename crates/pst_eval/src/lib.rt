@@ -6,7 +6,7 @@
 //! run's number. It asks for no typing. The list of calls goes on under one budget, one list of printed numbers and one
 //! numbering of records.
 //!
-//! What an expression gives and what a write does stands below, in `pst_values`; here are statements, blocks and calls.
+//! What an expression gives and what a write does stands below, in `pst_eval_values`; here are statements, blocks and calls.
 //!
 //!     let outcome = evaluate(alloc, &program, &mut heap, &spec)?;
 #![tactic(auto)]

@@ -5,13 +5,13 @@ ghost use Rattle.std.specs.Option.{option_map};
 ghost use Rattle.pst_program.specs.declared.meaning.Value.{Value};
 ghost use Rattle.pst_program.specs.Meaning.{World, Ending, Calls, set_local, set_root, store_field, make, print_value, return_value, is_target};
 ghost use Rattle.pst_program.specs.View.{expr_of, action_of};
-ghost use Rattle.pst_values.specs.Work.{ending_of, world_of, IsAtWork, IsCharged};
+ghost use Rattle.pst_eval_values.specs.Work.{ending_of, world_of, IsAtWork, IsCharged};
 ghost use Rattle.pst_eval.specs.Ends.{step_end, element_store_end, element_written, indexed_written, IsSimple};
 
 use pst_base::{Name, NoMemory, ROOT, SlotNo, TrapKind, TypeNo, TypeShape};
+use pst_eval_values::{End, Tally, element_slot, index_of, number, value, write};
 use pst_heap::PlainHeap;
 use pst_program::{MOST_PRINTED, Typed, TypedForm, Value};
-use pst_values::{End, Tally, element_slot, index_of, number, value, write};
 
 /// Carries out a statement that holds no other and calls nothing.
 pub fn step(

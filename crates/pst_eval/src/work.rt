@@ -6,15 +6,15 @@
 ghost use Rattle.std.specs.Prelude.{◌≡◌, ◌≢◌, ◌<◌, ◌≤◌, IfOk, IfSome, OnOk};
 ghost use Rattle.pst_program.specs.Meaning.{Calls};
 ghost use Rattle.pst_program.specs.View.{expr_of, action_of};
-ghost use Rattle.pst_values.specs.Work.{ending_of, world_of, IsAtWork};
+ghost use Rattle.pst_eval_values.specs.Work.{ending_of, world_of, IsAtWork};
 ghost use Rattle.pst_eval.specs.Ends.{Chooses, step_end, IsSimple};
 ghost use Rattle.pst_eval.specs.Flows.{end_of, choice_of};
 
 use crate::steps::step;
 use pst_base::NoMemory;
+use pst_eval_values::{End, Tally, truth, value};
 use pst_heap::PlainHeap;
 use pst_program::{Typed, TypedForm, Value};
-use pst_values::{End, Tally, truth, value};
 
 /// What a run has come to: what it keeps beside its heap, and the end that was noted last.
 #[derive(Drop)]

@@ -13,3 +13,4 @@ pub mod Accepting
 pub mod LawLemmas
 pub mod DirectLemmas
 pub mod WorkedLemmas
+pub mod Fitting

@@ -1,4 +1,5 @@
 -- What holds of every history, of any program.
+-- Letters: m is the meaning of a program, o an opening, h a history, c a command, k a number of charges.
 use Rattle.std.specs.Prelude.{◌≡◌, ◌≢◌, ℕ, ◌+◌, ◌*◌, ◌<◌, ◌≤◌, ◌^◌, ◌++◌, length, Option, Some, None, count_by, slice_get, true}
 use Rattle.pst_base.specs.declared.names.RunNo.{RunNo}
 use Rattle.pst_base.specs.Heap.{Heap}

@@ -14,11 +14,13 @@
 //!     grant(&mut since, run, 100)    a run with a hundred charges more
 #![tactic(auto)]
 
+mod arguments;
 mod history;
 mod laws;
 mod rows;
 mod worked;
 
+pub use arguments::{first_of, refusal_of_arguments};
 pub use history::{
     BUDGET, CALLS, Descent, Descents, NamedCall, NamedCalls, OPEN_RUNS, RUNS, Run, RunState, Runs,
     Since,

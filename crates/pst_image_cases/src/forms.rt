@@ -1,7 +1,7 @@
 //! The form of an image.
 
 use crate::images::{EMPTY, LINKED, bytes_of, changed, judged, linking};
-use pst_form::{FormFault, read_image, write_image};
+use pst_image_form::{FormFault, read_image, write_image};
 use std::alloc::Global;
 
 #[test]

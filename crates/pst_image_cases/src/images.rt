@@ -4,7 +4,7 @@ ghost use Rattle.std.specs.Prelude.{IfOk};
 ghost use Rattle.pst_base.specs.Shape.{IsValid};
 
 use pst_base::{NoMemory, Shape, Targets, TypeNo, TypeShape};
-use pst_form::{FormFault, read_image};
+use pst_image_form::{FormFault, read_image};
 use pst_image_rules::{Rule, first_failed};
 use std::alloc::Global;
 

@@ -7,7 +7,7 @@ use crate::images::{
     changed, judged, linking, plain,
 };
 use pst_base::Shape;
-use pst_form::FormFault;
+use pst_image_form::FormFault;
 use std::alloc::Global;
 
 /// A number that is changed: its index, the other number, and the number of the first rule that fails then.

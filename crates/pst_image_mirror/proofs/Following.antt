@@ -4,8 +4,8 @@ use Rattle.std.specs.Option.{option_map}
 use Rattle.std.proofs.lemmas.Bool.{cases_eq, cases_lt}
 use Rattle.std.proofs.lemmas.Bool.Decides.{nat_tests}
 use Rattle.pst_base.specs.declared.shape.TypeShape.{TypeShape}
-use Rattle.pst_form.specs.declared.parts.StampPart.{StampPart}
-use Rattle.pst_form.specs.declared.parts.NodePart.{NodePart}
+use Rattle.pst_image_form.specs.declared.parts.StampPart.{StampPart}
+use Rattle.pst_image_form.specs.declared.parts.NodePart.{NodePart}
 use Rattle.pst_image_nodes.specs.Nodes.{no_stamp, node_at, stamp_of, IsAfter, IsNode}
 use Rattle.pst_image_mirror.specs.Segments.{first, is_at, is_behind, begins, ends, IsSorted}
 use Rattle.pst_image_mirror.specs.Laws.{IsSegment, SegmentsFollow}

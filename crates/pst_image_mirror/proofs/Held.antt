@@ -10,8 +10,8 @@ use Rattle.pst_base.specs.declared.names.Kind.TheVariants.{Int, Pointer}
 use Rattle.pst_base.specs.declared.names.TypeNo.{TypeNo}
 use Rattle.pst_base.specs.declared.shape.TypeShape.{TypeShape}
 use Rattle.pst_base.specs.Shape.{root_type, element_count, field_kind}
-use Rattle.pst_form.specs.declared.parts.StampPart.{StampPart}
-use Rattle.pst_form.specs.declared.parts.NodePart.{NodePart}
+use Rattle.pst_image_form.specs.declared.parts.StampPart.{StampPart}
+use Rattle.pst_image_form.specs.declared.parts.NodePart.{NodePart}
 use Rattle.pst_image_nodes.specs.Nodes.{node_at, stamp_of, entry, FitsSlot, HasKind, HoldsPointer, HoldsEntry}
 use Rattle.pst_image_mirror.specs.Segments.{first, is_at, begins, ends}
 use Rattle.pst_image_mirror.specs.Mirror.{IsPointerSlot, IsInverseSlot, shape_of, IsEntered, IsEnteredAt, HasPointer, IsPointedAt, ArePointersEntered, AreEntriesPointed}

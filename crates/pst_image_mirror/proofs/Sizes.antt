@@ -3,7 +3,7 @@ use Rattle.std.proofs.Common.{◌≡◌, ℕ, zero, suc, ◌<◌, ◌≤◌, Lis
 use Rattle.pst_base.specs.declared.names.TypeNo.{TypeNo}
 use Rattle.pst_base.specs.declared.shape.TypeShape.{TypeShape}
 use Rattle.pst_base.specs.Shape.{type_at, root_type, element_count, IsValid}
-use Rattle.pst_form.specs.declared.parts.NodePart.{NodePart}
+use Rattle.pst_image_form.specs.declared.parts.NodePart.{NodePart}
 use Rattle.pst_image_nodes.specs.Nodes.{node_at}
 use Rattle.pst_image_mirror.specs.Segments.{IsSorted}
 use Rattle.pst_image_mirror.specs.Sides.{AreTyped}

@@ -1,7 +1,7 @@
 -- What holds of the segments of nodes of their types.
 use Rattle.std.specs.Prelude.{◌≡◌, ℕ, ◌<◌, ◌≤◌, List, length, Some, None, ◌⊎◌}
 use Rattle.pst_base.specs.declared.shape.TypeShape.{TypeShape}
-use Rattle.pst_form.specs.declared.parts.NodePart.{NodePart}
+use Rattle.pst_image_form.specs.declared.parts.NodePart.{NodePart}
 use Rattle.pst_image_nodes.specs.Nodes.{node_at}
 use Rattle.pst_image_mirror.specs.Segments.{begins, ends}
 use Rattle.pst_image_mirror.specs.Sides.{AreTyped}

@@ -1,7 +1,7 @@
 -- Both sides of the mirror rule, as they are checked: slot by slot and place by place.
 use Rattle.std.specs.Prelude.{ℕ, ◌<◌, ◌≤◌, Bool, List, length, MatchBool}
 use Rattle.pst_base.specs.declared.shape.TypeShape.{TypeShape}
-use Rattle.pst_form.specs.declared.parts.NodePart.{NodePart}
+use Rattle.pst_image_form.specs.declared.parts.NodePart.{NodePart}
 use Rattle.pst_base.specs.Shape.{element_count}
 use Rattle.pst_image_nodes.specs.Nodes.{node_at, stamp_of, slot_count, AreNodes}
 use Rattle.pst_image_mirror.specs.declared.sides.Pointer.{Pointer}

@@ -1,6 +1,6 @@
 //! The mirror rule, the capacity and the bound of an image.
 //!
-//! Model: the parts of an image (`pst_form`), each node one of its type (`pst_image_nodes`). A segment of a slot begins at the begin
+//! Model: the parts of an image (`pst_image_form`), each node one of its type (`pst_image_nodes`). A segment of a slot begins at the begin
 //! of the node's life or at a stamp, and ends where the slot's next one begins or the life ends.
 //!
 //! Contract: `are_pointers_entered` says exactly whether each pointer segment has just one entry in the node that it leads to, and

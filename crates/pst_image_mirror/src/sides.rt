@@ -9,7 +9,7 @@ ghost use Rattle.pst_image_mirror.specs.Sides.{AreTyped, HasEntryIn, HasOneEntry
 
 use crate::segments::{Segment, segment_at};
 use pst_base::{Shape, SlotNo, TypeNo};
-use pst_form::NodePart;
+use pst_image_form::NodePart;
 
 /// A side of the mirror rule: that pointers have their entries, or that entries have their pointers.
 #[derive(Clone, Copy)]

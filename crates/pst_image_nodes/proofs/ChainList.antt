@@ -2,7 +2,7 @@
 use Rattle.std.proofs.Common.{◌≡◌, ℕ, suc, ◌+◌, ◌<◌, ◌≤◌, Bool, true, false, List, [], ◌∷◌, ◌++◌, length, refl, sym, ap, subst, ◌∙◌, arith, ◌⊎◌, inl, inr, length-append}
 use Rattle.std.proofs.lemmas.Bool.{cases_lt}
 use Rattle.std.proofs.lemmas.List.{get_or_append_left}
-use Rattle.pst_form.specs.declared.parts.NodePart.{NodePart}
+use Rattle.pst_image_form.specs.declared.parts.NodePart.{NodePart}
 use Rattle.pst_image_nodes.specs.declared.ends.Chain.{Chain}
 use Rattle.pst_image_nodes.specs.Nodes.{node_at}
 use Rattle.pst_image_nodes.specs.Chains.{Leads, LeadsBy, HaveLives, AreInChains, chain_at, no_chain, IsChain, IsInChain, AreChains}

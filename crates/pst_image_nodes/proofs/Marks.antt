@@ -4,7 +4,7 @@ use Rattle.std.specs.List.{Contains}
 use Rattle.std.proofs.lemmas.List.{get_or-replicate, get_or_past, length-replicate, length-set}
 use Rattle.std.proofs.lemmas.List.Elements.{Contains-append_left, Contains-push, Contains-push_cases}
 use Rattle.std.proofs.lemmas.Bool.{cases_eq, cases_lt}
-use Rattle.pst_form.specs.declared.parts.NodePart.{NodePart}
+use Rattle.pst_image_form.specs.declared.parts.NodePart.{NodePart}
 use Rattle.pst_image_nodes.specs.Nodes.{node_at}
 use Rattle.pst_image_nodes.specs.Chains.{IsNext}
 use Rattle.pst_image_nodes.specs.declared.heads.Head.{Head}

@@ -1,6 +1,6 @@
 -- Following chains.
 use Rattle.std.proofs.Common.{◌≡◌, ◌≢◌, ℕ, zero, suc, ◌+◌, ◌<◌, ◌≤◌, Bool, true, false, List, length, refl, sym, ap, subst, ◌∙◌, arith, ◌⊎◌, inl, inr}
-use Rattle.pst_form.specs.declared.parts.NodePart.{NodePart}
+use Rattle.pst_image_form.specs.declared.parts.NodePart.{NodePart}
 use Rattle.pst_image_nodes.specs.Nodes.{node_at}
 use Rattle.pst_image_nodes.specs.Chains.{IsSameName, IsRootNode, IsNext, IsNamed, LeadsBy, Leads, AreChained, HaveLives, IsHead, HasEnds, ChainsAreInOrder}
 use Rattle.std.proofs.lemmas.Bool.{cases_eq}

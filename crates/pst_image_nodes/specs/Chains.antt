@@ -2,7 +2,7 @@
 -- Tarjan), so that a number of one of them stands for the record.
 use Rattle.std.specs.Prelude.{◌≡◌, ◌≢◌, ℕ, zero, suc, ◌+◌, ◌-◌, ◌<◌, ◌≤◌, List, length, get_or, ◌⊎◌}
 use Rattle.pst_base.specs.declared.names.Name.{Name}
-use Rattle.pst_form.specs.declared.parts.NodePart.{NodePart}
+use Rattle.pst_image_form.specs.declared.parts.NodePart.{NodePart}
 use Rattle.pst_image_nodes.specs.declared.ends.Chain.{Chain}
 use Rattle.pst_image_nodes.specs.Nodes.{node_at}
 

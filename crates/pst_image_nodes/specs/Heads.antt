@@ -1,7 +1,7 @@
 -- How chains are found: each node is entered by at most one other, and those that none enters are the heads.
 use Rattle.std.specs.Prelude.{◌≡◌, ℕ, suc, ◌+◌, ◌<◌, get_or, Bool, true, false, List, length, slice_index_or, Option, Some, None}
 use Rattle.std.specs.List.{Contains}
-use Rattle.pst_form.specs.declared.parts.NodePart.{NodePart}
+use Rattle.pst_image_form.specs.declared.parts.NodePart.{NodePart}
 use Rattle.pst_image_nodes.specs.Nodes.{node_at}
 use Rattle.pst_image_nodes.specs.declared.heads.Head.{Head}
 use Rattle.pst_image_nodes.specs.declared.ends.Chain.{Chain}

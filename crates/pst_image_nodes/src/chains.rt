@@ -6,7 +6,7 @@ ghost use Rattle.pst_image_nodes.specs.Chains.{IsRootName, IsRootNode, IsNamed, 
 use crate::heads::{have_own_names, heads_of};
 use crate::links::marks;
 use pst_base::{Name, NoMemory};
-use pst_form::NodePart;
+use pst_image_form::NodePart;
 use std::alloc::Global;
 
 /// Whether this is the name of the root record.

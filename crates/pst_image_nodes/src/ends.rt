@@ -6,7 +6,7 @@ ghost use Rattle.pst_image_nodes.specs.Heads.{AreLinked, AreMarked, IsLastOf};
 
 use crate::links::{later_of, marks};
 use pst_base::{NoMemory, NodeId};
-use pst_form::NodePart;
+use pst_image_form::NodePart;
 use std::alloc::Global;
 
 /// A chain by its ends: its head, which no other node leads to, and its last node, which leads to none. They are one where the

@@ -5,7 +5,7 @@ ghost use Rattle.pst_image_nodes.specs.Heads.{head_at as head, AreMarked, AreHea
 
 use crate::links::is_same_name;
 use pst_base::{Name, NoMemory};
-use pst_form::NodePart;
+use pst_image_form::NodePart;
 use std::alloc::Global;
 
 /// A head: a node that no other one leads to, by the name of its record and its number. Heads are ordered by name, and those of

@@ -1,6 +1,6 @@
 //! The nodes of an image: each by itself, and those of one record in a chain.
 //!
-//! Model: the parts of an image (`pst_form`), where a node is its number, and a valid shape (`pst_base`).
+//! Model: the parts of an image (`pst_image_form`), where a node is its number, and a valid shape (`pst_base`).
 //!
 //! Contract: `are_nodes` says exactly whether each node is one of its type; it takes time by the number of slots and stamped values.
 //! `are_chained` says exactly whether the nodes of each record stand in one chain; it takes the time to sort their names.

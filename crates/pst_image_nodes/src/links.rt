@@ -6,7 +6,7 @@ ghost use Rattle.pst_image_nodes.specs.Chains.{IsSameName, IsNext};
 ghost use Rattle.pst_image_nodes.specs.Heads.{CanLead, IsMarking};
 
 use pst_base::{Name, NoMemory};
-use pst_form::NodePart;
+use pst_image_form::NodePart;
 use std::alloc::Global;
 
 /// Whether two names are those of one record.

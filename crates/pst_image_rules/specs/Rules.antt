@@ -1,7 +1,7 @@
 -- The rules of an image, and the first one that fails (this project's own rules: what makes the parts of an image those of a store).
 use Rattle.std.specs.Prelude.{ℕ, ◌<◌, List, Option, Some, None, ⊤}
 use Rattle.pst_base.specs.declared.shape.TypeShape.{TypeShape}
-use Rattle.pst_form.specs.declared.parts.ImageParts.{ImageParts}
+use Rattle.pst_image_form.specs.declared.parts.ImageParts.{ImageParts}
 use Rattle.pst_image_tree.specs.Versions.{IsInRange, AreNested}
 use Rattle.pst_image_nodes.specs.Nodes.{AreNodes}
 use Rattle.pst_image_nodes.specs.Chains.{AreChained}

@@ -6,7 +6,7 @@ ghost use Rattle.pst_image_rules.specs.Rules.{HoldBelow, IsJudged};
 
 use crate::rule::Rule;
 use pst_base::{NoMemory, Shape};
-use pst_form::ImageParts;
+use pst_image_form::ImageParts;
 use pst_image_mirror::{
     are_entries_pointed, are_pointers_entered, are_within_capacity, is_bounded,
 };

@@ -1,6 +1,6 @@
 //! The rules of an image, one after the other.
 //!
-//! Model: the parts of an image (`pst_form`), and the shape of its text's program (`pst_base`). A `Rule` says what an image has to meet,
+//! Model: the parts of an image (`pst_image_form`), and the shape of its text's program (`pst_base`). A `Rule` says what an image has to meet,
 //! and has a number; a rule rests on those of lower numbers.
 //!
 //! Contract: `first_failed` gives the first rule that fails of those that are asked of the parts, or nothing where all hold, by one

@@ -4,7 +4,7 @@ use Rattle.std.specs.List.{Contains}
 use Rattle.std.proofs.lemmas.Bool.{cases_eq, cases_lt}
 use Rattle.std.proofs.lemmas.List.{get_or_append_left}
 use Rattle.std.proofs.lemmas.List.Elements.{Contains-append_left, Contains-push}
-use Rattle.pst_form.specs.declared.parts.VersionPart.{VersionPart}
+use Rattle.pst_image_form.specs.declared.parts.VersionPart.{VersionPart}
 use Rattle.pst_image_tree.specs.Versions.{run_of, IsFurther, AreInside, IsOrderOfRuns}
 use Rattle.pst_image_tree.specs.Walk.{IsTable, IsOrderTo}
 

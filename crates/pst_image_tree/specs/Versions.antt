@@ -2,8 +2,8 @@
 -- stretch directly inside its parent's, a later child before an earlier one (the version list of Driscoll, Sarnak, Sleator and Tarjan).
 use Rattle.std.specs.Prelude.{◌≡◌, ℕ, ◌+◌, ◌*◌, ◌-◌, ◌^◌, ◌<◌, ◌≤◌, List, length, get_or, slice_index}
 use Rattle.std.specs.List.{Contains}
-use Rattle.pst_form.specs.declared.parts.VersionPart.{VersionPart}
-use Rattle.pst_form.specs.declared.parts.ImageParts.{ImageParts}
+use Rattle.pst_image_form.specs.declared.parts.VersionPart.{VersionPart}
+use Rattle.pst_image_form.specs.declared.parts.ImageParts.{ImageParts}
 
 -- the numbers of an image, apart from the text, the versions and the nodes
 pub record IsInRange (p : ImageParts) : Type 0 where

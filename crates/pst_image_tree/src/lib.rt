@@ -1,6 +1,6 @@
 //! The numbers and the versions of an image.
 //!
-//! Model: the parts of an image (`pst_form`). A version is its row of the list of versions, with a stretch of places; a place is its
+//! Model: the parts of an image (`pst_image_form`). A version is its row of the list of versions, with a stretch of places; a place is its
 //! position in the list of places, from 0.
 //!
 //! Contract: `is_in_range` says exactly whether the numbers are in their ranges. `are_nested` says exactly whether the versions are a

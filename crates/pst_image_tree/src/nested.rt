@@ -5,7 +5,7 @@ ghost use Rattle.pst_image_tree.specs.Versions.{version_at, HaveOwnRuns, IsOrder
 ghost use Rattle.pst_image_tree.specs.Walk.{IsTable, IsTabled};
 
 use pst_base::NoMemory;
-use pst_form::VersionPart;
+use pst_image_form::VersionPart;
 use std::alloc::Global;
 
 /// Whether this can be version 0.

@@ -3,7 +3,7 @@
 ghost use Rattle.std.specs.Prelude.{◌↔◌, IsTrue};
 ghost use Rattle.pst_image_tree.specs.Versions.{IsInRange};
 
-use pst_form::ImageParts;
+use pst_image_form::ImageParts;
 
 /// The highest budget of a run, in charges.
 const MOST_BUDGET: u32 = 1_000_000_000;

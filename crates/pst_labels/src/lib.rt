@@ -176,14 +176,18 @@ fn shifted(a: u64, by: u64) -> u64
     (a + by) % CIRCLE
 }
 
-// The k-th of j even shares, rounded down. The product is formed in 128 bits.
+// The k-th of j even shares, rounded down. The product is formed in 128 bits where 64 do not hold it: a place that is spread over as
+// little room as will do has a small one, and a division of 128 bits takes long.
 fn share(w: u64, k: u64, j: u64) -> u64
     requires w { w ≤ circle }
     requires k { k < j }
     ensures result { result ≡ w * k / j }
     ensures low { result ≤ circle }
 {
-    (w as u128 * k as u128 / j as u128) as u64
+    match w.checked_mul(k) {
+        Some(product) => product / j,
+        None => (w as u128 * k as u128 / j as u128) as u64,
+    }
 }
 
 // How many successors of a place are reached, and how far ahead of the place the last of them is.

@@ -236,8 +236,6 @@ fault_stuck (fault.Number l) true bad h = absurd h
 fault_stuck (fault.Number l) false bad (w, rest, e, d, all, ends, no') = rw e (word_stuck w rest (digit_front w rest d all ends))
 fault_stuck (fault.NameLength l) true bad h = absurd h
 fault_stuck (fault.NameLength l) false bad (w, rest, e, s, all, ends, long) = rw e (word_stuck w rest (letter_front w rest s all ends))
-fault_stuck fault.Memory true bad h = absurd h
-fault_stuck fault.Memory false bad h = absurd h
 
 -- a byte that begins no token
 abbrev IsNoFront : List ℕ → Type 0
@@ -296,7 +294,6 @@ token_no_fault t w rest (fault.NameLength l) p (x, r, e, s, all, ends, long) =
     let short = letter_token t w rest p (subst StartsWithLetter (sym both.0) s) in
     let same = ap length both.0 in
     omega arith
-token_no_fault t w rest fault.Memory p bad = bad
 
 -- two faults at one place are one
 pub fault_same : (f g : LexFault) (inside : Bool) (bad : List ℕ) → IsFault f inside bad → IsFault g inside bad → line_of f ≡ line_of g → f ≡ g
@@ -305,19 +302,15 @@ fault_same (fault.Byte l) (fault.Number k) true bad h g e = absurd g
 fault_same (fault.Byte l) (fault.Number k) false bad h (w, r, is, d, all, ends, no') e = absurd (word_no_byte w r (digit_front w r d all ends) (byte_front l bad w r is h))
 fault_same (fault.Byte l) (fault.NameLength k) true bad h g e = absurd g
 fault_same (fault.Byte l) (fault.NameLength k) false bad h (w, r, is, s, all, ends, long) e = absurd (word_no_byte w r (letter_front w r s all ends) (byte_front l bad w r is h))
-fault_same (fault.Byte l) fault.Memory inside bad h g e = absurd g
 fault_same (fault.Number l) g true bad h g' e = absurd h
 fault_same (fault.Number l) (fault.Byte k) false bad (w, r, is, d, all, ends, no') g e = absurd (word_no_byte w r (digit_front w r d all ends) (byte_front k bad w r is g))
 fault_same (fault.Number l) (fault.Number k) false bad h g e = ap fault.Number e
 fault_same (fault.Number l) (fault.NameLength k) false bad (w, r, is, d, all, ends, no') (x, v, is', s, all', ends', long) e =
     let both = word_front_same w x r v all all' ends ends' (sym is ∙ is') in
     absurd (starts_twice x s (subst StartsWithDigit both.0 d))
-fault_same (fault.Number l) fault.Memory false bad h g e = absurd g
 fault_same (fault.NameLength l) g true bad h g' e = absurd h
 fault_same (fault.NameLength l) (fault.Byte k) false bad (w, r, is, s, all, ends, long) g e = absurd (word_no_byte w r (letter_front w r s all ends) (byte_front k bad w r is g))
 fault_same (fault.NameLength l) (fault.Number k) false bad (w, r, is, s, all, ends, long) (x, v, is', d, all', ends', no') e =
     let both = word_front_same w x r v all all' ends ends' (sym is ∙ is') in
     absurd (starts_twice x (subst StartsWithLetter both.0 s) d)
 fault_same (fault.NameLength l) (fault.NameLength k) false bad h g e = ap fault.NameLength e
-fault_same (fault.NameLength l) fault.Memory false bad h g e = absurd g
-fault_same fault.Memory g inside bad h g' e = absurd h

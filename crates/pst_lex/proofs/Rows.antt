@@ -2,15 +2,12 @@
 use Rattle.std.specs.Prelude.{◌≡◌, ℕ, ◌+◌, ◌≤◌, ◌<◌, true, false, List, [], ◌∷◌, ◌++◌, length, Some, take, drop, ◌==◌, Ok, Err}
 use Rattle.std.proofs.Common.{refl, sym, ap, ◌∙◌, arith, drop-cons, length-take, length-drop, inl, inr}
 use Rattle.std.proofs.lemmas.Bool.Decides.{nat_tests}
-use Rattle.std.proofs.lemmas.List.Sums.{count_by-le-length}
 use Rattle.std.proofs.lemmas.List.{take-append-drop, take_all}
 use Rattle.pst_lex.specs.declared.types.Token.{Token}
 use Rattle.pst_lex.specs.declared.types.TokenKind.{TokenKind}
 use Rattle.pst_lex.specs.declared.faults.LexFault.{LexFault}
-use Rattle.pst_lex.specs.declared.faults.LexFault.TheVariants as fault
 use Rattle.pst_lex.specs.Bytes.{gap, feeds}
-use Rattle.pst_lex.specs.Lexing.{LexedTo, EndsAt}
-use Rattle.pst_lex.specs.Taking.{FaultsNext}
+use Rattle.pst_lex.specs.Lexing.{LexedTo, EndsAt, FaultsAt}
 use Rattle.pst_lex.specs.Pieces.{Skips, Takes}
 
 pub lexed-append : (End : List ℕ → ℕ → ℕ → Type 0) (text rest : List ℕ) (a l at line : ℕ) (ts us : List Token) →
@@ -26,7 +23,7 @@ lexed_ends End text rest a l at line (t ∷ ts) (blank, w, rest', is, g, tok, f,
     (blank, w, rest', is, g, tok, f, to, ln, lexed_ends End rest' rest _ _ at line ts more h)
 
 -- a byte that is not allowed in a comment
-pub skip_fault : (rest : List ℕ) (at line : ℕ) (f : LexFault) → Skips (Err f) rest line → FaultsNext f rest at line
+pub skip_fault : (rest : List ℕ) (at line : ℕ) (f : LexFault) → Skips (Err f) rest line → FaultsAt f rest at line
 skip_fault rest at line f (n, lt, g, bad, e) =
     rw e (take n rest, drop n rest, true, sym (take-append-drop n rest), g, rw (drop-cons rest n 0 lt) bad, refl)
 
@@ -34,11 +31,8 @@ gap_closed : (rest : List ℕ) (n l line : ℕ) → Skips (Ok (n, l)) rest line 
 gap_closed rest n l line (le, e, (inside, g, or)) lt = elim or [ inl all ↦ absurd (omega arith) | inr p ↦ g ∙ ap Some p.0 ]
 
 -- a fault in a token's place
-pub take_fault : (rest : List ℕ) (at line n l : ℕ) (f : LexFault) → Skips (Ok (n, l)) rest line → n < length rest → Takes (Err f) (drop n rest) l → FaultsNext f rest at line
-take_fault rest at line n l fault.Memory skips lt bad = tt
-take_fault rest at line n l (fault.Byte k) skips lt (bad, e) = (take n rest, drop n rest, false, sym (take-append-drop n rest), gap_closed rest n l line skips lt, bad, e ∙ skips.1)
-take_fault rest at line n l (fault.Number k) skips lt (bad, e) = (take n rest, drop n rest, false, sym (take-append-drop n rest), gap_closed rest n l line skips lt, bad, e ∙ skips.1)
-take_fault rest at line n l (fault.NameLength k) skips lt (bad, e) = (take n rest, drop n rest, false, sym (take-append-drop n rest), gap_closed rest n l line skips lt, bad, e ∙ skips.1)
+pub take_fault : (rest : List ℕ) (at line n l : ℕ) (f : LexFault) → Skips (Ok (n, l)) rest line → n < length rest → Takes (Err f) (drop n rest) l → FaultsAt f rest at line
+take_fault rest at line n l f skips lt (bad, e) = (take n rest, drop n rest, false, sym (take-append-drop n rest), gap_closed rest n l line skips lt, bad, e ∙ skips.1)
 
 -- a token
 pub take_token : (rest : List ℕ) (at line n l k : ℕ) (kind : TokenKind) → Skips (Ok (n, l)) rest line → n < length rest → Takes (Ok (kind, k)) (drop n rest) l →
@@ -74,6 +68,3 @@ zero_test n e = grind (arith, nat_tests)
 
 pub more_test : (n : ℕ) → false ≡ (n == 0) → 0 < n
 more_test n e = grind (arith, nat_tests)
-
-pub feeds_small : (n : ℕ) (rest : List ℕ) → feeds (take n rest) ≤ n
-feeds_small n rest = omega (arith, count_by-le-length (λ b. b == 10) (take n rest), length-take n rest)

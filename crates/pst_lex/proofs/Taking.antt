@@ -1,15 +1,13 @@
 -- Lemmas on taking the tokens of a text one after another.
-use Rattle.std.specs.Prelude.{◌≡◌, ◌==◌, ℕ, ◌<◌, ◌++◌, Bool, false, List, [], ◌∷◌, length, Err}
-use Rattle.std.proofs.Common.{refl, sym, ap, ◌∙◌, arith, length-append}
+use Rattle.std.specs.Prelude.{◌≡◌, ◌==◌, ℕ, ◌<◌, ◌++◌, Bool, false, List, [], ◌∷◌, Err}
+use Rattle.std.proofs.Common.{refl, sym, ap, ◌∙◌, arith}
 use Rattle.pst_lex.specs.declared.types.Token.{Token}
 use Rattle.pst_lex.specs.declared.faults.LexFault.{LexFault}
-use Rattle.pst_lex.specs.declared.faults.LexFault.TheVariants as fault
 use Rattle.pst_lex.specs.declared.lexer.Lexer.{Lexer}
 use Rattle.pst_lex.specs.Words.{word_of}
 use Rattle.pst_lex.specs.Lexing.{LexedTo, EndsAt, FaultsAt, HasLexing, Scans}
 use Rattle.pst_lex.specs.Pieces.{Leaves}
-use Rattle.pst_lex.specs.Taking.{Passes, FaultsNext, EndsThere, bytes_left}
-use Rattle.pst_lex.proofs.Fronts.{token_some}
+use Rattle.pst_lex.specs.Taking.{Passes, EndsThere, bytes_left}
 use Rattle.pst_lex.proofs.Rows.{lexed-append, lexed_ends, none_left, zero_test}
 use Rattle.pst_lex.proofs.Unique.{first_same, end_no_token, not_both_from}
 
@@ -33,19 +31,8 @@ end_of text rest at line at' line' end (t ∷ tokens) (inside, g, e) none (blank
     absurd (end_no_token line' (text, at, line, (inside, g, e), (word_of t.kind, blank, w, behind, is, gp, tok)))
 
 -- where tokens are left up to the end, no fault stands
-pub memory_of : (f : LexFault) (text : List ℕ) (at line : ℕ) (tokens : List Token) (end : ℕ) → FaultsNext f text at line → LexedTo (EndsAt end) text at line tokens → f ≡ fault.Memory
-memory_of fault.Memory text at line tokens end bad h = refl
-memory_of (fault.Byte l) text at line tokens end bad h = absurd (not_both_from text at line tokens [] end (fault.Byte l) h bad)
-memory_of (fault.Number l) text at line tokens end bad h = absurd (not_both_from text at line tokens [] end (fault.Number l) h bad)
-memory_of (fault.NameLength l) text at line tokens end bad h = absurd (not_both_from text at line tokens [] end (fault.NameLength l) h bad)
-
--- a token has a byte at least
-pub passes_less : (old new : Lexer) (t : Token) → Passes old (t ∷ []) new → bytes_left new < bytes_left old
-passes_less old new t (blank, w, rest, is, g, tok, f, to, ln, (r, a, l)) =
-    let some = token_some (word_of t.kind) w rest tok in
-    let whole = ap length is in
-    let same = ap length r in
-    omega (arith, some, whole, same, length-append blank (w ++ rest), length-append w rest)
+pub no_fault_of : (f : LexFault) (text : List ℕ) (at line : ℕ) (tokens : List Token) (end : ℕ) → FaultsAt f text at line → LexedTo (EndsAt end) text at line tokens → ⊥
+no_fault_of f text at line tokens end bad h = not_both_from text at line tokens [] end f h bad
 
 left_none : (text : List ℕ) (at line : ℕ) (tokens : List Token) (end : ℕ) → text ≡ [] → LexedTo (EndsAt end) text at line tokens → (tokens ≡ []) × (end ≡ line)
 left_none text at line [] end none (inside, g, e) = (refl, e ∙ rw none (omega arith))
@@ -66,8 +53,5 @@ pub looked_all : (text : List ℕ) (ts : List Token) (old new : Lexer) → Leave
 looked_all text ts old new h ends = (ts, new.line, lexed_ends (EndsAt new.line) text old.rest.now 0 1 old.at old.line ts h ends)
 
 -- a fault stands behind those that were looked at
-pub looked_bad : (text : List ℕ) (ts : List Token) (old : Lexer) (f : LexFault) → Leaves text ts old.rest.now old.at old.line → FaultsNext f old.rest.now old.at old.line → Scans (Err f) text
-looked_bad text ts old fault.Memory h bad = tt
-looked_bad text ts old (fault.Byte l) h bad = (ts, lexed_ends (FaultsAt (fault.Byte l)) text old.rest.now 0 1 old.at old.line ts h bad)
-looked_bad text ts old (fault.Number l) h bad = (ts, lexed_ends (FaultsAt (fault.Number l)) text old.rest.now 0 1 old.at old.line ts h bad)
-looked_bad text ts old (fault.NameLength l) h bad = (ts, lexed_ends (FaultsAt (fault.NameLength l)) text old.rest.now 0 1 old.at old.line ts h bad)
+pub looked_bad : (text : List ℕ) (ts : List Token) (old : Lexer) (f : LexFault) → Leaves text ts old.rest.now old.at old.line → FaultsAt f old.rest.now old.at old.line → Scans (Err f) text
+looked_bad text ts old f h bad = (ts, lexed_ends (FaultsAt f) text old.rest.now 0 1 old.at old.line ts h bad)

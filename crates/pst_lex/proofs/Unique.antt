@@ -143,18 +143,12 @@ no_fault text ws f h (us, k) = no_fault_after text 0 1 ws us f h k
 -- ---- what an answer says of a text of which something is known
 
 pub gives_no_fault : (r : Result (Unit {0}) LexFault) (text : List ℕ) → Scans r text → GivesNoFault r text
-gives_no_fault (Ok x) text h ts e g = tt
-gives_no_fault (Err fault.Memory) text h ts e g = refl
-gives_no_fault (Err (fault.Byte l)) text h ts e g = absurd (not_both text ts e (fault.Byte l) g h)
-gives_no_fault (Err (fault.Number l)) text h ts e g = absurd (not_both text ts e (fault.Number l) g h)
-gives_no_fault (Err (fault.NameLength l)) text h ts e g = absurd (not_both text ts e (fault.NameLength l) g h)
+gives_no_fault (Ok x) text h ts e g = refl
+gives_no_fault (Err f) text h ts e g = absurd (not_both text ts e f g h)
 
 pub gives_fault : (r : Result (Unit {0}) LexFault) (text : List ℕ) → Scans r text → GivesFault r text
-gives_fault (Ok x) text (ts, e, h) f g = not_both text ts e f h g
-gives_fault (Err fault.Memory) text h f g = inr refl
-gives_fault (Err (fault.Byte l)) text h f g = inl (one_fault text (fault.Byte l) f h g)
-gives_fault (Err (fault.Number l)) text h f g = inl (one_fault text (fault.Number l) f h g)
-gives_fault (Err (fault.NameLength l)) text h f g = inl (one_fault text (fault.NameLength l) f h g)
+gives_fault (Ok x) text (ts, e, h) f g = absurd (not_both text ts e f h g)
+gives_fault (Err h) text bad f g = ap Err (one_fault text h f bad g)
 
 -- ---- what tokens are, and how they stand
 

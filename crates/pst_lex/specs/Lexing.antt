@@ -1,5 +1,5 @@
 -- Which tokens a text has, and where its first fault stands.
-use Rattle.std.specs.Prelude.{take, drop, ◌≡◌, ℕ, ◌+◌, ◌^◌, ◌≤◌, ◌<◌, Bool, true, false, List, [], ◌∷◌, ◌++◌, length, Some, None, Result, Ok, Err, pos, negsuc, IfErr, IsErrAnd, ◌⊎◌}
+use Rattle.std.specs.Prelude.{take, drop, ◌≡◌, ℕ, ◌+◌, ◌^◌, ◌≤◌, ◌<◌, Bool, true, false, List, [], ◌∷◌, ◌++◌, length, Some, None, Result, Ok, Err, pos, negsuc}
 use Rattle.std.specs.Bool.{OnTrue}
 use Rattle.std.specs.List.{list_all}
 use Rattle.std.specs.Fmt.{decimal}
@@ -74,14 +74,12 @@ IsFault (fault.Number line) false bs =
 IsFault (fault.NameLength line) true bs = ⊥
 IsFault (fault.NameLength line) false bs =
     (w : List ℕ) × (rest : List ℕ) × (bs ≡ w ++ rest) × StartsWithLetter w × (list_all is_word w ≡ true) × EndsWord rest × (32 < length w)
-IsFault fault.Memory inside bs = ⊥
 
 -- the line of a fault
 abbrev pub line_of : LexFault → ℕ
 line_of (fault.Byte line) = line
 line_of (fault.Number line) = line
 line_of (fault.NameLength line) = line
-line_of fault.Memory = 0
 
 -- behind the last token stand white bytes and comments, and then the fault, on its line
 abbrev pub FaultsAt : LexFault → List ℕ → ℕ → ℕ → Type 0
@@ -96,13 +94,10 @@ Faults text f = (tokens : List Token) × LexedTo (FaultsAt f) text 0 1 tokens
 abbrev pub HasLexing : List ℕ → Type 0
 HasLexing text = (tokens : List Token) × (end : ℕ) × Lexes text tokens end
 
--- what looking at a whole text tells: that it has tokens, or its first fault, unless memory ran out
+-- what looking at a whole text tells: that it has tokens, or its first fault
 abbrev pub Scans : Result (Unit {0}) LexFault → List ℕ → Type 0
 Scans (Ok x) text = HasLexing text
-Scans (Err fault.Memory) text = Unit {0}
-Scans (Err (fault.Byte line)) text = Faults text (fault.Byte line)
-Scans (Err (fault.Number line)) text = Faults text (fault.Number line)
-Scans (Err (fault.NameLength line)) text = Faults text (fault.NameLength line)
+Scans (Err f) text = Faults text f
 
 -- ---- tokens without places
 
@@ -142,13 +137,13 @@ AreInPlace text (t ∷ ts) = (bytes_at text t.span ≡ spelling (word_of t.kind)
 
 -- ---- what is answered for a text of which something is known
 
--- in a text with tokens no fault is found, unless memory ran out
+-- in a text with tokens no fault is found
 abbrev pub GivesNoFault : Result (Unit {0}) LexFault → List ℕ → Type 0
-GivesNoFault result text = (ts : List Token) (e : ℕ) → Lexes text ts e → IfErr result (λ f. f ≡ fault.Memory)
+GivesNoFault result text = (ts : List Token) (e : ℕ) → Lexes text ts e → result ≡ Ok tt
 
--- a text with this fault gives it, unless memory ran out
+-- a text with this fault gives it
 abbrev pub GivesFault : Result (Unit {0}) LexFault → List ℕ → Type 0
-GivesFault result text = (f : LexFault) → Faults text f → IsErrAnd result (λ g. (g ≡ f) ⊎ (g ≡ fault.Memory))
+GivesFault result text = (f : LexFault) → Faults text f → result ≡ Err f
 
 -- ---- a text is read in one way
 

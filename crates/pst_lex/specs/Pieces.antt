@@ -7,7 +7,7 @@ use Rattle.pst_lex.specs.declared.faults.LexFault.TheVariants as fault
 use Rattle.pst_lex.specs.declared.types.Token.{Token}
 use Rattle.pst_lex.specs.Bytes.{is_symbol, NoPair, EndsWord, gap_step, gap, feeds}
 use Rattle.pst_lex.specs.Words.{word_of, symbol_of, mark_text}
-use Rattle.pst_lex.specs.Lexing.{LexedTo, IsToken, IsFault}
+use Rattle.pst_lex.specs.Lexing.{LexedTo, IsToken, IsFault, line_of}
 
 -- the digits write this number
 abbrev pub Writes : Option ℕ → List ℕ → Type 0
@@ -33,10 +33,9 @@ IsPair (Some n) (a ∷ b ∷ rest) = IsSomeAnd (symbol_of n) (λ m. mark_text m 
 IsPair None [] = Unit {0}
 IsPair None (a ∷ rest) = NoPair a rest
 
--- the token that a word is, whatever follows it but more of the word; or memory ran out
-abbrev pub IsNameKind : Result TokenKind LexFault → List ℕ → Type 0
-IsNameKind (Ok kind) w = (rest : List ℕ) → EndsWord rest → IsToken (word_of kind) w rest
-IsNameKind (Err f) w = f ≡ fault.Memory
+-- the token that a word is, whatever follows it but more of the word
+abbrev pub IsNameKind : TokenKind → List ℕ → Type 0
+IsNameKind kind w = (rest : List ℕ) → EndsWord rest → IsToken (word_of kind) w rest
 
 -- after these tokens exactly the rest is left, at this place and line
 abbrev pub Leaves : List ℕ → List Token → List ℕ → ℕ → ℕ → Type 0
@@ -50,10 +49,7 @@ Skips (Ok x) text line =
 Skips (Err f) text line =
     (n : ℕ) × (n < length text) × (gap false (take n text) ≡ Some true) × (gap_step true (slice_index text n) ≡ None) × (f ≡ fault.Byte (line + feeds (take n text)))
 
--- a token at the front and its length, or a fault there, unless memory ran out
+-- a token at the front and its length, or a fault there
 abbrev pub Takes : Result (TokenKind × ℕ) LexFault → List ℕ → ℕ → Type 0
 Takes (Ok x) text line = (x.1 ≤ length text) × (0 < x.1) × IsToken (word_of x.0) (take x.1 text) (drop x.1 text)
-Takes (Err fault.Memory) text line = Unit {0}
-Takes (Err (fault.Byte l)) text line = IsFault (fault.Byte l) false text × (l ≡ line)
-Takes (Err (fault.Number l)) text line = IsFault (fault.Number l) false text × (l ≡ line)
-Takes (Err (fault.NameLength l)) text line = IsFault (fault.NameLength l) false text × (l ≡ line)
+Takes (Err f) text line = IsFault f false text × (line_of f ≡ line)

@@ -2,7 +2,6 @@
 use Rattle.std.specs.Prelude.{◌≡◌, ◌==◌, ℕ, Bool, true, List, [], ◌∷◌, length, Option, Some, None, Result, Ok, Err}
 use Rattle.pst_lex.specs.declared.types.Token.{Token}
 use Rattle.pst_lex.specs.declared.faults.LexFault.{LexFault}
-use Rattle.pst_lex.specs.declared.faults.LexFault.TheVariants as fault
 use Rattle.pst_lex.specs.declared.lexer.Lexer.{Lexer}
 use Rattle.pst_lex.specs.Lexing.{LexedTo, EndsAt, FaultsAt}
 
@@ -18,26 +17,19 @@ Left lexer tokens end = LexedTo (EndsAt end) lexer.rest.now lexer.at lexer.line 
 abbrev pub Passes : (old : Lexer) → List Token → (new : Lexer) → Type 0
 Passes old tokens new = LexedTo (λ rest at line. (rest ≡ new.rest.now) × (at ≡ new.at) × (line ≡ new.line)) old.rest.now old.at old.line tokens
 
--- this fault stands in the next token's place, or memory ran out
-abbrev pub FaultsNext : LexFault → (rest : List ℕ) → (at line : ℕ) → Type 0
-FaultsNext fault.Memory rest at line = Unit {0}
-FaultsNext (fault.Byte l) rest at line = FaultsAt (fault.Byte l) rest at line
-FaultsNext (fault.Number l) rest at line = FaultsAt (fault.Number l) rest at line
-FaultsNext (fault.NameLength l) rest at line = FaultsAt (fault.NameLength l) rest at line
-
--- one token is taken; or the end of the text is reached, on its line; or a fault stands there, or memory ran out, and nothing is taken
+-- one token is taken; or the end of the text is reached, on its line; or a fault stands there, and nothing is taken
 abbrev pub TakesNext : Result (Option Token) LexFault → (old new : Lexer) → Type 0
 TakesNext (Ok (Some t)) old new = Passes old (t ∷ []) new
 TakesNext (Ok None) old new = EndsAt new.line old.rest.now old.at old.line × (new.rest.now ≡ [])
-TakesNext (Err f) old new = FaultsNext f old.rest.now old.at old.line × Passes old [] new
+TakesNext (Err f) old new = FaultsAt f old.rest.now old.at old.line × Passes old [] new
 
 -- what is taken of a text that has these tokens left
 abbrev pub TakesOf : Result (Option Token) LexFault → (new : Lexer) → List Token → (end : ℕ) → Type 0
 TakesOf (Ok (Some t)) new tokens end = (more : List Token) × (tokens ≡ t ∷ more) × Left new more end
 TakesOf (Ok None) new tokens end = (tokens ≡ []) × Left new [] end
-TakesOf (Err f) new tokens end = (f ≡ fault.Memory) × Left new tokens end
+TakesOf (Err f) new tokens end = ⊥
 
--- where tokens are left, the first of them is taken, unless memory ran out
+-- where tokens are left, the first of them is taken
 abbrev pub TakesFromLeft : Result (Option Token) LexFault → (old new : Lexer) → Type 0
 TakesFromLeft result old new = (tokens : List Token) (end : ℕ) → Left old tokens end → TakesOf result new tokens end
 

@@ -1,9 +1,8 @@
 //! Why a text has no tokens.
 
-use std::alloc::{AllocError, AllocFailed};
 use thiserror::Error;
 
-/// The first fault of a text, with its line from 1, or want of memory.
+/// The first fault of a text, with its line from 1.
 #[derive(Clone, Copy, Debug, PartialEq, Eq, Error)]
 pub enum LexFault {
     /// A byte that may not stand there.
@@ -15,29 +14,4 @@ pub enum LexFault {
     /// A name of more than 32 bytes.
     #[error("name-length at {line}")]
     NameLength { line: u32 },
-    /// Want of memory.
-    #[error("out of memory")]
-    Memory,
-}
-
-impl<T: Drop> From<AllocFailed<T>> for LexFault {
-    ghost use Rattle.std.specs.Prelude.{◌≡◌};
-    ghost use Rattle.pst_lex.specs.declared.faults.LexFault.TheVariants.{Memory};
-
-    ghost from_gives = { λ _ e. e ≡ Memory };
-
-    fn from(_e: AllocFailed<T>) -> Self {
-        LexFault::Memory
-    }
-}
-
-impl From<AllocError> for LexFault {
-    ghost use Rattle.std.specs.Prelude.{◌≡◌};
-    ghost use Rattle.pst_lex.specs.declared.faults.LexFault.TheVariants.{Memory};
-
-    ghost from_gives = { λ _ e. e ≡ Memory };
-
-    fn from(_e: AllocError) -> Self {
-        LexFault::Memory
-    }
 }

@@ -7,7 +7,6 @@ use crate::faults::LexFault;
 use crate::gaps::gap_length;
 use crate::pieces::first_token;
 use crate::types::{Span, Token, TokenKind};
-use std::alloc::Global;
 
 /// A text whose first tokens were taken: the bytes behind them, and their place and line. It keeps no token.
 #[derive(Drop)]
@@ -20,9 +19,9 @@ pub struct Lexer<'a> {
 }
 
 /// A token with its bytes, from one place of the text up to another.
-fn token(kind: TokenKind, from: usize, to: usize, line: u32) -> Token
+fn token<'a>(kind: TokenKind<'a>, from: usize, to: usize, line: u32) -> Token<'a>
     requires { (from < 2 ^ 32) × (to < 2 ^ 32) }
-    ensures { result ≡ record { kind = kind; span = record { from = from; to = to }; line = line } }
+    ensures { result ≡ record { kind = kind.entry; span = record { from = from; to = to }; line = line } }
 {
     Token {
         kind,
@@ -52,8 +51,8 @@ impl<'a> Lexer<'a> {
     /// Takes the next token, or finds the end of the text.
     ///
     /// # Errors
-    /// The fault that stands in the next token's place, or `Memory`. The text is left as it was.
-    pub fn next_token(&mut self, alloc: Global) -> Result<Option<Token>, LexFault>
+    /// The fault that stands in the next token's place. The text is left as it was.
+    pub fn next_token(&mut self) -> Result<Option<Token<'a>>, LexFault>
         ensures exact { TakesNext result self.old self.new }
         ensures left { TakesFromLeft result self.old self.new }
         ensures fewer { IfOk result (λ next. IfSome next (λ _. bytes_left self.new < bytes_left self.old)) }
@@ -69,7 +68,7 @@ impl<'a> Lexer<'a> {
             };
             return Ok(None);
         }
-        let (kind, length) = first_token(alloc, bytes, line)?;
+        let (kind, length) = first_token(bytes, line)?;
         let to = from + length;
         let (_, rest) = bytes.split_at(length);
         *self = Lexer { rest, at: to, line };
@@ -95,15 +94,15 @@ impl<'a> Lexer<'a> {
 /// Looks at the whole of a text of fewer than 4,294,967,295 bytes, and keeps nothing: answers whether it has tokens.
 ///
 /// # Errors
-/// The first fault in the text, or `Memory`.
-pub fn find_fault(alloc: Global, text: &[u8]) -> Result<(), LexFault>
+/// The first fault in the text.
+pub fn find_fault(text: &[u8]) -> Result<(), LexFault>
     requires { length text.now + 1 < 2 ^ 32 }
     ensures exact { Scans result text.now }
     ensures tokens { GivesNoFault result text.now }
     ensures fault { GivesFault result text.now }
 {
     let mut lexer = Lexer::new(text);
-    while let Some(token) = lexer.next_token(alloc)? {
+    while let Some(token) = lexer.next_token()? {
         drop(token);
     }
     Ok(())

@@ -8,9 +8,8 @@ ghost use Rattle.pst_lex.specs.Pieces.{IsNameKind, IsPair, IsSingle, leading_zer
 
 use crate::bytes::{is_digit, is_letter, is_word};
 use crate::faults::LexFault;
-use crate::types::TokenKind;
-use pst_base::{Text, keyword_number};
-use std::alloc::Global;
+use crate::types::{Name, TokenKind};
+use pst_base::keyword_number;
 
 /// The greatest length of a name, in bytes.
 const LONGEST_NAME: usize = 32;
@@ -59,20 +58,20 @@ fn number(word: &[u8]) -> Option<u64>
 }
 
 /// What a word is that begins with a letter or `_` and is not too long: a keyword, or a name.
-fn name_kind(alloc: Global, word: &[u8]) -> Result<TokenKind, LexFault>
+fn name_kind<'a>(word: &'a [u8]) -> TokenKind<'a>
     requires starts { StartsWithLetter word.now }
     requires all { list_all is_word_byte word.now ≡ true }
     requires short { length word.now ≤ 32 }
     ensures { IsNameKind result word.now }
 {
     match keyword_number(word) {
-        Some(position) => Ok(TokenKind::Keyword(position)),
-        None => Ok(TokenKind::Name(Text::from_vec(word.to_vec(alloc)?))),
+        Some(position) => TokenKind::Keyword(position),
+        None => TokenKind::Name(Name::new(word)),
     }
 }
 
 /// A name or keyword at the front, as long as it can be, and its length.
-fn name(alloc: Global, text: &[u8], line: u32) -> Result<(TokenKind, usize), LexFault>
+fn name<'a>(text: &'a [u8], line: u32) -> Result<(TokenKind<'a>, usize), LexFault>
     requires { StartsWithLetter text.now }
     ensures { Takes result text.now line }
 {
@@ -80,12 +79,11 @@ fn name(alloc: Global, text: &[u8], line: u32) -> Result<(TokenKind, usize), Lex
     if length > LONGEST_NAME {
         return Err(LexFault::NameLength { line });
     }
-    let kind = name_kind(alloc, &text[..length])?;
-    Ok((kind, length))
+    Ok((name_kind(&text[..length]), length))
 }
 
 /// A number at the front, as long as it can be, and its length.
-fn numeral(text: &[u8], line: u32) -> Result<(TokenKind, usize), LexFault>
+fn numeral<'a>(text: &'a [u8], line: u32) -> Result<(TokenKind<'a>, usize), LexFault>
     requires { StartsWithDigit text.now }
     ensures { Takes result text.now line }
 {
@@ -135,7 +133,7 @@ fn pair(text: &[u8]) -> Option<u8>
 }
 
 /// A symbol at the front, the longer one first, and its length.
-fn symbol(text: &[u8], line: u32) -> Result<(TokenKind, usize), LexFault>
+fn symbol<'a>(text: &'a [u8], line: u32) -> Result<(TokenKind<'a>, usize), LexFault>
     requires some { 0 < length text.now }
     requires no_gap { gap_step false (slice_index text.now 0) ≡ None }
     requires no_word { is_word_byte (slice_index text.now 0) ≡ false }
@@ -151,14 +149,14 @@ fn symbol(text: &[u8], line: u32) -> Result<(TokenKind, usize), LexFault>
 }
 
 /// The token at the front, and its length.
-pub fn first_token(alloc: Global, text: &[u8], line: u32) -> Result<(TokenKind, usize), LexFault>
+pub fn first_token<'a>(text: &'a [u8], line: u32) -> Result<(TokenKind<'a>, usize), LexFault>
     requires some { 0 < length text.now }
     requires no_gap { gap_step false (slice_index text.now 0) ≡ None }
     ensures { Takes result text.now line }
 {
     let first = text[0];
     if is_letter(first) {
-        name(alloc, text, line)
+        name(text, line)
     } else if is_digit(first) {
         numeral(text, line)
     } else {

@@ -110,7 +110,7 @@ fn symbol(index: u8) -> Option<Mark>
 }
 
 /// The keyword or symbol that a token is, if it is one.
-pub fn mark_at(kind: &TokenKind) -> Option<Mark>
+pub fn mark_at(kind: &TokenKind<'_>) -> Option<Mark>
     ensures exact { result ≡ mark_of kind.now }
     ensures word { IfSome result (λ m. word_of kind.now ≡ Fixed m) }
     ensures no_word { IfNone result ((m : Mark) → word_of kind.now ≢ Fixed m) }

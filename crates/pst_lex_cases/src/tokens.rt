@@ -9,13 +9,13 @@ const SMALL: usize = 1_000;
 
 /// The line of a token, its first byte and the one behind its last, and what it is: a name by its bytes, a number, or the
 /// position of a keyword (`k`) or symbol (`s`).
-fn shown(alloc: Global, token: &Token) -> Result<String, AllocError> {
+fn shown(alloc: Global, token: &Token<'_>) -> Result<String, AllocError> {
     let line = token.line;
     let from = token.span.from;
     let to = token.span.to;
     match &token.kind {
         TokenKind::Name(name) => {
-            let text = std::str::from_utf8(name.as_slice()).unwrap_or("?");
+            let text = std::str::from_utf8(name.bytes()).unwrap_or("?");
             format!(in alloc; "{line}:{from}-{to} {text}; ")
         }
         TokenKind::Number(value) => format!(in alloc; "{line}:{from}-{to} {value}; "),
@@ -33,7 +33,7 @@ fn all_shown(alloc: Global, text: &[u8]) -> Result<String, Fail> {
     let mut lexer = Lexer::new(text);
     // A token has a byte at least, so there are fewer than that.
     for _ in 0..SMALL {
-        match lexer.next_token(alloc)? {
+        match lexer.next_token()? {
             None => break,
             Some(token) => all.push_str(shown(alloc, &token)?.as_str())?,
         }
@@ -118,36 +118,28 @@ fn marks_are_keywords_and_symbols(rt: HostRuntime) {
 
 #[test]
 fn fault_behind_tokens_is_found(rt: HostRuntime) {
-    let alloc = rt.alloc();
-    assert_eq!(rt; find_fault(alloc, b"a = 1; # of four"), Ok(()));
-    assert_eq!(rt;
-        find_fault(alloc, b"a =\n007"),
-        Err(LexFault::Number { line: 2 })
-    );
-    assert_eq!(rt;
-        find_fault(alloc, b"# \x07"),
-        Err(LexFault::Byte { line: 1 })
-    );
+    assert_eq!(rt; find_fault(b"a = 1; # of four"), Ok(()));
+    assert_eq!(rt; find_fault(b"a =\n007"), Err(LexFault::Number { line: 2 }));
+    assert_eq!(rt; find_fault(b"# \x07"), Err(LexFault::Byte { line: 1 }));
 }
 
 #[test]
 fn lexer_stays_before_a_fault_and_at_the_end(rt: HostRuntime) -> Result<(), Fail> {
-    let alloc = rt.alloc();
     let mut lexer = Lexer::new(b"a\n&");
-    assert!(rt; lexer.next_token(alloc)?.is_some());
-    assert!(rt; lexer.next_token(alloc).is_err());
+    assert!(rt; lexer.next_token()?.is_some());
+    assert!(rt; lexer.next_token().is_err());
     assert_eq!(rt; lexer.line(), 1);
     assert!(rt; !lexer.is_at_end());
     let mut lexer = Lexer::new(b"a # b\n");
-    assert!(rt; lexer.next_token(alloc)?.is_some());
-    assert!(rt; lexer.next_token(alloc)?.is_none());
-    assert!(rt; lexer.next_token(alloc)?.is_none());
+    assert!(rt; lexer.next_token()?.is_some());
+    assert!(rt; lexer.next_token()?.is_none());
+    assert!(rt; lexer.next_token()?.is_none());
     assert_eq!(rt; lexer.line(), 2);
     assert!(rt; lexer.is_at_end());
     Ok(())
 }
 
 #[test]
-fn token_takes_48_bytes(rt: HostRuntime) {
-    assert_eq!(rt; size_of::<Token>(), 48);
+fn token_takes_40_bytes(rt: HostRuntime) {
+    assert_eq!(rt; size_of::<Token>(), 40);
 }

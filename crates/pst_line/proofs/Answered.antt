@@ -36,12 +36,6 @@ slot_there shape t made nodes x f k l n e =
 
 -- a store, as it is seen and as it is
 module _ (s g : Held) (e : s ≡ g) (h : IsHeld s) where
-  pub seen_held : IsHeld g
-  seen_held = subst IsHeld e h
-
-  pub all_linked : AreLinked (line_of (λ i. true) s.nodes)
-  all_linked = linked s.shape (length s.versions) (is_made s.versions s.opened) s.nodes h.stored.line
-
   module _ (at : LinePlace) (r : NodeId) (f x : ℕ) (l : (state_of (stored_of g)).live at r) (c : Covers (line_of (λ i. true) s.nodes) x at.stamp) (home : (line_of (λ i. true) s.nodes).home x ≡ (line_of (λ i. true) s.nodes).home r.0) where
     live_s : (state_of (stored_of s)).live at r
     live_s = subst (λ (g : Held). (state_of (stored_of g)).live at r) (sym e) l

@@ -13,7 +13,7 @@ use Rattle.pst_line_nodes.specs.declared.content.Content.TheVariants.{Number, Nu
 use Rattle.pst_line_nodes.specs.Line.{Covers, IsNewest, IsLive, IsLine}
 use Rattle.pst_line_nodes.specs.Changes.{IsSet, IsNulled, IsPointed}
 use Rattle.pst_line_nodes.specs.Seen.{Seen}
-use Rattle.pst_line_nodes.specs.Nodes.{line_of, AreKept, AreLinked, IsFieldSet}
+use Rattle.pst_line_nodes.specs.Nodes.{line_of, AreKept, IsFieldSet}
 use Rattle.pst_line_nodes.specs.Carried.{IsFieldNulled, IsFieldPointed, IsOpenSlot, AreAllOthers}
 use Rattle.pst_line_nodes.proofs.Copy.{covers_last}
 use Rattle.pst_line_nodes.proofs.Degree.{full_law}
@@ -29,7 +29,7 @@ use Rattle.pst_line.specs.Entered.{line_with}
 use Rattle.pst_line.specs.Back.{CanBeHeld, MayPutBack, HasPutBack, IsGoing, step_of}
 use Rattle.pst_line.proofs.Undoing.{end_law}
 use Rattle.pst_line.proofs.PutBack.{pointer_kind, put_back_law, room_law}
-use Rattle.pst_line.proofs.Answered.{covers_all, linked, slot_there}
+use Rattle.pst_line.proofs.Answered.{covers_all, slot_there}
 use Rattle.pst_line.proofs.Entering.{newest_all, stamp_is}
 use Rattle.pst_line.proofs.Ends.{kind_below}
 use Rattle.pst_line.proofs.Roots.{RootsStay, stay_same, have_roots}
@@ -65,9 +65,6 @@ module _ (shape : List TypeShape) (made : ℕ → Bool) (t : ℕ) (nodes : List 
   module _ (y : ℕ) (e : u.content ≡ Target y) where
     pub target_exists : y < length nodes
     target_exists = (m.target y e).live.there
-
-    pub target_begun : (line_of (λ i. true) nodes).first y ≤ t
-    target_begun = (m.target y e).live.begun
 
     module _ (z : ℕ) (cz : Covers (line_of (λ i. true) nodes) z t) (hz : (line_of (λ i. true) nodes).home z ≡ (line_of (λ i. true) nodes).home y) where
       newest_z : IsNewestOf (line_of made nodes) t y z
@@ -126,9 +123,6 @@ module _ (s : Held) (ns : List Seen) (t : ℕ) (v : Undo) (es : List Undo) (i : 
 
   pub entry_begun : (line_of (λ i. true) ns).first v.node.0 ≤ t
   entry_begun = omega (arith, live.begun, i.stamp)
-
-  pub entry_linked : AreLinked (line_of (λ i. true) ns)
-  entry_linked = linked s.shape (length s.versions) (is_made s.versions s.opened) ns i.stored.line
 
   module _ (x : ℕ) (c : Covers (line_of (λ i. true) ns) x t) (home : (line_of (λ i. true) ns).home x ≡ (line_of (λ i. true) ns).home v.node.0) where
     cover_s : Covers (line_in now) x (length s.versions)

@@ -1,5 +1,5 @@
 -- How a write ends that was entered.
-use Rattle.std.proofs.Common.{◌≡◌, ℕ, ◌<◌, Bool, true, false, List, length, Some, None, IsSome, ℤ, refl, sym, ap, ◌∙◌, subst, arith}
+use Rattle.std.proofs.Common.{◌≡◌, ℕ, ◌<◌, Bool, true, false, List, length, Some, None, ℤ, sym, ap, ◌∙◌, subst, arith}
 use Rattle.pst_base.specs.declared.names.NodeId.{NodeId}
 use Rattle.pst_base.specs.declared.names.Kind.{Kind}
 use Rattle.pst_base.specs.declared.names.Kind.TheVariants.{Int, Pointer}
@@ -42,17 +42,11 @@ at_stamp_pointer g at wr r f e = let p = pointer_kind (kind_in g.shape ((state_o
 
 -- g is the store before, and k that after the write was entered
 module _ (k n g : Held) (e : k ≡ n) (h : IsHeld g) (at : LinePlace) (wr : IsWritable (stored_of g) at) (r : NodeId) (f : ℕ) (live : (state_of (stored_of g)).live at r) (room : HasRoom (state_of (stored_of g))) (x : ℕ) (en : HasEntered g n r.0 f x) (t : ℕ) (t_is : t ≡ length g.versions) where
-  abbrev entered_as : Held
-  entered_as = record g { nodes = en.nodes; undo = with_entry (entry_at g en.nodes x f) g.undo; failed = true; root = en.root }
-
   path : k ≡ record g { nodes = en.nodes; undo = with_entry (entry_at g en.nodes x f) g.undo; failed = true; root = en.root }
   path = e ∙ en.is
 
   nodes_are : k.nodes ≡ en.nodes
   nodes_are = ap (λ (k : Held). k.nodes) path
-
-  some_opened : IsSome g.opened
-  some_opened = subst IsSome (sym wr.run.opened) refl
 
   slot_end : (q : Kind) → kind_in g.shape ((state_of (stored_of g)).heap at) ((line_in g).name r.0) f ≡ Some q → HasSlot k.nodes x f
   slot_end q kind = subst (λ (ns : List Seen). HasSlot ns x f) (sym nodes_are)

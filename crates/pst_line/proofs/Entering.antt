@@ -1,5 +1,5 @@
 -- A write makes room and is entered.
-use Rattle.std.proofs.Common.{◌≡◌, ℕ, ◌<◌, Bool, true, false, List, length, Some, IsSome, sym, ap, ◌∙◌, subst, ◌⊎◌, arith}
+use Rattle.std.proofs.Common.{◌≡◌, ℕ, ◌<◌, Bool, true, List, length, Some, IsSome, sym, ap, ◌∙◌, subst, ◌⊎◌, arith}
 use Rattle.pst_base.specs.declared.names.TypeNo.{TypeNo}
 use Rattle.pst_base.specs.declared.names.Kind.{Kind}
 use Rattle.pst_base.specs.Shape.{type_at, element_count}
@@ -40,14 +40,8 @@ module _ (s g : Held) (e : s ≡ g) (h : IsHeld s) (t : ℕ) (t_is : t ≡ lengt
   pub some_line : (made : ℕ → Bool) × IsLine s.shape t (line_of made s.nodes)
   some_line = (is_made s.versions s.opened, line_at)
 
-  pub some_kept : AreKept s.shape t s.nodes
-  some_kept = subst (λ (t : ℕ). AreKept s.shape t s.nodes) (sym stamp_is) h.kept
-
   pub newest_there : (x : ℕ) → Covers (line_of (λ i. true) s.nodes) x t → IsNewest (line_of (λ i. true) s.nodes) x
   newest_there x c = newest_all (is_made s.versions s.opened) (λ i. true) s.nodes x (covers_last s.shape t (line_in s) x line_at (covers_all (λ i. true) (is_made s.versions s.opened) s.nodes x t c))
-
-  pub quiet_there : g.failed ≡ false → IsQuiet (line_of (λ i. true) s.nodes) t
-  quiet_there w = quiet_all (is_made s.versions s.opened) (λ i. true) s.nodes t (subst (IsQuiet (line_in s)) (sym stamp_is) (h.rested (ap (λ (g : Held). g.failed) e ∙ w)).quiet)
 
   module _ (some : IsSome g.opened) (ns : List Seen) (carried : (made : ℕ → Bool) → IsLine s.shape t (line_of made s.nodes) → IsCarried s.shape t (line_of made s.nodes) (line_of made ns)) (kept : AreKept s.shape t ns) where
     carried_s : IsCarried s.shape (length s.versions) (line_in s) (line_with s ns)

@@ -4,6 +4,7 @@ use Rattle.std.proofs.lemmas.Bool.{cases_lt, cases_Bool, lt-ltb, ltb-true, le-le
 use Rattle.std.specs.Prelude.{All, nat_lt, slice_get}
 use Rattle.std.specs.Option.{option_map}
 use Rattle.std.specs.FinMap.{get}
+use Rattle.pst_base.proofs.Below.{get_or-listed, length-listed}
 use Rattle.pst_base.specs.declared.names.Name.{Name}
 use Rattle.pst_base.specs.declared.names.TypeNo.{TypeNo}
 use Rattle.pst_base.specs.declared.names.Kind.{Kind}
@@ -19,7 +20,6 @@ use Rattle.pst_line_nodes.specs.declared.content.Content.TheVariants.{Number, Nu
 use Rattle.pst_line_nodes.specs.Line.{Line, IsIn, denoted, number, heap_at, record_at}
 use Rattle.pst_line_nodes.specs.Changes.{IsMade, VersionsStay}
 use Rattle.pst_line_nodes.proofs.HeapLaws.{heap_has}
-use Rattle.pst_line_nodes.proofs.RecordLaws.{get_or-listed, length-listed}
 use Rattle.pst_line_nodes.proofs.Same.{pointer_field}
 use Rattle.pst_line_nodes.proofs.Copy.{covers_last}
 use Rattle.pst_line.specs.declared.place.Undo.{Undo}

@@ -1,13 +1,11 @@
 -- The undo list, as it lies in a map.
-use Rattle.std.proofs.Common.{◌≡◌, ℕ, ◌-◌, ◌<◌, ◌++◌, ◌||◌, Bool, true, false, cond, List, [], ◌∷◌, length, reverse, Option, Some, is_some, refl, sym, ap, ◌∙◌, arith, get_or}
+use Rattle.std.proofs.Common.{◌≡◌, ℕ, ◌-◌, ◌++◌, ◌||◌, Bool, true, false, cond, List, [], ◌∷◌, length, reverse, Option, Some, is_some, refl, sym, ap, ◌∙◌}
 use Rattle.std.proofs.lemmas.Bool.{false≢true}
-use Rattle.std.proofs.lemmas.List.{map-append, reverse-append, length-reverse, length-map, get_or-reverse}
+use Rattle.std.proofs.lemmas.List.{map-append, reverse-append, length-reverse, length-map}
 use Rattle.std.proofs.lemmas.List.Folds.{list_any-append}
-use Rattle.std.proofs.lemmas.Option.{slice_get-map, slice_get-get_or, get_or_from_slice_get}
-use Rattle.std.specs.Prelude.{◌==◌, ◌&&◌, slice_get, if◌then◌else◌}
+use Rattle.std.specs.Prelude.{◌==◌, ◌&&◌, if◌then◌else◌}
 use Rattle.std.specs.List.{list_any}
 use Rattle.std.specs.Map.{lookup}
-use Rattle.std.specs.Option.{option_map}
 use Rattle.indexmap.specs.IndexMap.{insert_entry}
 use Rattle.pst_line_nodes.specs.declared.content.Content.{Content}
 use Rattle.pst_line.specs.declared.place.Undo.{Undo}
@@ -59,13 +57,3 @@ module _ (es : List ((ℕ × ℕ) × Content)) (us : List Undo) (view : reverse 
 
   pub long : length es ≡ length us
   long = sym (length-map es entry_in) ∙ sym (length-reverse (entries_in es)) ∙ ap length view
-
-  -- the entry with a number, from the newest one on
-  pub entry_at_end : (k : ℕ) → k < length us → (e : (ℕ × ℕ) × Content) → Some e ≡ slice_get es (length es - 1 - k) → slice_get us k ≡ Some (entry_in e)
-  entry_at_end k l e is =
-      let at : slice_get (entries_in es) (length es - 1 - k) ≡ Some (entry_in e) = slice_get-map entry_in es (length es - 1 - k) ∙ ap (option_map entry_in) (sym is) in
-      let n : length (entries_in es) ≡ length es = length-map es entry_in in
-      let m : length (reverse (entries_in es)) ≡ length es = length-reverse (entries_in es) ∙ n in
-      let lo = long in
-      ap (λ us. slice_get us k) (sym view) ∙ slice_get-get_or (reverse (entries_in es)) k (entry_in e) (omega (arith, l, m, lo))
-      ∙ ap Some (get_or-reverse (entries_in es) k (entry_in e) (omega (arith, l, n, lo)) ∙ ap (λ n. get_or (entries_in es) (n - 1 - k) (entry_in e)) n ∙ get_or_from_slice_get (entries_in es) (length es - 1 - k) (entry_in e) (entry_in e) at)

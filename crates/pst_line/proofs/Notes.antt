@@ -6,6 +6,7 @@ use Rattle.std.proofs.lemmas.List.Elements.{All-append, All-map}
 use Rattle.std.specs.Prelude.{All, ◌==◌, ◌&&◌, ◌+◌, if◌then◌else◌}
 use Rattle.std.specs.Option.{option_map}
 use Rattle.std.specs.FinMap.{get}
+use Rattle.pst_base.proofs.Below.{length-listed}
 use Rattle.pst_base.specs.declared.names.Name.{Name}
 use Rattle.pst_base.specs.declared.names.TypeNo.{TypeNo}
 use Rattle.pst_base.specs.declared.names.Counts.{Counts}
@@ -17,7 +18,6 @@ use Rattle.pst_line_nodes.specs.Line.{Line, IsLine, heap_at, record_at, number, 
 use Rattle.pst_line_nodes.specs.Changes.{VersionsStay}
 use Rattle.pst_line_nodes.specs.Carried.{Went}
 use Rattle.pst_line_nodes.proofs.HeapLaws.{heap_has}
-use Rattle.pst_line_nodes.proofs.RecordLaws.{length-listed}
 use Rattle.pst_line_nodes.proofs.Same.{pointer_field}
 use Rattle.pst_line.specs.declared.place.Undo.{Undo}
 use Rattle.pst_line.specs.Store.{Stored, stamp}

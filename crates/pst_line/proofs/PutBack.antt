@@ -24,7 +24,8 @@ use Rattle.pst_line.specs.Store.{Stored, stamp, IsStored, IsRested}
 use Rattle.pst_line.specs.Undo.{put_back}
 use Rattle.pst_line.specs.Undoing.{CanUndo, Fits, IsNewestOf, IsPointedBack, IsPut, IsUndone, PutBackLaw, RoomLaw}
 use Rattle.pst_line.proofs.Stores.{same_after}
-use Rattle.pst_line.proofs.Undos.{went_set, can_undo_less}
+use Rattle.pst_line_nodes.proofs.Carrying.{went_set}
+use Rattle.pst_line.proofs.Undos.{can_undo_less}
 use Rattle.pst_line.proofs.Entries.{value_below, pointer_slot_at}
 
 -- ---- rest

@@ -3,6 +3,7 @@ use Rattle.std.proofs.Common.{◌≡◌, ℕ, ◌+◌, ◌-◌, ◌<◌, ◌≤�
 use Rattle.std.proofs.lemmas.Bool.{cases_lt}
 use Rattle.std.specs.Option.{option_map}
 use Rattle.std.specs.FinMap.{get}
+use Rattle.pst_base.proofs.Below.{get_or-listed, length-listed}
 use Rattle.pst_base.specs.declared.names.Kind.{Kind}
 use Rattle.pst_base.specs.declared.names.Kind.TheVariants.{Int, Pointer}
 use Rattle.pst_base.specs.Shape.{type_at, field_kind, element_count}
@@ -10,7 +11,6 @@ use Rattle.pst_base.specs.Heap.{Rec, IsPointer, type_in, kind_in, kind_from, val
 use Rattle.pst_line_nodes.specs.declared.content.Content.TheVariants.{Target}
 use Rattle.pst_line_nodes.specs.Line.{Covers, IsIn, IsLive, heap_at, record_at, number, denoted}
 use Rattle.pst_line_nodes.proofs.HeapLaws.{heap_has}
-use Rattle.pst_line_nodes.proofs.RecordLaws.{get_or-listed, length-listed}
 use Rattle.pst_line_nodes.proofs.Same.{pointer_field}
 use Rattle.pst_line_nodes.proofs.Copy.{covers_last}
 use Rattle.pst_line.specs.declared.place.LinePlace.{LinePlace}

@@ -2,6 +2,8 @@
 use Rattle.std.proofs.Common.{◌≡◌, ℕ, zero, suc, ◌+◌, ◌<◌, ◌≤◌, ◌&&◌, ◌||◌, Bool, true, false, cond, leb, ltb, List, length, Option, Some, None, pos, refl, sym, ap, ◌∙◌, subst, inl, inr, arith}
 use Rattle.std.proofs.lemmas.Bool.{false_from_ne_true, ltb-true}
 use Rattle.std.specs.FinMap.{empty, insert}
+use Rattle.pst_base.specs.Showing.{heap_shown_below}
+use Rattle.pst_base.specs.Below.{sum_below}
 use Rattle.pst_base.specs.declared.names.Name.{Name}
 use Rattle.pst_base.specs.declared.names.TypeNo.{TypeNo}
 use Rattle.pst_base.specs.declared.shape.TypeShape.{TypeShape}
@@ -10,7 +12,7 @@ use Rattle.pst_base.specs.Shape.{IsValid, type_at, root_type}
 use Rattle.pst_base.specs.Heap.{Rec, IsWellFormed, initial_heap, new_record}
 use Rattle.pst_base.proofs.WellFormed.{IsWellFormed-initial}
 use Rattle.pst_line_nodes.specs.declared.content.Content.TheVariants.{Target}
-use Rattle.pst_line_nodes.specs.Line.{Line, IsIn, IsLine, IsQuiet, HasKind, ends_by, if_newest, if_stale, stale_at, stale, potential, load, sum_below, number, denoted, heap_at, heap_below, record_at, record_of}
+use Rattle.pst_line_nodes.specs.Line.{Line, IsIn, IsLine, IsQuiet, HasKind, ends_by, if_newest, if_stale, stale_at, stale, potential, load, number, denoted, heap_at, showing, record_at, record_of}
 use Rattle.pst_line_nodes.specs.Changes.{default_content}
 use Rattle.pst_line_nodes.proofs.HeapLaws.{true-is_in}
 use Rattle.pst_line_nodes.proofs.Made.{listed-replicate, default_value, default_pointer, default_kind, default_plain}
@@ -86,7 +88,7 @@ module _ (shape : List TypeShape) (valid : IsValid shape) (w : Line) (d : IsRoot
 
   heap_0 : heap_at shape w 0 ≡ initial_heap shape
   heap_0 =
-      ap (heap_below shape w 0) d.one
+      ap (heap_shown_below (showing shape w 0)) d.one
       ∙ ap (λ b. cond b (insert empty (w.name 0) (record_at shape w 0 0)) empty) (true-is_in w 0 0 in_0)
       ∙ ap (λ (n : Name). insert empty n (record_at shape w 0 0)) d.name
       ∙ ap (λ (r : Rec). insert empty root_name r) record_0

@@ -3,12 +3,12 @@ use Rattle.std.proofs.Common.{◌≡◌, ◌≢◌, ℕ, zero, suc, ◌-◌, ◌
 use Rattle.std.proofs.Math.ListN.{set}
 use Rattle.std.proofs.lemmas.Bool.{cases_Bool}
 use Rattle.std.specs.FinMap.{get}
+use Rattle.pst_base.proofs.Showing.{same_heap}
 use Rattle.pst_base.specs.declared.names.Name.{Name}
 use Rattle.pst_base.specs.Name.{name_eq}
 use Rattle.pst_base.specs.Heap.{Rec, Heap, IsWellFormed, with_record, with_value, with_pointer, value_at, pointer_at, value_set, pointer_set, changed, new_record}
 use Rattle.pst_base.proofs.NameLemmas.{name_eq-true, name_eq-same}
 use Rattle.pst_base.proofs.Degrees.{get-with_record, with_value-at, with_pointer-at}
-use Rattle.pst_line_nodes.proofs.HeapLaws.{same_heap}
 use Rattle.pst_line.specs.Undo.{put_back, LeadsBack, ValueBackLaw, PointerBackLaw, EntryLaw, RecordBackLaw}
 use Rattle.pst_line_nodes.specs.declared.content.Content.{Content}
 use Rattle.pst_line_nodes.specs.declared.content.Content.TheVariants.{Number, Null, Target}

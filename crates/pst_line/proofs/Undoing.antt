@@ -2,6 +2,7 @@
 use Rattle.std.proofs.Common.{◌≡◌, ◌≢◌, ℕ, zero, suc, ◌+◌, ◌-◌, ◌<◌, ◌≤◌, Bool, true, false, ◌||◌, [], length, Option, Some, None, refl, sym, ap, ◌∙◌, inl, ⊎_elim, arith, leb, get_or, replicate}
 use Rattle.std.proofs.lemmas.Bool.{cases_lt, false≢true, le-leb}
 use Rattle.std.specs.FinMap.{get}
+use Rattle.pst_base.proofs.Below.{get_or-listed}
 use Rattle.pst_base.specs.declared.names.Name.{Name}
 use Rattle.pst_base.specs.Shape.{type_at}
 use Rattle.pst_base.specs.Heap.{Rec, new_record}
@@ -10,7 +11,6 @@ use Rattle.pst_line_nodes.specs.declared.content.Content.TheVariants.{Target}
 use Rattle.pst_line_nodes.specs.Line.{AreChained, Covers, IsIn, heap_at, record_at, denoted}
 use Rattle.pst_line_nodes.specs.Runs.{IsDropped}
 use Rattle.pst_line_nodes.proofs.HeapLaws.{heap_has, heap_shows, same_heaps}
-use Rattle.pst_line_nodes.proofs.RecordLaws.{get_or-listed}
 use Rattle.pst_line_nodes.proofs.Same.{pointer_field}
 use Rattle.pst_line_nodes.proofs.Runs.{drop_law}
 use Rattle.pst_line_nodes.proofs.Copy.{held_there}

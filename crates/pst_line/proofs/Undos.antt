@@ -1,6 +1,6 @@
 -- That a run can be undone, and what keeps it so.
-use Rattle.std.proofs.Common.{◌≡◌, ℕ, suc, ◌-◌, ◌<◌, ◌≤◌, List, [], ◌∷◌, map, Some, None, refl, sym, ap, ◌∙◌, subst, inl, inr, ⊎_elim, arith}
-use Rattle.std.proofs.lemmas.Bool.{cases_lt, cases_eq}
+use Rattle.std.proofs.Common.{◌≡◌, ℕ, suc, ◌-◌, ◌<◌, ◌≤◌, List, [], ◌∷◌, map, Some, None, refl, sym, ap, ◌∙◌, subst, ⊎_elim, arith}
+use Rattle.std.proofs.lemmas.Bool.{cases_lt}
 use Rattle.std.specs.Prelude.{All}
 use Rattle.std.specs.FinMap.{get}
 use Rattle.pst_base.specs.declared.names.Name.{Name}
@@ -13,75 +13,13 @@ use Rattle.pst_base.specs.Heap.{Heap, IsWellFormed, IsPointer, with_value, with_
 use Rattle.pst_line_nodes.specs.declared.content.Content.{Content}
 use Rattle.pst_line_nodes.specs.declared.content.Content.TheVariants.{Number, Null, Target}
 use Rattle.pst_line_nodes.specs.Line.{Line, denoted, heap_at}
-use Rattle.pst_line_nodes.specs.Changes.{IsSet, IsCopied, VersionsStay}
-use Rattle.pst_line_nodes.proofs.Same.{same_field}
+use Rattle.pst_line_nodes.specs.Changes.{VersionsStay}
 use Rattle.pst_line.specs.declared.place.Undo.{Undo}
 use Rattle.pst_line.specs.Store.{Stored, stamp}
 use Rattle.pst_line.specs.StoreLaws.{after}
 use Rattle.pst_line.specs.Undo.{put_back, LeadsBack}
 use Rattle.pst_line_nodes.specs.Carried.{IsSince, NodesStay, Went}
 use Rattle.pst_line.specs.Undoing.{mark_of, Fits, IsEntered, IsBase, CanUndo}
-
--- ---- what the steps are
-
-pub went_set : (old new : Line) (x f t k : ℕ) (c : Content) → IsSet old new x f t c k → Went old new t
-went_set old new x f t k c d = record {
-  nodes = record {
-    count = omega (arith, d.nodes.count);
-    home = λ i m. d.nodes.home i;
-    name = λ i m. d.nodes.name i;
-    ty = λ i m. d.nodes.ty i;
-    first = λ i m. d.nodes.first i;
-    since = λ h g s j n e. elim (same_field j g x f) [
-      | inl p ↦ ap (λ i. new.since i g) p.0 ∙ ap (new.since x) p.1 ∙ d.since
-      | inr ne ↦ d.other_since j g ne ∙ s j (record { there = omega (arith, n.there, d.nodes.count); last = sym (d.nodes.later j) ∙ n.last }) (sym (d.nodes.home j) ∙ e)
-    ];
-  };
-  copied = λ i m n. absurd (omega (arith, d.nodes.count));
-}
-
-pub went_copied : (old new : Line) (x t : ℕ) → IsCopied old new x t → Went old new t
-went_copied old new x t d = record {
-  nodes = record {
-    count = omega (arith, d.count);
-    home = d.home;
-    name = d.name;
-    ty = d.ty;
-    first = d.first;
-    since = λ h g s j n e. ⊎_elim
-        (λ (m : j < old.count). ⊎_elim
-        (λ (p : j ≡ x). absurd (let no : None ≡ Some old.count = sym n.last ∙ ap new.later p ∙ d.later_x in cc))
-        (λ (ne : j ≡ x → ⊥). d.since j g m ∙ s j (record { there = m; last = sym (d.later j m ne) ∙ n.last }) (sym (d.home j m) ∙ e))
-        (cases_eq j x))
-        (λ (m : old.count ≤ j). let z : j ≡ old.count = omega (arith, d.count, n.there) in ap (λ i. new.since i g) z ∙ d.since_z g)
-        (cases_lt j old.count);
-  };
-  copied = λ i m n. let z : i ≡ old.count = omega (arith, d.count) in record { from = x; there = d.newest.there; home = ap new.home z ∙ d.home_z; before = d.before };
-}
-
-pub went_trans : (a b c : Line) (t : ℕ) → Went a b t → Went b c t → Went a c t
-went_trans a b c t one two =
-    let p = one.nodes in
-    let q = two.nodes in
-    record {
-      nodes = record {
-        count = omega (arith, p.count, q.count);
-        home = λ i m. q.home i (omega (arith, p.count)) ∙ p.home i m;
-        name = λ i m. q.name i (omega (arith, p.count)) ∙ p.name i m;
-        ty = λ i m. q.ty i (omega (arith, p.count)) ∙ p.ty i m;
-        first = λ i m. q.first i (omega (arith, p.count)) ∙ p.first i m;
-        since = λ h g s. q.since h g (p.since h g s);
-      };
-      copied = λ i m n. ⊎_elim
-          (λ (l : i < b.count). let o = one.copied i m l in record { from = o.from; there = o.there; home = q.home i l ∙ o.home; before = o.before })
-          (λ (l : b.count ≤ i).
-          let o = two.copied i l n in
-          ⊎_elim
-          (λ (k : o.from < a.count). record { from = o.from; there = k; home = o.home ∙ p.home o.from k; before = omega (arith, o.before, p.first o.from k) })
-          (λ (k : a.count ≤ o.from). let e = one.copied o.from k o.there in record { from = e.from; there = e.there; home = o.home ∙ e.home; before = e.before })
-          (cases_lt o.from a.count))
-          (cases_lt i b.count);
-    }
 
 -- ---- names
 

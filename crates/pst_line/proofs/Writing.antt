@@ -27,7 +27,8 @@ use Rattle.pst_line.specs.Noted.{with_entry, IsOnce}
 use Rattle.pst_line.specs.Held.{Held, IsHeld, AreCounted, line_in, stored_of}
 use Rattle.pst_line.specs.Entered.{line_with, entry_at, HasMadeRoom}
 use Rattle.pst_line.proofs.Stores.{stored_after, unchanged, writes, formed_at, fail_law}
-use Rattle.pst_line.proofs.Undos.{went_set, fits_after, can_undo_same}
+use Rattle.pst_line_nodes.proofs.Carrying.{went_set}
+use Rattle.pst_line.proofs.Undos.{fits_after, can_undo_same}
 use Rattle.pst_line.proofs.Entries.{fits_held}
 use Rattle.pst_line.proofs.PutBack.{quiet_set}
 use Rattle.pst_line.proofs.Notes.{can_undo_written, once_more}

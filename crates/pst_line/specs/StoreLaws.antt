@@ -1,4 +1,5 @@
 -- What each change of a line store does to what it means, and that it keeps what it keeps.
+-- Letters: s is the store before and t after, w its nodes after, x and z nodes, f a field, v a number.
 use Rattle.std.specs.Prelude.{◌≡◌, ℕ, suc, ◌+◌, ◌<◌, ◌≤◌, true, false, ◌++◌, [], ◌∷◌, Some, None, ℤ}
 use Rattle.pst_base.specs.declared.names.NodeId.{NodeId}
 use Rattle.pst_base.specs.declared.names.RunNo.{RunNo}

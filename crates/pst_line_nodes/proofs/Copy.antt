@@ -1,17 +1,18 @@
 -- A full node is copied.
 use Rattle.std.proofs.Common.{◌≡◌, ◌≢◌, ℕ, ◌+◌, ◌<◌, ◌≤◌, true, false, cond, Option, Some, None, List, length, pos, refl, sym, ap, ◌∙◌, subst, ◌⊎◌, inl, inr, ⊎_elim, arith, leb, eqb}
 use Rattle.std.proofs.lemmas.Bool.{cases_eq, cases_lt, false≢true, eq-eqb, eqb-true, false_from_ne_true, le-leb, leb-true}
+use Rattle.pst_base.proofs.Below.{sum_below-falls, sum_below-le, sum_below-none, sum_below-ones}
+use Rattle.pst_base.specs.Below.{sum_below}
 use Rattle.pst_base.specs.declared.names.TypeNo.{TypeNo}
 use Rattle.pst_base.specs.declared.names.Kind.TheVariants.{Pointer}
 use Rattle.pst_base.specs.declared.shape.TypeShape.{TypeShape}
 use Rattle.pst_base.specs.Shape.{type_at}
 use Rattle.pst_line_nodes.specs.declared.content.Content.{Content}
 use Rattle.pst_line_nodes.specs.declared.content.Content.TheVariants.{Number, Null, Target}
-use Rattle.pst_line_nodes.specs.Line.{Line, Covers, IsNewest, AreChained, IsLine, AreMatched, HasKind, is_over, ends_by, newest, onward, sum_below, if_newest, if_other, if_stale, stale_at, stale, potential, load, most, denoted, number, heap_at, record_at}
+use Rattle.pst_line_nodes.specs.Line.{Line, Covers, IsNewest, AreChained, IsLine, AreMatched, HasKind, is_over, ends_by, newest, onward, if_newest, if_other, if_stale, stale_at, stale, potential, load, most, denoted, number, heap_at, record_at}
 use Rattle.pst_line_nodes.specs.Changes.{IsCopied, redirected, moved, VersionsStay, CopyLaw, QuietLaw, WalkLaw}
 use Rattle.pst_line_nodes.proofs.HeapLaws.{same_heaps, over_grows}
 use Rattle.pst_line_nodes.proofs.RecordLaws.{record_of-same, denoted-names, kind-types}
-use Rattle.pst_line_nodes.proofs.Sums.{sum_below-le, sum_below-falls, sum_below-ones, sum_below-none}
 
 -- ---- newest nodes
 
@@ -149,10 +150,6 @@ module _ (shape : List TypeShape) (old new : Line) (x t : ℕ) (l : IsLine shape
 
   covers_z : (n : ℕ) → t ≤ n → Covers new z n
   covers_z n m = record { there = z_there; begun = omega (arith, d.first_z); still = over_z n }
-
-  -- x no longer covers t
-  x_early : (n : ℕ) → Covers new x n → n < t
-  x_early n h = ⊎_elim (λ (p : n < t). p) (λ (p : t ≤ n). absurd (false≢true (sym h.still ∙ over_x n ∙ le-leb t n p))) (cases_lt n t)
 
   z_late : (i n : ℕ) → i ≡ z → Covers new i n → t ≤ n
   z_late i n p h = let f : new.first i ≡ t = ap new.first p ∙ d.first_z in omega (arith, h.begun)

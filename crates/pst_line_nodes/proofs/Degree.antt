@@ -1,86 +1,28 @@
 -- The in-degree of a record in the heap at the newest stamp is the number of entries in its newest node.
-use Rattle.std.proofs.Common.{◌≡◌, ◌≢◌, ℕ, zero, suc, ◌+◌, ◌-◌, ◌<◌, ◌≤◌, Bool, true, false, not, cond, List, length, Option, Some, None, refl, sym, ap, ◌∙◌, subst, ⊎_elim, arith, eqb, get_or}
-use Rattle.std.specs.Prelude.{sum_by, count_by, is_some}
-use Rattle.std.specs.Option.{option_map_or, option_map}
-use Rattle.std.proofs.lemmas.List.Sums.{sum_by-cons}
-use Rattle.std.proofs.lemmas.List.Recursion.{is_count_by}
+use Rattle.std.proofs.Common.{◌≡◌, ◌≢◌, ℕ, ◌+◌, ◌-◌, ◌<◌, Bool, true, false, not, cond, List, length, Option, Some, None, refl, sym, ap, ◌∙◌, subst, ⊎_elim, arith, eqb, get_or}
+use Rattle.std.specs.Prelude.{is_some}
+use Rattle.std.specs.Option.{option_map}
 use Rattle.std.proofs.lemmas.Bool.{cases_eq, cases_Bool, eq-eqb, eqb-true, ne_eqb, false≢true, false_from_ne_true}
-use Rattle.std.specs.FinMap.{get, empty, get-empty}
-use Rattle.pst_base.specs.declared.names.Name.{Name}
+use Rattle.std.specs.FinMap.{get}
+use Rattle.pst_base.proofs.Below.{all_counted, count_le, counted_all, get_or-listed, length-listed, sum_below-one, sum_below-same, sum_below-split, sum_below-swap, sum_below-zero}
+use Rattle.pst_base.proofs.Showing.{held_by-sum, shown_degree, sum_listed}
+use Rattle.pst_base.specs.Below.{listed, one_if, sum_below}
 use Rattle.pst_base.specs.declared.names.TypeNo.{TypeNo}
 use Rattle.pst_base.specs.declared.names.Kind.TheVariants.{Pointer}
 use Rattle.pst_base.specs.declared.shape.TypeShape.{TypeShape}
 use Rattle.pst_base.specs.Shape.{type_at, element_count, field_kind}
-use Rattle.pst_base.specs.Name.{name_cmp, same_name}
-use Rattle.pst_base.specs.Heap.{Rec, holds, holding, held_by, in_degree, in_field, with_record, pointer_at, limit_in, limit_from, IsFull}
+use Rattle.pst_base.specs.Name.{same_name}
+use Rattle.pst_base.specs.Heap.{Rec, holds, holding, held_by, in_degree, in_field, pointer_at, limit_in, limit_from, IsFull}
 use Rattle.pst_base.proofs.NameLemmas.{same_name-true, same_name-same}
-use Rattle.pst_base.proofs.Degrees.{in_degree-with_record, in_degree-none}
 use Rattle.pst_line_nodes.specs.declared.content.Content.{Content}
 use Rattle.pst_line_nodes.specs.declared.content.Content.TheVariants.{Number, Null, Target}
-use Rattle.pst_line_nodes.specs.Line.{Line, IsIn, IsNewest, is_in, AreChained, IsLine, HasKind, heap_at, heap_below, record_at, denoted, number, listed, newest, sum_below}
+use Rattle.pst_line_nodes.specs.Line.{Line, showing, IsIn, IsNewest, is_in, IsLine, HasKind, heap_at, record_at, denoted, number, newest}
 use Rattle.pst_line_nodes.specs.Changes.{is_entry}
 use Rattle.pst_line_nodes.specs.Full.{is_other_entry, FullLaw, OpenLaw}
-use Rattle.pst_line_nodes.proofs.HeapLaws.{is_in-true, true-is_in, unique_name, below_shows, Shown, heap_has}
-use Rattle.pst_line_nodes.proofs.RecordLaws.{length-listed, get_or-listed}
+use Rattle.pst_line_nodes.proofs.HeapLaws.{is_in-true, true-is_in, unique_name, apart, heap_has}
 use Rattle.pst_line_nodes.proofs.Same.{pointer_field, no_target}
 use Rattle.pst_line_nodes.proofs.Copy.{covers_last, last_covers, onward_same}
 use Rattle.pst_line_nodes.proofs.Writes.{is_entry-true, is_entry-same}
-use Rattle.pst_line_nodes.proofs.Sums.{sum_below-same}
-
-abbrev pub one_if : Bool → ℕ
-one_if b = cond b 1 0
-
--- ---- sums
-
-sum_below-zero : (n : ℕ) (f : ℕ → ℕ) → ((i : ℕ) → i < n → f i ≡ 0) → sum_below n f ≡ 0
-sum_below-zero zero f h = refl
-sum_below-zero (suc n) f h = omega (arith, sum_below-zero n f (λ i l. h i (omega arith)), h n (omega arith))
-
-sum_below-add : (n : ℕ) (f g : ℕ → ℕ) → sum_below n (λ i. f i + g i) ≡ sum_below n f + sum_below n g
-sum_below-add zero f g = omega arith
-sum_below-add (suc n) f g = omega (arith, sum_below-add n f g)
-
-sum_below-swap : (n k : ℕ) (a : ℕ → ℕ → ℕ) → sum_below n (λ i. sum_below k (λ j. a i j)) ≡ sum_below k (λ j. sum_below n (λ i. a i j))
-sum_below-swap zero k a = sym (sum_below-zero k (λ j. 0) (λ i l. refl))
-sum_below-swap (suc n) k a =
-    let ih : sum_below n (λ i. sum_below k (λ j. a i j)) ≡ sum_below k (λ j. sum_below n (λ i. a i j)) = sum_below-swap n k a in
-    rw ih (sym (sum_below-add k (λ j. sum_below n (λ i. a i j)) (λ j. a n j)))
-
--- one index passes, and no other
-sum_below-one : (n : ℕ) (f : ℕ → ℕ) (i : ℕ) → i < n → f i ≡ 1 → ((j : ℕ) → j < n → j ≢ i → f j ≡ 0) → sum_below n f ≡ 1
-sum_below-one zero f i l one others = absurd (omega arith)
-sum_below-one (suc n) f i l one others =
-    ⊎_elim
-    (λ (e : n ≡ i).
-    let rest : sum_below n f ≡ 0 = sum_below-zero n f (λ j p. others j (omega arith) (omega arith)) in
-    let here : f n ≡ 1 = ap f e ∙ one in
-    omega (arith, rest, here))
-    (λ (ne : n ≡ i → ⊥).
-    let rest : sum_below n f ≡ 1 = sum_below-one n f i (omega arith) one (λ j p. others j (omega arith)) in
-    let here : f n ≡ 0 = others n (omega arith) ne in
-    omega (arith, rest, here))
-    (cases_eq n i)
-
-sum_below-first : (n : ℕ) (f : ℕ → ℕ) → sum_below (suc n) f ≡ f 0 + sum_below n (λ k. f (suc k))
-sum_below-first zero f = omega arith
-sum_below-first (suc n) f = omega (arith, sum_below-first n f)
-
-sum_below-split : (a b : ℕ) (f : ℕ → ℕ) → sum_below (a + b) f ≡ sum_below a f + sum_below b (λ k. f (a + k))
-sum_below-split a zero f = ap (λ n. sum_below n f) (let e : a + 0 ≡ a = omega arith in e) ∙ omega arith
-sum_below-split a (suc b) f =
-    ap (λ n. sum_below n f) (let e : a + suc b ≡ suc (a + b) = omega arith in e)
-    ∙ omega (arith, sum_below-split a b f)
-
-one_or_same : (b : Bool) (n : ℕ) → cond b (1 + n) n ≡ cond b 1 0 + n
-one_or_same true n = refl
-one_or_same false n = omega arith
-
-held_by-sum : (y : Name) (ps : List (Option Name)) → count_by (holds y) ps ≡ sum_by (holding y) ps
-held_by-sum y ps = sym (is_count_by (sum_by (holding y)) (holds y) refl (λ p ps. sum_by-cons (holding y) p ps ∙ sym (one_or_same (holds y p) (sum_by (holding y) ps))) ps)
-
-sum_listed : (q : Name) (n : ℕ) (f : ℕ → Option Name) → sum_by (holding q) (listed n f) ≡ sum_below n (λ k. holding q (f k))
-sum_listed q zero f = refl
-sum_listed q (suc n) f = sum_by-cons (holding q) (f 0) (listed n (λ k. f (suc k))) ∙ omega (arith, sum_listed q n (λ k. f (suc k)), sum_below-first n (λ k. holding q (f k)))
 
 -- ---- fields that lead to a node, and the entries of its slots, match one to one
 
@@ -125,32 +67,6 @@ module _ (nodes : ℕ) (width : ℕ → ℕ) (slots : ℕ) (leads : ℕ → ℕ 
       ∙ sum_below-swap (width x) slots (λ f s. one_if (is_entry x f (entry s))))
       ∙ sum_below-swap nodes slots (λ x s. sum_below (width x) (λ f. one_if (is_entry x f (entry s))))
       ∙ sum_below-same slots (λ s. sum_below nodes (λ x. sum_below (width x) (λ f. one_if (is_entry x f (entry s))))) (λ s. one_if (is_some (entry s))) (λ s l. by_slot s)
-
--- ---- the heap's in-degree as a sum over nodes
-
-module _ (shape : List TypeShape) (w : Line) (n : ℕ) (c : AreChained w) (q : Name) where
-  -- what a node counts
-  abbrev part : ℕ → ℕ
-  part i = cond (is_in w i n) (held_by q (record_at shape w i n)) 0
-
-  below_lacks : (m : ℕ) → is_in w m n ≡ true → get (heap_below shape w n m) (w.name m) ≡ None
-  below_lacks m h = elim (get (heap_below shape w n m) (w.name m)) as (λ (o : Option Rec). get (heap_below shape w n m) (w.name m) ≡ o → o ≡ None) [
-    | None ↦ λ e. refl
-    | Some r ↦ λ e.
-        let s : Shown shape w n (w.name m) r m = below_shows shape w n (w.name m) r m e in
-        let same : s.node ≡ m = unique_name w s.node m n c s.alive (is_in-true w m n h) s.named in
-        absurd (omega (arith, s.less, same))
-  ] refl
-
-  degree_below : (m : ℕ) → in_degree (heap_below shape w n m) q ≡ sum_below m part
-  degree_below zero = in_degree-none empty q (λ k r j e held. absurd (let none : get (empty {X = Rec} {R = name_cmp}) k ≡ None = get-empty name_cmp k in cc))
-  degree_below (suc m) = ⊎_elim
-      (λ (t : is_in w m n ≡ true).
-      let whole : in_degree (with_record (heap_below shape w n m) (w.name m) (record_at shape w m n)) q + 0 ≡ in_degree (heap_below shape w n m) q + held_by q (record_at shape w m n)
-      = ap (λ (o : Option Rec). in_degree (with_record (heap_below shape w n m) (w.name m) (record_at shape w m n)) q + option_map_or (held_by q) o 0) (sym (below_lacks m t)) ∙ in_degree-with_record (heap_below shape w n m) (w.name m) (record_at shape w m n) q in
-      rw t (omega (arith, whole, degree_below m)))
-      (λ (t : is_in w m n ≡ false). rw t (omega (arith, degree_below m)))
-      (cases_Bool (is_in w m n))
 
 -- ---- by nodes
 
@@ -248,31 +164,9 @@ module _ (shape : List TypeShape) (t : ℕ) (w : Line) (l : IsLine shape t w) (y
   -- the in-degree is the number of slots that have an entry
   pub degree_is : in_degree (heap_at shape w t) (w.name y) ≡ sum_below limit (λ s. one_if (is_some (w.entry y s)))
   degree_is =
-      degree_below shape w t l.chained (w.name y) w.count
+      shown_degree (showing shape w t) (apart shape w t l.chained) (w.name y)
       ∙ sum_below-same w.count (λ i. cond (is_in w i t) (held_by (w.name y) (record_at shape w i t)) 0) (λ i. sum_below (width i) (λ f. one_if (leads i f))) (λ i b. node_part i)
       ∙ degree w.count width limit leads (w.entry y) found back (λ s u x f a b. l.matched.one y s u x f y_last a b)
-
--- ---- counting
-
-count_le : (b : ℕ → Bool) (n : ℕ) → sum_below n (λ s. one_if (b s)) ≤ n
-count_le b zero = omega arith
-count_le b (suc n) = ⊎_elim (λ (e : b n ≡ true). rw e (omega (arith, count_le b n))) (λ (e : b n ≡ false). rw e (omega (arith, count_le b n))) (cases_Bool (b n))
-
-all_counted : (b : ℕ → Bool) (n : ℕ) → ((s : ℕ) → s < n → b s ≡ true) → sum_below n (λ s. one_if (b s)) ≡ n
-all_counted b zero h = refl
-all_counted b (suc n) h = rw (h n (omega arith)) (omega (arith, all_counted b n (λ s l. h s (omega arith))))
-
-counted_all : (b : ℕ → Bool) (n : ℕ) → sum_below n (λ s. one_if (b s)) ≡ n → (s : ℕ) → s < n → b s ≡ true
-counted_all b zero h s l = absurd (omega arith)
-counted_all b (suc n) h s l =
-    ⊎_elim
-    (λ (e : b n ≡ true).
-    let h' : sum_below n (λ s. one_if (b s)) + 1 ≡ suc n = rw e at h in
-    ⊎_elim (λ (q : s ≡ n). ap b q ∙ e) (λ (q : s ≡ n → ⊥). counted_all b n (omega arith) s (omega arith)) (cases_eq s n))
-    (λ (e : b n ≡ false).
-    let h' : sum_below n (λ s. one_if (b s)) + 0 ≡ suc n = rw e at h in
-    absurd (omega (arith, count_le b n)))
-    (cases_Bool (b n))
 
 -- ---- full
 
@@ -289,9 +183,6 @@ not_other : (x f : ℕ) → is_other_entry x f (Some (x, f)) ≡ false
 not_other x f = ap not (is_entry-same x f)
 
 module _ (shape : List TypeShape) (t : ℕ) (w : Line) (x f y : ℕ) (l : IsLine shape t w) (hx : IsIn w x t) (hy : IsIn w y t) (k : field_kind (type_at shape (w.ty x)) f ≡ Some (Pointer (w.ty y))) where
-  x_last : IsNewest w x
-  x_last = covers_last shape t w x l hx.covers
-
   -- what the field itself counts
   own : in_field (w.name y) f (get (heap_at shape w t) (w.name x)) ≡ one_if (leads_to w y (w.holds x f t))
   own =

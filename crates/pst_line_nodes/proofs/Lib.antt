@@ -1,6 +1,5 @@
 pub mod HeapLaws
 pub mod RecordLaws
-pub mod Sums
 pub mod Same
 pub mod Writes
 pub mod Copy

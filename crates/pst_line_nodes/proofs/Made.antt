@@ -4,18 +4,19 @@ use Rattle.std.proofs.lemmas.Bool.{cases_lt, lt-ltb, false_from_ne_true}
 use borrow.Author.Tests.{ltb-true, ltb-false}
 use Rattle.std.specs.Prelude.{replicate}
 use Rattle.std.specs.FinMap.{insert}
+use Rattle.pst_base.proofs.Below.{sum_below-same}
+use Rattle.pst_base.specs.Below.{listed, sum_below}
 use Rattle.pst_base.specs.declared.names.TypeNo.{TypeNo}
 use Rattle.pst_base.specs.declared.names.Name.{Name}
 use Rattle.pst_base.specs.declared.shape.TypeShape.{TypeShape}
 use Rattle.pst_base.specs.Shape.{type_at, root_type}
 use Rattle.pst_base.specs.Heap.{Rec, with_record, new_record}
 use Rattle.pst_line_nodes.specs.declared.content.Content.TheVariants.{Number, Null, Target}
-use Rattle.pst_line_nodes.specs.Line.{Line, Covers, IsIn, IsNewest, AreChained, IsLine, AreMatched, HasKind, is_over, ends_by, newest, onward, sum_below, if_newest, if_other, if_stale, stale_at, stale, potential, load, denoted, number, listed, heap_at, record_at, record_of}
+use Rattle.pst_line_nodes.specs.Line.{Line, Covers, IsIn, IsNewest, AreChained, IsLine, AreMatched, HasKind, is_over, ends_by, newest, onward, if_newest, if_other, if_stale, stale_at, stale, potential, load, denoted, number, heap_at, record_at, record_of}
 use Rattle.pst_line_nodes.specs.Changes.{IsMade, default_content, VersionsStay, MadeLaw}
 use Rattle.pst_line_nodes.proofs.HeapLaws.{same_heaps, same_at, put_heap}
 use Rattle.pst_line_nodes.proofs.RecordLaws.{record_of-same, denoted-names, kind-types}
 use Rattle.pst_line_nodes.proofs.Copy.{held_there}
-use Rattle.pst_line_nodes.proofs.Sums.{sum_below-same}
 
 pub listed-replicate : {A : Type 0} (n : ℕ) (f : ℕ → A) (v : A) → ((k : ℕ) → k < n → f k ≡ v) → listed n f ≡ replicate n v
 listed-replicate zero f v h = refl
@@ -225,7 +226,7 @@ module _ (shape : List TypeShape) (old new : Line) (q : Name) (u : TypeNo) (t : 
 
   made_here : heap_at shape new t ≡ with_record (heap_at shape old t) q (new_record shape u)
   made_here =
-      put_heap shape old new t t z (heap_at shape old t) made_chained z_in
+      put_heap shape new t z (heap_at shape old t) made_chained z_in
       (λ p ne. same_at shape old new t t p l.chained made_chained
       (λ i h is. (i, in_new i t h, d.name i h.covers.there ∙ is, old_record i t (omega arith) h.covers))
       (λ j h is. elim (node_cases j h.covers.there) [

@@ -3,13 +3,14 @@ use Rattle.std.proofs.Common.{◌≡◌, ◌≢◌, ℕ, zero, suc, ◌+◌, ◌
 use Rattle.std.proofs.Math.ListN.{set}
 use Rattle.std.proofs.lemmas.Bool.{cases_eq, cases_lt, leb-true, false_from_ne_true}
 use Rattle.std.specs.Prelude.{slice_get, OnOk, OnErr}
+use Rattle.pst_base.specs.Below.{sum_below}
 use Rattle.pst_base.specs.Name.{root_name}
 use Rattle.pst_base.specs.declared.names.TypeNo.{TypeNo}
 use Rattle.pst_base.specs.declared.shape.TypeShape.{TypeShape}
 use Rattle.pst_base.specs.Shape.{root_type, type_at, element_count}
 use Rattle.pst_line_nodes.specs.declared.content.Content.{Content}
 use Rattle.pst_line_nodes.specs.declared.content.Content.TheVariants.{Null}
-use Rattle.pst_line_nodes.specs.Line.{Line, is_over, ends_by, sum_below}
+use Rattle.pst_line_nodes.specs.Line.{Line, is_over, ends_by}
 use Rattle.pst_line_nodes.specs.Changes.{IsSet, HasSameNodes}
 use Rattle.pst_line_nodes.specs.Seen.{Seen}
 use Rattle.pst_line_nodes.specs.Rows.{holds, since, IsRow, IsRowSet, IsSameHead}

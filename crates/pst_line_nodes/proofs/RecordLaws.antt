@@ -1,6 +1,6 @@
 -- When two nodes show the same record, and kinds of contents.
-use Rattle.std.proofs.Common.{◌≡◌, ◌≢◌, ℕ, zero, suc, ◌+◌, ◌<◌, List, ◌∷◌, length, Some, refl, sym, ap, ◌∙◌, subst, arith, get_or}
-use Rattle.std.proofs.Math.ListN.{set}
+use Rattle.std.proofs.Common.{◌≡◌, ℕ, ◌+◌, ◌<◌, List, length, Some, refl, sym, ap, ◌∙◌, subst, arith}
+use Rattle.pst_base.proofs.Below.{listed-same}
 use Rattle.pst_base.specs.declared.names.TypeNo.{TypeNo}
 use Rattle.pst_base.specs.declared.names.Name.{Name}
 use Rattle.pst_base.specs.declared.names.Kind.TheVariants.{Pointer}
@@ -8,26 +8,7 @@ use Rattle.pst_base.specs.declared.shape.TypeShape.{TypeShape}
 use Rattle.pst_base.specs.Shape.{type_at, element_count}
 use Rattle.pst_line_nodes.specs.declared.content.Content.{Content}
 use Rattle.pst_line_nodes.specs.declared.content.Content.TheVariants.{Number, Null, Target}
-use Rattle.pst_line_nodes.specs.Line.{denoted, number, listed, record_of, HasKind}
-
-pub listed-same : {A : Type 0} (n : ℕ) (f g : ℕ → A) → ((k : ℕ) → k < n → f k ≡ g k) → listed n f ≡ listed n g
-listed-same zero f g h = refl
-listed-same (suc n) f g h = λ i. h 0 (omega arith) i ∷ listed-same n (λ k. f (suc k)) (λ k. g (suc k)) (λ k l. h (suc k) (omega arith)) i
-
-pub length-listed : {A : Type 0} (n : ℕ) (f : ℕ → A) → length (listed n f) ≡ n
-length-listed zero f = refl
-length-listed (suc n) f = ap suc (length-listed n (λ k. f (suc k)))
-
-pub get_or-listed : {A : Type 0} (n : ℕ) (f : ℕ → A) (k : ℕ) (d : A) → k < n → get_or (listed n f) k d ≡ f k
-get_or-listed zero f k d l = absurd (omega arith)
-get_or-listed (suc n) f zero d l = refl
-get_or-listed (suc n) f (suc k) d l = get_or-listed n (λ k. f (suc k)) k d (omega arith)
-
--- one entry of a list changes
-pub listed-set : {A : Type 0} (n : ℕ) (f g : ℕ → A) (k : ℕ) (v : A) → k < n → g k ≡ v → ((j : ℕ) → j < n → j ≢ k → g j ≡ f j) → listed n g ≡ set (listed n f) k v
-listed-set zero f g k v l here others = absurd (omega arith)
-listed-set (suc n) f g zero v l here others = λ i. here i ∷ listed-same n (λ k. g (suc k)) (λ k. f (suc k)) (λ j m. others (suc j) (omega arith) (λ e. absurd (omega arith))) i
-listed-set (suc n) f g (suc k) v l here others = λ i. others 0 (omega arith) (λ e. absurd (omega arith)) i ∷ listed-set n (λ k. f (suc k)) (λ k. g (suc k)) k v (omega arith) here (λ j m ne. others (suc j) (omega arith) (λ e. ne (omega arith))) i
+use Rattle.pst_line_nodes.specs.Line.{denoted, number, record_of, HasKind}
 
 -- two nodes of one type show the same record where the fields show the same
 pub record_of-same : (shape : List TypeShape) (t u : TypeNo) (name name' : ℕ → Name) (slots slots' : ℕ → Content) → u ≡ t

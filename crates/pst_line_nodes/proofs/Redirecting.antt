@@ -259,9 +259,6 @@ module _ (shape : List TypeShape) (t : ℕ) (nodes : List Seen) (made : ℕ → 
       let more : f < element_count (type_at shape (w.ty x)) = (pointer_field (type_at shape (w.ty x)) f (w.ty of.held) kind).1 in
       omega (arith, subst (λ (u : TypeNo). f < element_count (type_at shape u)) type_is more, (k.each x n at).width)
 
-  pub x_known : ((line_of (λ i. true) nodes).ty x).0 < length shape
-  x_known = l.known x of.newest_is.there
-
   pub x_before : IsFullFor shape (line_of (λ i. true) nodes) x f t → (line_of (λ i. true) nodes).first x < t
   x_before full =
       let n : Seen = node_at nodes x in

@@ -1,12 +1,13 @@
 -- How runs end.
 use Rattle.std.proofs.Common.{◌≡◌, ℕ, suc, ◌<◌, ◌≤◌, true, false, Option, Some, None, List, length, refl, sym, ap, ◌∙◌, subst, inl, inr, ⊎_elim, arith}
 use Rattle.std.proofs.lemmas.Bool.{cases_lt, cases_Bool, false≢true, le-leb}
+use Rattle.pst_base.proofs.Below.{sum_below-same}
+use Rattle.pst_base.specs.Below.{sum_below}
 use Rattle.pst_base.specs.declared.shape.TypeShape.{TypeShape}
 use Rattle.pst_base.specs.declared.names.TypeNo.{TypeNo}
 use Rattle.pst_base.specs.Shape.{type_at}
 use Rattle.pst_line_nodes.specs.declared.content.Content.TheVariants.{Target}
-use Rattle.pst_line_nodes.specs.Line.{Line, Covers, IsLive, IsNewest, AreChained, IsLine, IsQuiet, HasKind, is_over, ends_by, newest, onward, heap_at, denoted, number, if_stale, if_other, if_newest, stale_at, stale, load, potential, sum_below}
-use Rattle.pst_line_nodes.proofs.Sums.{sum_below-same}
+use Rattle.pst_line_nodes.specs.Line.{Line, Covers, IsLive, IsNewest, AreChained, IsLine, IsQuiet, HasKind, is_over, ends_by, newest, onward, heap_at, denoted, number, if_stale, if_other, if_newest, stale_at, stale, load, potential}
 use Rattle.pst_line_nodes.specs.Runs.{NextLaw, IsDropped, DropLaw, LeftBehindLaw}
 use Rattle.pst_line_nodes.proofs.HeapLaws.{same_heaps}
 use Rattle.pst_line_nodes.proofs.RecordLaws.{record_of-same, denoted-names, kind-types}

@@ -7,6 +7,7 @@ use Rattle.std.specs.Option.{option_map}
 use Rattle.std.specs.FinMap.{insert}
 use Rattle.std.proofs.lemmas.Option.{slice_get_within}
 use borrow.Author.Tests.{ltb-false}
+use Rattle.pst_base.proofs.Below.{length-listed, listed-same, listed-set}
 use Rattle.pst_base.specs.declared.names.TypeNo.{TypeNo}
 use Rattle.pst_base.specs.declared.names.Name.{Name}
 use Rattle.pst_base.specs.declared.names.Kind.TheVariants.{Int, Pointer}
@@ -19,7 +20,7 @@ use Rattle.pst_line_nodes.specs.declared.content.Content.TheVariants.{Number, Ta
 use Rattle.pst_line_nodes.specs.Line.{Line, Covers, IsIn, IsNewest, IsLive, AreChained, IsLine, AreMatched, HasKind, is_over, ends_by, onward, newest, heap_at, record_at, record_of, denoted, number}
 use Rattle.pst_line_nodes.specs.Changes.{HasSameNodes, IsSet, VersionsStay}
 use Rattle.pst_line_nodes.proofs.HeapLaws.{same_heaps, same_at, put_heap, heap_has}
-use Rattle.pst_line_nodes.proofs.RecordLaws.{listed-same, listed-set, length-listed, record_of-same, denoted-names, kind-types}
+use Rattle.pst_line_nodes.proofs.RecordLaws.{record_of-same, denoted-names, kind-types}
 
 pub same_field : (i g x f : ℕ) → ((i ≡ x) × (g ≡ f)) ⊎ (i ≡ x → g ≡ f → ⊥)
 same_field i g x f = ⊎_elim
@@ -116,7 +117,7 @@ module _ (shape : List TypeShape) (t : ℕ) (old new : Line) (l : IsLine shape t
 
     pub here : IsIn old x t → heap_at shape new t ≡ insert (heap_at shape old t) (old.name x) (record_at shape new x t)
     here h =
-        put_heap shape old new t t x (heap_at shape old t) same_chained (in_new x t h)
+        put_heap shape new t x (heap_at shape old t) same_chained (in_new x t h)
         (λ q ne. same_at shape old new t t q l.chained same_chained
         (λ i m is. (i, in_new i t m, o.name i ∙ is, other_record i t (λ p. absurd (ne (sym is ∙ sym (o.name i) ∙ ap new.name p)))))
         (λ j m is. (j, in_old j t m, sym (o.name j) ∙ is)))

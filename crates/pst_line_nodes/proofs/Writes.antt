@@ -1,16 +1,17 @@
 -- The writes of a field.
 use Rattle.std.proofs.Common.{◌≡◌, ℕ, suc, ◌+◌, ◌<◌, ◌≤◌, true, false, cond, Option, Some, None, List, refl, sym, ap, ◌∙◌, subst, inl, inr, arith, eqb}
 use Rattle.std.proofs.lemmas.Bool.{false≢true, eq-eqb, eqb-true, and_parts, false_from_ne_true}
+use Rattle.pst_base.proofs.Below.{sum_below-falls, sum_below-le, sum_below-rises}
+use Rattle.pst_base.specs.Below.{sum_below}
 use Rattle.pst_base.specs.declared.names.TypeNo.{TypeNo}
 use Rattle.pst_base.specs.declared.names.Kind.TheVariants.{Pointer}
 use Rattle.pst_base.specs.declared.shape.TypeShape.{TypeShape}
 use Rattle.pst_base.specs.Shape.{type_at}
 use Rattle.pst_line_nodes.specs.declared.content.Content.{Content}
 use Rattle.pst_line_nodes.specs.declared.content.Content.TheVariants.{Number, Null, Target}
-use Rattle.pst_line_nodes.specs.Line.{Line, Covers, IsNewest, IsLine, AreMatched, HasKind, newest, onward, sum_below, if_newest, if_other, if_stale, stale_at, stale, potential, load, denoted, number, ends_by}
+use Rattle.pst_line_nodes.specs.Line.{Line, Covers, IsNewest, IsLine, AreMatched, HasKind, newest, onward, if_newest, if_other, if_stale, stale_at, stale, potential, load, denoted, number, ends_by}
 use Rattle.pst_line_nodes.specs.Changes.{HasSameNodes, IsSet, is_entry, without, NumberLaw, NullLaw, PointLaw, RedirectLaw}
 use Rattle.pst_line_nodes.proofs.Same.{same_field, pointer_field, no_target, last_old, last_new, newest_same, off, on, stay, number_here, pointer_here, nothing_here, line_after}
-use Rattle.pst_line_nodes.proofs.Sums.{sum_below-le, sum_below-falls, sum_below-rises}
 
 -- ---- entries without those of one field
 

@@ -1,4 +1,5 @@
 -- What copies and redirections do: the record of each node stays, and no heap changes.
+-- Letters: w is a line, i, x, y and z nodes, f and g fields, t the newest stamp.
 use Rattle.std.specs.Prelude.{◌≡◌, ◌≢◌, ℕ, ◌+◌, ◌<◌, ◌≤◌, ◌⊎◌, List, Bool, true, false, Some, None}
 use Rattle.pst_base.specs.declared.shape.TypeShape.{TypeShape}
 use Rattle.pst_base.specs.Shape.{type_at}

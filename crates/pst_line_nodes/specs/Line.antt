@@ -1,14 +1,16 @@
 -- The nodes of a linear history, as laws see them: by node number and stamp (node copying of Driscoll, Sarnak, Sleator and
 -- Tarjan), and the ordinary heap that they denote at each stamp. A stamp is the number of a version, or that of the run
 -- that is open.
-use Rattle.std.specs.Prelude.{◌≡◌, ◌≢◌, ℕ, zero, suc, ◌+◌, ◌<◌, ◌≤◌, ◌⊎◌, Bool, true, false, ◌&&◌, ◌==◌, not, nat_lt, nat_le, List, [], ◌∷◌, length, Option, Some, None, ℤ, pos, if◌then◌else◌}
-use Rattle.std.specs.FinMap.{empty, insert}
+-- Letters: w is a line, i, j, x and y nodes, f and g fields, s and u inverse slots, n a stamp, t the newest one.
+use Rattle.std.specs.Prelude.{◌≡◌, ◌≢◌, ℕ, suc, ◌+◌, ◌<◌, ◌≤◌, ◌⊎◌, Bool, true, false, ◌&&◌, ◌==◌, not, nat_lt, nat_le, List, length, Option, Some, None, ℤ, pos, if◌then◌else◌}
 use Rattle.pst_base.specs.declared.names.TypeNo.{TypeNo}
 use Rattle.pst_base.specs.declared.names.Name.{Name}
 use Rattle.pst_base.specs.declared.names.Kind.TheVariants.{Pointer}
 use Rattle.pst_base.specs.declared.shape.TypeShape.{TypeShape}
 use Rattle.pst_base.specs.Name.{root_name}
 use Rattle.pst_base.specs.Shape.{type_at, field_kind, root_type}
+use Rattle.pst_base.specs.Below.{listed, sum_below}
+use Rattle.pst_base.specs.Showing.{Showing, heap_shown}
 use Rattle.pst_base.specs.Heap.{Rec, Heap}
 use Rattle.pst_line_nodes.specs.declared.content.Content.{Content}
 use Rattle.pst_line_nodes.specs.declared.content.Content.TheVariants.{Number, Null, Target}
@@ -77,11 +79,6 @@ number (Number n) = n
 number Null = pos 0
 number (Target y) = pos 0
 
--- f 0, .., f (n - 1)
-abbrev pub listed : {A : Type 0} → ℕ → (ℕ → A) → List A
-listed zero f = []
-listed (suc n) f = f 0 ∷ listed n (λ k. f (suc k))
-
 -- the record of a type with these contents of its fields
 abbrev pub record_of : List TypeShape → TypeNo → (ℕ → Name) → (ℕ → Content) → Rec
 record_of shape ty name slots = record {
@@ -94,14 +91,13 @@ record_of shape ty name slots = record {
 abbrev pub record_at : List TypeShape → Line → ℕ → ℕ → Rec
 record_at shape w i n = record_of shape (w.ty i) w.name (λ g. w.holds i g n)
 
--- the records of the nodes with numbers below m that cover a stamp
-abbrev pub heap_below : List TypeShape → Line → ℕ → ℕ → Heap
-heap_below shape w n zero = empty
-heap_below shape w n (suc m) = if is_in w m n then insert (heap_below shape w n m) (w.name m) (record_at shape w m n) else heap_below shape w n m
+-- what the nodes show at a stamp
+abbrev pub showing : List TypeShape → Line → ℕ → Showing
+showing shape w n = record { count = w.count; shows = λ i. is_in w i n; name = w.name; rec = λ i. record_at shape w i n }
 
 -- the heap at a stamp: a record for each made node that covers it
 abbrev pub heap_at : List TypeShape → Line → ℕ → Heap
-heap_at shape w n = heap_below shape w n w.count
+heap_at shape w n = heap_shown (showing shape w n)
 
 -- ---- the rules
 
@@ -167,11 +163,6 @@ pub record AreSegmentsInside (w : Line) (t : ℕ) : Type 0 where
   pub inside : (i g n y : ℕ) → n ≤ t → Covers w i n → w.holds i g n ≡ Target y → Covers w y n
 
 -- ---- the potential
-
--- f 0 + .. + f (n - 1)
-abbrev pub sum_below : ℕ → (ℕ → ℕ) → ℕ
-sum_below zero f = 0
-sum_below (suc n) f = sum_below n f + f n
 
 abbrev pub if_newest : Option ℕ → ℕ → ℕ
 if_newest None k = k

@@ -14,7 +14,7 @@ use Rattle.pst_history.specs.declared.history.NamedCall.{NamedCall}
 use Rattle.pst_history.specs.Meaning.{Meaning, IsLawful, Work, AllFit, fits_one}
 use Rattle.pst_history.specs.History.{History, answered, call_of, heap_of, new_run, next_run, queried, queried_as, work_of}
 use Rattle.pst_history.proofs.Accepting as accepting
-use Rattle.pst_active.proofs.Slicing.{stay-holds}
+use Rattle.pst_engine_runs.proofs.Slicing.{stay-holds}
 use Rattle.pst_line.specs.declared.place.LinePlace.{LinePlace}
 use Rattle.pst_line.specs.Store.{Stored, IsChain, Means, stamp}
 use Rattle.pst_linerun.specs.Linear.{line_refusal}

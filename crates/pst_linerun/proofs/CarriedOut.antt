@@ -8,7 +8,7 @@ use Rattle.pst_places.specs.State.{State}
 use Rattle.pst_history.specs.declared.history.NamedCall.{NamedCall}
 use Rattle.pst_history.specs.Meaning.{Meaning, Work}
 use Rattle.pst_history.proofs.Sums.{counts_plus-none}
-use Rattle.pst_runs.specs.Runs.{Runs, MayAdd, IsWaiting, RanOn}
+use Rattle.pst_engine_runs.specs.Runs.{Runs, MayAdd, IsWaiting, RanOn}
 use Rattle.pst_linerun.specs.Carried.{MayCarryOut, CameTo, one_call}
 
 -- ---- nothing was done

@@ -13,7 +13,7 @@ use Rattle.pst_history.specs.History.{History, counts_of, heap_of, next_run, ver
 use Rattle.pst_history.specs.Sound.{IsBefore}
 use Rattle.pst_history.proofs.Room.{counts-few}
 use Rattle.pst_history.proofs.Sound.{next-before, present}
-use Rattle.pst_active.specs.Stands.{VersionsStay}
+use Rattle.pst_engine_runs.specs.Stands.{VersionsStay}
 use Rattle.pst_line.specs.declared.place.LinePlace.{LinePlace}
 use Rattle.pst_line.specs.declared.place.Stretch.{Stretch}
 use Rattle.pst_line.specs.Store.{Stored, IsChain, IsPlace, Means, rows_from, stamp}
@@ -89,9 +89,6 @@ module _ (m : Meaning) (law : IsLawful m) (budget next : ℕ) (s : State LinePla
 
   pub some-version : 0 < length s.versions
   some-version = let many = stand.versions.many in let base = stand.sound.start.same in omega arith
-
-  pub few-versions : length s.versions < 4294967295
-  few-versions = let many = stand.versions.many in let few = stand.sound.few_versions in let all = stand.sound.few in omega arith
 
   -- no place can be written
   pub none-writable : (p : LinePlace) → ¬ (s.writable p)

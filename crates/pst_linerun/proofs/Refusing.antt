@@ -15,7 +15,7 @@ use Rattle.pst_history.specs.History.{History, refusal, call_refusal, runs_refus
 use Rattle.pst_history.proofs.Refusals.{first-none}
 use Rattle.pst_line.specs.declared.place.LinePlace.{LinePlace}
 use Rattle.pst_line.specs.Store.{Stored}
-use Rattle.pst_active.specs.Refused.{runs_by}
+use Rattle.pst_engine_runs.specs.Refused.{runs_by}
 use Rattle.pst_linerun.specs.Linear.{old_refusal, line_refusal, line_answered, line_reply, line_after}
 use Rattle.pst_linerun.specs.Standing.{LineStands}
 use Rattle.pst_linerun.specs.Carried.{line_refusal_by}

@@ -21,7 +21,7 @@ use Rattle.pst_script.specs.declared.reply.Reply.TheVariants as answer
 use Rattle.pst_script.specs.declared.reply.Refusal.TheVariants as because
 use Rattle.pst_versions.specs.declared.rows.VersionRow.{VersionRow}
 use Rattle.pst_places.specs.State.{State, IsSound, IsFresh, Unchanged, WritesStay}
-use Rattle.pst_steps.specs.Fields.{KeepsOthers}
+use Rattle.pst_machine_steps.specs.Fields.{KeepsOthers}
 use Rattle.pst_history.specs.declared.history.Descent.{Descent}
 use Rattle.pst_history.specs.Meaning.{Meaning, IsLawful, Work}
 use Rattle.pst_history.specs.History.{History, refusal, answered, changed, call_of, counts_of, ended, heap_of, new_run, next_run, version_count, with_version, work_of}
@@ -29,16 +29,16 @@ use Rattle.pst_history.proofs.Heaps.{heap_of-more}
 use Rattle.pst_history.proofs.Lists.{slice_get-of_append}
 use Rattle.pst_history.proofs.Refusals.{not-false, when-none}
 use Rattle.pst_history.specs.Sound.{IsSoundHistory}
-use Rattle.pst_active.proofs.Parts.{other_heap, versions-same}
-use Rattle.pst_active.proofs.Slicing.{stay-holds}
-use Rattle.pst_active.specs.Stands.{HoldsVersions, IsVersion, SameRow, VersionsStay}
+use Rattle.pst_engine_runs.proofs.Parts.{other_heap, versions-same}
+use Rattle.pst_engine_runs.proofs.Slicing.{stay-holds}
+use Rattle.pst_engine_runs.specs.Stands.{HoldsVersions, IsVersion, SameRow, VersionsStay}
 use Rattle.pst_line.specs.declared.place.LinePlace.{LinePlace}
 use Rattle.pst_line.specs.Store.{Stored, Began, IsChain, LinePublished, Means, Undone}
 use Rattle.pst_linerun.specs.Linear.{line_refusal, old_refusal}
 use Rattle.pst_linerun.specs.Standing.{LineStands}
 use Rattle.pst_linerun.specs.Carried.{CameTo, IsCarried, MayCarryOut, Settled, one_call}
 use Rattle.pst_linerun.proofs.Ended.{changed-extends, changed-is, grown, grown-counts, grown-heap, may, outcome, shut, shut-counts, shut-heaps, shut-next, shut-sound}
-use Rattle.pst_linerun.proofs.Holding.{few-counts, few-versions, many-rows, name-free, some-version, version-before, version-has, version-heap}
+use Rattle.pst_linerun.proofs.Holding.{few-counts, many-rows, name-free, some-version, version-before, version-has, version-heap}
 use Rattle.pst_linerun.proofs.Refusing.{run-accepted, run-newest}
 
 -- the version of a run is the newest one
@@ -123,12 +123,6 @@ module _ (m : Meaning) (law : IsLawful m) (budget : ℕ) (run : RunNo) (s : Stat
 
     same-rows : t.versions ≡ s.versions
     same-rows = kept.keeps.versions ∙ began.versions
-
-    pub run-few : length t.versions < 4294967295
-    run-few = let few = few-versions m law budget run.0 s stored h stand means chain in let same : length t.versions ≡ length s.versions = ap (λ rows. length rows) same-rows in omega arith
-
-    pub begun-stays : VersionsStay s s1
-    begun-stays = record { rows = began.versions; has = λ k row q. began.has row.place (chain.has k row q); heaps = λ k row q. began.heaps row.place (chain.has k row q) }
 
     pub unchanged-after : (u : State LinePlace NodeId) → Unchanged t u → VersionsStay s u
     unchanged-after u same =

@@ -1,4 +1,5 @@
 -- What the calls behind the commands need and do.
+-- Letters: m is the meaning of a program, h a history, s the state of the store before and t after, w the work.
 use Rattle.std.specs.Prelude.{◌≡◌, ◌⊎◌, ℕ, ◌+◌, List, [], ◌∷◌, length, ℤ, IsTrue, true, None, Option, nat_eq, not, Some}
 use Rattle.pst_base.specs.Counts.{counts_plus}
 use Rattle.pst_base.specs.declared.names.NodeId.{NodeId}
@@ -19,9 +20,9 @@ use Rattle.pst_machine.specs.Advance.{HasFewCounts}
 use Rattle.pst_history.specs.declared.history.NamedCall.{NamedCall}
 use Rattle.pst_history.specs.Meaning.{Meaning, Work, CanBeDone, fits_one, when, kinds_refusal}
 use Rattle.pst_history.specs.History.{History, changed, first}
-use Rattle.pst_runs.specs.Runs.{IsFreeFor}
-use Rattle.pst_active.specs.Refused.{call_by, runs_by}
-use Rattle.pst_active.specs.Stands.{HoldsVersions}
+use Rattle.pst_engine_runs.specs.Runs.{IsFreeFor}
+use Rattle.pst_engine_runs.specs.Refused.{call_by, runs_by}
+use Rattle.pst_engine_runs.specs.Stands.{HoldsVersions}
 use Rattle.pst_line.specs.declared.place.LinePlace.{LinePlace}
 use Rattle.pst_line.specs.Store.{Stored, LinePublished, Undone}
 use Rattle.pst_linerun.specs.declared.session.LineSession.{LineSession}

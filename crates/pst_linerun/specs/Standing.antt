@@ -7,7 +7,7 @@ use Rattle.pst_line.specs.Store.{Stored}
 use Rattle.pst_history.specs.Meaning.{Meaning}
 use Rattle.pst_history.specs.History.{History, counts_of, next_run}
 use Rattle.pst_history.specs.Sound.{IsSoundHistory}
-use Rattle.pst_active.specs.Stands.{HoldsVersions}
+use Rattle.pst_engine_runs.specs.Stands.{HoldsVersions}
 use Rattle.pst_linerun.specs.declared.session.LineSession.{LineSession}
 
 -- A session with this budget and next run number, and a store, stand for a history: the store's versions are the history's, with

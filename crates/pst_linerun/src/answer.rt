@@ -1,15 +1,14 @@
 //! The answer to a command that is not refused.
 
 ghost use Rattle.std.specs.Prelude.{◌≡◌, IfOk, OnErr, None, drop, map};
-ghost use Rattle.pst_active.specs.Stands.{VersionsStay};
+ghost use Rattle.pst_engine_runs.specs.Stands.{VersionsStay};
 ghost use Rattle.pst_linerun.specs.Carried.{MayCarry, SessionCarries};
 
 use crate::lines::{ask, run};
 use crate::session::LineSession;
 use pst_base::{NoMemory, RunNo, VersionNo};
-use pst_coded::Meant;
+use pst_engine_runs::{Meant, known};
 use pst_line::calls::LineCalls;
-use pst_runs::known;
 use pst_script::{Command, Parents, Reply};
 use std::alloc::Global;
 
@@ -31,17 +30,17 @@ pub(crate) fn answer<S: LineCalls, C: Meant>(
     code: &C,
     store: &mut S,
     session: &mut LineSession,
-    line: &Command,
+    command: &Command,
 ) -> Result<Reply, NoMemory>
-    requires { MayCarry (C.meaning code.now) session.old.budget session.old.next_run.0 (S.state store.old) (S.stored store.old) line.now }
-    ensures ok { IfOk result (λ r. SessionCarries (C.meaning code.now) session.old (S.state store.old) (S.stored store.old) line.now r session.new (S.state store.new) (S.stored store.new)) }
+    requires { MayCarry (C.meaning code.now) session.old.budget session.old.next_run.0 (S.state store.old) (S.stored store.old) command.now }
+    ensures ok { IfOk result (λ r. SessionCarries (C.meaning code.now) session.old (S.state store.old) (S.stored store.old) command.now r session.new (S.state store.new) (S.stored store.new)) }
     ensures err { OnErr result (VersionsStay (S.state store.old) (S.state store.new)) }
     ensures same_failed { session.new.failed ≡ session.old.failed }
 {
     known::<S, C>(code);
     store.known_line();
     let number = session.next_run;
-    match line {
+    match command {
         Command::Run(call) => {
             let reply = run(alloc, code, store, session.budget, number, call)?;
             session.next_run = RunNo(number.0 + 1);

@@ -2,15 +2,14 @@
 
 ghost use Rattle.std.specs.Prelude.{◌≡◌, IfOk, OnOk};
 ghost use Rattle.pst_places.specs.State.{Unchanged, WritesStay};
-ghost use Rattle.pst_steps.specs.Fields.{KeepsOthers};
+ghost use Rattle.pst_machine_steps.specs.Fields.{KeepsOthers};
 ghost use Rattle.pst_history.specs.History.{call_of};
 ghost use Rattle.pst_linerun.specs.Carried.{CameTo, MayCarryOut, one_call};
 
 use pst_base::{NoMemory, Numbers, RunNo};
-use pst_coded::Meant;
+use pst_engine_runs::{Meant, add, advance, bare, known};
 use pst_places::HeapAt;
 use pst_program::Ended;
-use pst_runs::{add, advance, bare, known};
 use pst_script::Call;
 use std::alloc::Global;
 

@@ -7,7 +7,7 @@ ghost use Rattle.pst_linerun.specs.Standing.{SessionStands};
 ghost use Rattle.pst_history.specs.declared.history.TheConstants.{BUDGET};
 
 use crate::session::LineSession;
-use pst_coded::Meant;
+use pst_engine_runs::Meant;
 use pst_line::calls::LineCalls;
 
 /// A new session and a store as it is started stand for the opening of a script.

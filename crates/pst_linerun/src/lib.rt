@@ -8,7 +8,7 @@
 //! the command (`line_reply`), and they stand for the history after it. A run that has trapped is undone.
 //!
 //!     let mut session = LineSession::new();
-//!     let reply = session.apply(alloc, &code, &mut store, &line)?;
+//!     let reply = session.apply(alloc, &code, &mut store, &command)?;
 #![tactic(auto)]
 
 mod answer;

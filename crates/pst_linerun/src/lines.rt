@@ -4,16 +4,15 @@ ghost use Rattle.std.specs.Prelude.{◌≡◌, ◌<◌, IfOk, OnOk, OnErr, None,
 ghost use Rattle.pst_places.specs.State.{Unchanged};
 ghost use Rattle.pst_script.specs.declared.command.Command.TheVariants as command;
 ghost use Rattle.pst_history.specs.History.{queried};
-ghost use Rattle.pst_active.specs.Stands.{VersionsStay};
+ghost use Rattle.pst_engine_runs.specs.Stands.{VersionsStay};
 ghost use Rattle.pst_line.specs.declared.place.LinePlace.{LinePlace};
 ghost use Rattle.pst_linerun.specs.Carried.{CarriesQuery, CarriesRun, MayCarry, Settled};
 
 use crate::carrying::carry_out;
 use pst_base::{NoMemory, Numbers, RunNo};
-use pst_coded::Meant;
+use pst_engine_runs::{Meant, known};
 use pst_line::calls::LineCalls;
 use pst_program::Ended;
-use pst_runs::known;
 use pst_script::{Call, Reply};
 use std::alloc::Global;
 

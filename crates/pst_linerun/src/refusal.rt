@@ -2,18 +2,17 @@
 
 ghost use Rattle.std.specs.Prelude.{◌≡◌};
 ghost use Rattle.pst_history.specs.History.{first};
-ghost use Rattle.pst_active.specs.Refused.{version_by, runs_by};
+ghost use Rattle.pst_engine_runs.specs.Refused.{version_by, runs_by};
 ghost use Rattle.pst_linerun.specs.Carried.{old_by, line_refusal_by};
 
 use pst_base::{RunNo, VersionNo};
-use pst_coded::Meant;
-use pst_history::RUNS;
+use pst_engine_runs::{Meant, refusal_of_procedure, refusal_of_query};
+use pst_history::{RUNS, first_of};
 use pst_line::calls::LineCalls;
-use pst_runs::{proc_refused, query_refused};
 use pst_script::{Command, Refusal};
 
 /// Whether no version has the number.
-fn version_refused<S: LineCalls>(store: &S, version: VersionNo) -> Option<Refusal>
+fn refusal_of_version<S: LineCalls>(store: &S, version: VersionNo) -> Option<Refusal>
     ensures { result ≡ version_by (S.state store.now) version }
 {
     if store.count() <= version.0 {
@@ -23,7 +22,7 @@ fn version_refused<S: LineCalls>(store: &S, version: VersionNo) -> Option<Refusa
 }
 
 /// Whether the version is not the newest one.
-fn old_refused<S: LineCalls>(store: &S, version: VersionNo) -> Option<Refusal>
+fn refusal_of_old<S: LineCalls>(store: &S, version: VersionNo) -> Option<Refusal>
     ensures { result ≡ old_by (S.state store.now) version }
 {
     if version.0 as u64 + 1 != store.count() as u64 {
@@ -33,7 +32,7 @@ fn old_refused<S: LineCalls>(store: &S, version: VersionNo) -> Option<Refusal>
 }
 
 /// Whether all run numbers are taken.
-fn runs_refused(next_run: RunNo) -> Option<Refusal>
+fn refusal_of_runs(next_run: RunNo) -> Option<Refusal>
     ensures { result ≡ runs_by next_run.0 }
 {
     if next_run.0 as usize > RUNS {
@@ -42,36 +41,29 @@ fn runs_refused(next_run: RunNo) -> Option<Refusal>
     None
 }
 
-/// The first of two refusals that holds.
-fn first_of(one: Option<Refusal>, next: Option<Refusal>) -> Option<Refusal>
-    ensures { result ≡ first one next }
-{
-    match one {
-        Some(refusal) => Some(refusal),
-        None => next,
-    }
-}
-
 /// The first refusal of a command that holds, if one does.
 pub(crate) fn refused<S: LineCalls, C: Meant>(
     code: &C,
     store: &S,
     next_run: RunNo,
-    line: &Command,
+    command: &Command,
 ) -> Option<Refusal>
-    ensures { result ≡ line_refusal_by (C.meaning code.now) (S.state store.now) next_run.0 line.now }
+    ensures { result ≡ line_refusal_by (C.meaning code.now) (S.state store.now) next_run.0 command.now }
 {
-    match line {
+    match command {
         Command::Run(call) => first_of(
             first_of(
-                proc_refused(code, &call.procedure, &call.arguments),
-                version_refused(store, call.version),
+                refusal_of_procedure(code, &call.procedure, &call.arguments),
+                refusal_of_version(store, call.version),
             ),
-            first_of(old_refused(store, call.version), runs_refused(next_run)),
+            first_of(
+                refusal_of_old(store, call.version),
+                refusal_of_runs(next_run),
+            ),
         ),
         Command::Query(call) => first_of(
-            query_refused(code, &call.procedure, &call.arguments),
-            version_refused(store, call.version),
+            refusal_of_query(code, &call.procedure, &call.arguments),
+            refusal_of_version(store, call.version),
         ),
         Command::OpenRun(_) => Some(Refusal::Line),
         Command::OpenEmpty { .. } => Some(Refusal::Line),

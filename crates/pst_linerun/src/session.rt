@@ -10,7 +10,7 @@ ghost use Rattle.pst_history.specs.declared.history.TheConstants.{BUDGET};
 use crate::answer::answer;
 use crate::refusal::refused;
 use pst_base::{NoMemory, RunNo};
-use pst_coded::Meant;
+use pst_engine_runs::Meant;
 use pst_history::BUDGET;
 use pst_line::calls::LineCalls;
 use pst_script::{Command, Reply};
@@ -48,13 +48,13 @@ impl LineSession {
         alloc: Global,
         code: &C,
         store: &mut S,
-        line: &Command,
+        command: &Command,
     ) -> Result<Reply, NoMemory>
         requires { self.old.failed ≡ false → MayApply (C.meaning code.now) self.old (S.state store.old) (S.stored store.old) }
         ensures ok { IfOk result (λ r. (self.old.failed ≡ false) × (self.new.failed ≡ false)) }
-        ensures answers { IfOk result (λ r. Answers (C.meaning code.now) self.old (S.state store.old) (S.stored store.old) line.now r self.new (S.state store.new) (S.stored store.new)) }
+        ensures answers { IfOk result (λ r. Answers (C.meaning code.now) self.old (S.state store.old) (S.stored store.old) command.now r self.new (S.state store.new) (S.stored store.new)) }
         ensures refused { IfOk result (λ r. (why : Refusal) → r ≡ answer.Refused why → (self.new ≡ self.old) × (store.new ≡ store.old)) }
-        ensures may { IfOk result (λ r. in_range line.now ≡ true → MayApply (C.meaning code.now) self.new (S.state store.new) (S.stored store.new)) }
+        ensures may { IfOk result (λ r. in_range command.now ≡ true → MayApply (C.meaning code.now) self.new (S.state store.new) (S.stored store.new)) }
         ensures err { OnErr result (self.new.failed ≡ true) }
         ensures rows { OnErr result ((S.state store.new).versions ≡ (S.state store.old).versions) }
         ensures holds { OnErr result (Wants (C.meaning code.now) self.old (S.state store.old) (S.stored store.old) (S.state store.new)) }
@@ -63,11 +63,11 @@ impl LineSession {
         if self.failed {
             return Err(NoMemory);
         }
-        if let Some(refusal) = refused(code, store, self.next_run, line) {
+        if let Some(refusal) = refused(code, store, self.next_run, command) {
             return Ok(Reply::Refused(refusal));
         }
         self.failed = true;
-        let reply = answer(alloc, code, store, self, line)?;
+        let reply = answer(alloc, code, store, self, command)?;
         self.failed = false;
         Ok(reply)
     }

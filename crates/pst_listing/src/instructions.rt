@@ -4,8 +4,7 @@ ghost use Rattle.std.specs.Prelude.{◌≡◌, ◌++◌, OnOk};
 ghost use Rattle.pst_listing.specs.Listing.{instr_name, instr_line, instr_lines};
 
 use crate::operands::{put_operands, put_word};
-use itoa::Buffer;
-use pst_base::NoMemory;
+use pst_base::{NoMemory, put_number};
 use pst_code::{Instr, Procedure};
 use pst_program::Program;
 
@@ -56,8 +55,7 @@ fn put_instr(
 ) -> Result<(), NoMemory>
     ensures { OnOk result (out.new.items ≡ out.old.items ++ instr_line program.now.names procedures.now index instr.now) }
 {
-    let mut digits = Buffer::new();
-    out.extend_from_slice(digits.format(index).as_bytes())?;
+    put_number(out, index)?;
     put_word(out, instr_name(instr))?;
     put_operands(out, program, procedures, instr)?;
     out.extend_from_slice(b"\n")

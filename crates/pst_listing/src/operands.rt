@@ -5,8 +5,8 @@ ghost use Rattle.std.specs.Fmt.{decimal};
 ghost use Rattle.pst_program.specs.Names.{type_named};
 ghost use Rattle.pst_listing.specs.Listing.{word, register_word, register_words, name_of, procedure_word, into_word, array_words, operands};
 
-use itoa::{Buffer, Integer};
-use pst_base::{NoMemory, ProcNo, SlotNo, TypeNo};
+use itoa::Integer;
+use pst_base::{NoMemory, ProcNo, SlotNo, TypeNo, put_number};
 use pst_code::{Instr, Procedure, Reg, Regs};
 use pst_program::Program;
 
@@ -18,21 +18,20 @@ pub fn put_word(out: &mut Vec<u8>, text: &[u8]) -> Result<(), NoMemory>
     out.extend_from_slice(text)
 }
 
-/// Puts a number.
-pub fn put_number<N: Integer>(out: &mut Vec<u8>, number: N) -> Result<(), NoMemory>
+/// Puts a number as a word.
+pub fn put_number_word<N: Integer>(out: &mut Vec<u8>, number: N) -> Result<(), NoMemory>
     ensures { OnOk result (out.new.items ≡ out.old.items ++ word (N.text number)) }
 {
-    let mut digits = Buffer::new();
-    put_word(out, digits.format(number).as_bytes())
+    out.extend_from_slice(b" ")?;
+    put_number(out, number)
 }
 
 /// Puts a register.
 fn put_register(out: &mut Vec<u8>, register: Reg) -> Result<(), NoMemory>
     ensures { OnOk result (out.new.items ≡ out.old.items ++ register_word register) }
 {
-    let mut digits = Buffer::new();
     out.extend_from_slice(b" r")?;
-    out.extend_from_slice(digits.format(register.0).as_bytes())
+    put_number(out, register.0)
 }
 
 /// Puts registers in order.
@@ -54,14 +53,14 @@ fn put_registers_and<N: Integer>(
     ensures { OnOk result (out.new.items ≡ out.old.items ++ (register_words registers.now ++ word (N.text number))) }
 {
     put_registers(out, registers)?;
-    put_number(out, number)
+    put_number_word(out, number)
 }
 
 /// Puts the operands of a write of a root.
 fn put_setroot(out: &mut Vec<u8>, slot: SlotNo, value: Reg) -> Result<(), NoMemory>
     ensures { OnOk result (out.new.items ≡ out.old.items ++ (word (decimal slot.0) ++ register_word value)) }
 {
-    put_number(out, slot.0)?;
+    put_number_word(out, slot.0)?;
     put_register(out, value)
 }
 
@@ -78,7 +77,7 @@ fn put_store(out: &mut Vec<u8>, object: Reg, slot: SlotNo, value: Reg) -> Result
     ensures { OnOk result (out.new.items ≡ out.old.items ++ (register_word object ++ word (decimal slot.0) ++ register_word value)) }
 {
     put_register(out, object)?;
-    put_number(out, slot.0)?;
+    put_number_word(out, slot.0)?;
     put_register(out, value)
 }
 
@@ -93,8 +92,8 @@ fn put_array(
     ensures { OnOk result (out.new.items ≡ out.old.items ++ array_words before.now slot elements behind.now) }
 {
     put_registers(out, before)?;
-    put_number(out, slot.0)?;
-    put_number(out, elements)?;
+    put_number_word(out, slot.0)?;
+    put_number_word(out, elements)?;
     put_registers(out, behind)
 }
 
@@ -143,7 +142,7 @@ pub fn put_operands(
     ensures { OnOk result (out.new.items ≡ out.old.items ++ operands program.now.names procedures.now instr.now) }
 {
     match instr {
-        Instr::Charge(n) | Instr::Jump(n) => put_number(out, *n),
+        Instr::Charge(n) | Instr::Jump(n) => put_number_word(out, *n),
         Instr::Const(d, n) => put_registers_and(out, &[*d], *n),
         Instr::Null(r) | Instr::Check(r) | Instr::Print(r) => put_register(out, *r),
         Instr::Copy(d, s) | Instr::Neg(d, s) => put_registers(out, &[*d, *s]),

@@ -6,7 +6,7 @@ ghost use Rattle.std.specs.Fmt.{decimal};
 ghost use Rattle.pst_listing.specs.Listing.{word, sort_name, kind_name, kind_word, gives_name, head_line, procedure_text, listed};
 
 use crate::instructions::put_instrs;
-use crate::operands::{put_number, put_word};
+use crate::operands::{put_number_word, put_word};
 use pst_base::{Kind, NoMemory, Text};
 use pst_code::{Code, Procedure};
 use pst_program::Program;
@@ -56,7 +56,7 @@ fn put_head(out: &mut Vec<u8>, program: &Program, procedure: &Procedure) -> Resu
     out.extend_from_slice(sort_name(procedure.query))?;
     put_word(out, procedure.name.as_slice())?;
     out.extend_from_slice(b" args")?;
-    put_number(out, procedure.arguments)?;
+    put_number_word(out, procedure.arguments)?;
     out.extend_from_slice(b" gives")?;
     put_word(out, gives_name(program, procedure.result))?;
     out.extend_from_slice(b" regs")?;

@@ -7,21 +7,21 @@ use Rattle.pst_code.specs.declared.instr.Reg.{Reg}
 use Rattle.pst_code.specs.declared.procedure.Parts.{Parts}
 use Rattle.pst_code.specs.Valid.{IsValidCode}
 use Rattle.pst_places.specs.State.{State, IsFresh, Unchanged, WritesStay}
-use Rattle.pst_places.proofs.StateLemmas.{WritesStay_refl, WritesStay_trans}
+use Rattle.pst_places.proofs.StateLemmas.{WritesStay_trans}
 use Rattle.pst_machine.specs.declared.pending.ProcCall.{ProcCall}
-use Rattle.pst_steps.specs.declared.standing.Standing.{Standing}
-use Rattle.pst_steps.specs.declared.standing.Step.{Step}
-use Rattle.pst_steps.specs.declared.standing.Step.TheVariants.{Next, Here, Switched, Waits, Ends, Trap}
+use Rattle.pst_machine_steps.specs.declared.standing.Standing.{Standing}
+use Rattle.pst_machine_steps.specs.declared.standing.Step.{Step}
+use Rattle.pst_machine_steps.specs.declared.standing.Step.TheVariants.{Next, Here, Switched, Waits, Ends, Trap}
 use Rattle.pst_machine.specs.declared.stage.Stage.{Stage}
-use Rattle.pst_steps.specs.View.{move_of}
-use Rattle.pst_running.specs.Ready.{world_of, current_of, waiting_of, spendable_of, IsFunded, IsRest, Ran}
-use Rattle.pst_steps.specs.Calls.{HoldsNothing, SameTally}
-use Rattle.pst_steps.specs.Fields.{KeepsOthers}
+use Rattle.pst_machine_steps.specs.View.{move_of}
+use Rattle.pst_machine_frames.specs.Ready.{world_of, current_of, waiting_of, spendable_of, IsFunded, IsRest, Ran}
+use Rattle.pst_machine_steps.specs.Calls.{HoldsNothing, SameTally}
+use Rattle.pst_machine_steps.specs.Fields.{KeepsOthers}
 use Rattle.pst_machine.specs.Advance.{AllMayCall, CanGoOn, Carried, CarriedOut, ComesBetween, ComesIn, IsAt, IsInto, MayCarryOn, ReadyAfter, RestsIn, SameTerms, calls_of, payable}
-use Rattle.pst_running.proofs.Acting.{same_tally}
-use Rattle.pst_running.proofs.Moving.{kept_refl, kept_trans}
+use Rattle.pst_machine_frames.proofs.Acting.{same_tally}
+use Rattle.pst_machine_frames.proofs.Moving.{kept_trans}
 use Rattle.pst_machine.proofs.Leading.{in_on, in_ends}
-use Rattle.pst_running.proofs.Reading.{unchanged_refl, unchanged_trans, ran_sound, ran_pays, ran_reads, ran_names}
+use Rattle.pst_machine_frames.proofs.Reading.{unchanged_trans, ran_sound, ran_pays, ran_reads, ran_names}
 use Rattle.pst_machine.proofs.Ended.{ended_between, ended_funds}
 
 module _ {P R : Type 0} where
@@ -31,20 +31,6 @@ module _ {P R : Type 0} where
   -- the calls that wait can still be begun
   calls_kept : (parts : Parts) (s t : State P R) (p q : P) (calls : List ProcCall) → WritesStay s t → q ≡ p → AllMayCall parts s p calls → AllMayCall parts t q calls
   calls_kept parts s t p q calls writes same all i c e = let may = all i c e in record { takes = may.takes; writable = λ e. subst t.writable (sym same) (writes.kept p (may.writable e)) }
-
-  pub carried_none : (parts : Parts) (s : State P R) (a : Stage P R) → MayCarryOn parts s a → Carried parts s a s a
-  carried_none parts s a m = record {
-    may = m;
-    made = omega arith;
-    leads = λ calls first at. at;
-    place = refl;
-    run = refl;
-    terms = record { budget = refl; granted = refl; ended = refl; failed = refl };
-    kept = kept_refl parts a.standing.place s;
-    writes = WritesStay_refl s;
-    reads = λ closed. unchanged_refl s;
-    names = λ n other fresh. fresh;
-  }
 
   pub into_funded : (parts : Parts) (s : State P R) (a b : Stage P R) → MayCarryOn parts s a → IsInto parts s a b → IsFunded parts s b.standing
   into_funded parts s a b m d = record {

@@ -9,11 +9,11 @@ use Rattle.pst_code.specs.declared.instr.Reg.{Reg}
 use Rattle.pst_code.specs.declared.procedure.Parts.{Parts}
 use Rattle.pst_code.specs.Valid.{IsValidCode}
 use Rattle.pst_places.specs.State.{State, IsFresh}
-use Rattle.pst_steps.specs.declared.standing.Standing.{Standing}
-use Rattle.pst_steps.specs.declared.standing.Step.TheVariants.{Ends}
-use Rattle.pst_steps.specs.Calls.{HoldsNothing, SameTally}
-use Rattle.pst_running.specs.Ready.{IsRunning, IsFunded, Ran}
-use Rattle.pst_running.proofs.Reading.{ran_sound, ran_pays}
+use Rattle.pst_machine_steps.specs.declared.standing.Standing.{Standing}
+use Rattle.pst_machine_steps.specs.declared.standing.Step.TheVariants.{Ends}
+use Rattle.pst_machine_steps.specs.Calls.{HoldsNothing, SameTally}
+use Rattle.pst_machine_frames.specs.Ready.{IsRunning, IsFunded, Ran}
+use Rattle.pst_machine_frames.proofs.Reading.{ran_sound, ran_pays}
 use Rattle.pst_machine.specs.Advance.{HasFunds, IsBetween}
 
 module _ {P R : Type 0} (parts : Parts) (valid : IsValidCode parts) (s t : State P R) (a b : Standing P R) (r : IsRunning parts s a) where

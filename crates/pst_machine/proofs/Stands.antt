@@ -18,11 +18,11 @@ use Rattle.pst_machine.specs.declared.pending.ProcCall.{ProcCall}
 use Rattle.pst_machine.specs.declared.stage.Stage.{Stage}
 use Rattle.pst_machine.specs.declared.stage.Progress.{Progress}
 use Rattle.pst_machine.specs.declared.stage.Progress.TheVariants.{Running, Done, Trapped as TrappedAt}
-use Rattle.pst_running.specs.Ready.{AreLive, IsRunning, world_of, current_of, waiting_of}
+use Rattle.pst_machine_frames.specs.Ready.{AreLive, IsRunning, world_of, current_of, waiting_of}
 use Rattle.pst_machine.specs.Advance.{AllMayCall, CanGoOn, ComesBetween, ComesIn, ComesToAnswer, ComesToTrap, HasOneMore, IsAddedWhere, IsAt, IsBare, IsBetween, IsOngoing, IsReady, MayCall, ReadyWhere, TrapsBy, calls_of, ended_by, payable, task_call, trap_of}
 use Rattle.pst_machine.specs.Laws.{AddedIsReady, BareIsReady, LeavesAlone, MayBegin, OthersStayReady, StaysReady}
 use Rattle.pst_machine.specs.Stands.{AddedStands, BareStands, NextStands, SlicesAddUp, Stands, StandsWhere, StillStands, begins_with}
-use Rattle.pst_running.proofs.Acting.{frame_kept, callers_kept, live_grows, waiting_grows}
+use Rattle.pst_machine_frames.proofs.Acting.{frame_kept, callers_kept, live_grows, waiting_grows}
 use Rattle.pst_machine.proofs.Leading.{in_granted, in_counted, between_counted, in_added, between_added, calls_added}
 
 -- ---- a run without a call

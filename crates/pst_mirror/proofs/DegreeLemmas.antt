@@ -1,47 +1,13 @@
-use Rattle.std.proofs.Common.{◌≡◌, ◌≢◌, ℕ, zero, suc, ◌+◌, ◌-◌, ◌<◌, ◌≤◌, Bool, true, false, ◌&&◌, eqb, ◌↔◌, refl, sym, ap, ◌∙◌, ◌⊎◌, inl, inr, ⊎_elim, arith}
-use Rattle.std.proofs.lemmas.Bool.{cases_eq, cases_Bool, eq-eqb, eqb-true, and_parts, false≢true, false_from_ne_true}
+use Rattle.std.proofs.Common.{◌≡◌, ◌≢◌, ℕ, ◌+◌, ◌-◌, ◌<◌, ◌≤◌, Bool, true, false, ◌&&◌, eqb, ◌↔◌, refl, sym, ap, ◌∙◌, ◌⊎◌, inl, inr, ⊎_elim, arith}
+use Rattle.std.proofs.lemmas.Bool.{cases_Bool, eq-eqb, eqb-true, and_parts, false≢true, false_from_ne_true}
+use Rattle.pst_base.proofs.Below.{all_counted, count_le, counted_all, sum_below-one, sum_below-same, sum_below-split, sum_below-swap, sum_below-zero}
+use Rattle.pst_base.specs.Below.{one_if, sum_below}
 use Rattle.pst_rows.specs.declared.content.Content.{Content}
 use Rattle.pst_rows.specs.declared.content.Content.TheVariants.{Number, Null, Free, Target as TargetOf, From as FromOf}
 use Rattle.pst_mirror.specs.Contents.{Target, From}
 use Rattle.pst_mirror.specs.Mirror.{Chart, IsMirrored}
-use Rattle.pst_mirror.specs.Degree.{sum_below, one_if, leads_to, is_entry, in_degree, entries, AreWithin, is_other_entry, in_degree_apart, HasEntriesIn, DegreeLaw, LimitLaw, FullLaw, FullApartLaw}
+use Rattle.pst_mirror.specs.Degree.{leads_to, is_entry, in_degree, entries, AreWithin, is_other_entry, in_degree_apart, HasEntriesIn, DegreeLaw, LimitLaw, FullLaw, FullApartLaw}
 use Rattle.pst_mirror.proofs.MirrorLemmas.{from_node, from_field}
-
-pub sum_below-same : (n : ℕ) (f g : ℕ → ℕ) → ((i : ℕ) → i < n → f i ≡ g i) → sum_below n f ≡ sum_below n g
-sum_below-same zero f g h = refl
-sum_below-same (suc n) f g h =
-    let ih : sum_below n f ≡ sum_below n g = sum_below-same n f g (λ i l. h i (omega arith)) in
-    let here : f n ≡ g n = h n (omega arith) in
-    rw (ih, here) refl
-
-pub sum_below-zero : (n : ℕ) (f : ℕ → ℕ) → ((i : ℕ) → i < n → f i ≡ 0) → sum_below n f ≡ 0
-sum_below-zero zero f h = refl
-sum_below-zero (suc n) f h = omega (arith, sum_below-zero n f (λ i l. h i (omega arith)), h n (omega arith))
-
-pub sum_below-add : (n : ℕ) (f g : ℕ → ℕ) → sum_below n (λ i. f i + g i) ≡ sum_below n f + sum_below n g
-sum_below-add zero f g = omega arith
-sum_below-add (suc n) f g = omega (arith, sum_below-add n f g)
-
-pub sum_below-swap : (n k : ℕ) (a : ℕ → ℕ → ℕ) → sum_below n (λ i. sum_below k (λ j. a i j)) ≡ sum_below k (λ j. sum_below n (λ i. a i j))
-sum_below-swap zero k a = sym (sum_below-zero k (λ j. 0) (λ i l. refl))
-sum_below-swap (suc n) k a =
-    let ih : sum_below n (λ i. sum_below k (λ j. a i j)) ≡ sum_below k (λ j. sum_below n (λ i. a i j)) = sum_below-swap n k a in
-    rw ih (sym (sum_below-add k (λ j. sum_below n (λ i. a i j)) (λ j. a n j)))
-
--- one index passes, and no other
-pub sum_below-one : (n : ℕ) (f : ℕ → ℕ) (i : ℕ) → i < n → f i ≡ 1 → ((j : ℕ) → j < n → j ≢ i → f j ≡ 0) → sum_below n f ≡ 1
-sum_below-one zero f i l one others = absurd (omega arith)
-sum_below-one (suc n) f i l one others =
-    ⊎_elim
-    (λ (e : n ≡ i).
-    let rest : sum_below n f ≡ 0 = sum_below-zero n f (λ j p. others j (omega arith) (omega arith)) in
-    let here : f n ≡ 1 = ap f e ∙ one in
-    omega (arith, rest, here))
-    (λ (ne : n ≡ i → ⊥).
-    let rest : sum_below n f ≡ 1 = sum_below-one n f i (omega arith) one (λ j p. others j (omega arith)) in
-    let here : f n ≡ 0 = others n (omega arith) ne in
-    omega (arith, rest, here))
-    (cases_eq n i)
 
 -- whether a content is this very entry
 abbrev pub is_from : ℕ → ℕ → Content → Bool
@@ -120,34 +86,6 @@ module _ (w : Chart) (nodes : ℕ) (width : ℕ → ℕ) (y slots n : ℕ) (mir 
 
 pub degree_law : DegreeLaw
 degree_law = degree
-
--- ---- the inverse slots alone
-
-pub sum_below-split : (a b : ℕ) (f : ℕ → ℕ) → sum_below (a + b) f ≡ sum_below a f + sum_below b (λ k. f (a + k))
-sum_below-split a zero f = ap (λ n. sum_below n f) (let e : a + 0 ≡ a = omega arith in e) ∙ omega arith
-sum_below-split a (suc b) f =
-    ap (λ n. sum_below n f) (let e : a + suc b ≡ suc (a + b) = omega arith in e)
-    ∙ omega (arith, sum_below-split a b f)
-
-pub count_le : (b : ℕ → Bool) (n : ℕ) → sum_below n (λ s. one_if (b s)) ≤ n
-count_le b zero = omega arith
-count_le b (suc n) = ⊎_elim (λ (e : b n ≡ true). rw e (omega (arith, count_le b n))) (λ (e : b n ≡ false). rw e (omega (arith, count_le b n))) (cases_Bool (b n))
-
-pub all_counted : (b : ℕ → Bool) (n : ℕ) → ((s : ℕ) → s < n → b s ≡ true) → sum_below n (λ s. one_if (b s)) ≡ n
-all_counted b zero h = refl
-all_counted b (suc n) h = rw (h n (omega arith)) (omega (arith, all_counted b n (λ s l. h s (omega arith))))
-
-pub counted_all : (b : ℕ → Bool) (n : ℕ) → sum_below n (λ s. one_if (b s)) ≡ n → (s : ℕ) → s < n → b s ≡ true
-counted_all b zero h s l = absurd (omega arith)
-counted_all b (suc n) h s l =
-    ⊎_elim
-    (λ (e : b n ≡ true).
-    let h' : sum_below n (λ s. one_if (b s)) + 1 ≡ suc n = rw e at h in
-    ⊎_elim (λ (q : s ≡ n). ap b q ∙ e) (λ (q : s ≡ n → ⊥). counted_all b n (omega arith) s (omega arith)) (cases_eq s n))
-    (λ (e : b n ≡ false).
-    let h' : sum_below n (λ s. one_if (b s)) + 0 ≡ suc n = rw e at h in
-    absurd (omega (arith, count_le b n)))
-    (cases_Bool (b n))
 
 -- ---- entries of other fields
 

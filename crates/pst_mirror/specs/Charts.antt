@@ -1,4 +1,5 @@
 -- What a list of rows means by positions, and what changes of rows mean for it.
+-- Letters: w is a chart, r gives the position of each place, i and x are nodes, f and g slots, m a position, c a content.
 use Rattle.std.specs.Prelude.{◌≡◌, ◌≢◌, ℕ, zero, suc, ◌+◌, ◌<◌, ◌≤◌, Bool, false, ◌||◌, ◌&&◌, ◌==◌, nat_lt, nat_le, List, [], ◌∷◌, ◌++◌, length, get_or, set, if◌then◌else◌}
 use Rattle.pst_rows.specs.declared.content.Content.{Content}
 use Rattle.pst_rows.specs.declared.content.Content.TheVariants.{Null}

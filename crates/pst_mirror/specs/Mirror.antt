@@ -1,5 +1,6 @@
 -- The mirror rule: each pointer has an entry in the node that it leads to, so that a split finds all who point there (the
 -- inverse pointers of Driscoll, Sarnak, Sleator and Tarjan); and the changes of a store that keep it.
+-- Letters: w is a chart, i, x, y and z nodes, f a field, s an inverse slot, g any slot, b, m and n positions.
 use Rattle.std.specs.Prelude.{◌≡◌, ◌≢◌, ℕ, suc, ◌+◌, ◌<◌, ◌≤◌, Bool, true, false, ◌||◌, ◌&&◌, ◌==◌, if◌then◌else◌}
 use Rattle.pst_rows.specs.declared.content.Content.{Content}
 use Rattle.pst_rows.specs.declared.content.Content.TheVariants.{Number, Null, Free, Target as TargetOf, From as FromOf}

@@ -1,4 +1,4 @@
-use Rattle.std.proofs.Common.{◌≡◌, ◌≢◌, ℕ, zero, suc, ◌+◌, ◌≤◌, ◌<◌, true, false, List, [], ◌∷◌, ◌++◌, length, get_or, set, map, Some, refl, sym, ap, ◌∙◌, subst, ⊎_elim, arith, Bool}
+use Rattle.std.proofs.Common.{◌≡◌, ◌≢◌, ℕ, zero, suc, ◌+◌, ◌≤◌, ◌<◌, true, false, List, [], ◌∷◌, ◌++◌, length, get_or, set, map, Option, Some, refl, sym, ap, ◌∙◌, subst, ⊎_elim, arith, Bool}
 use Rattle.std.proofs.lemmas.Bool.{cases_eq, cases_lt}
 use Rattle.std.specs.Option.{option_map}
 use Rattle.pst_order.specs.declared.order.Pos.{Pos}
@@ -15,7 +15,11 @@ use Rattle.pst_nodes.specs.Arena.{HasRoom, IsTyped, type_of, rows_of, values_of,
 use Rattle.pst_mirror.proofs.ChartLemmas.{row_set_law, rows_hold-at, rows_edge-at, alive}
 use Rattle.pst_mirror.proofs.ChartSplit.{row_cut_law, row_split_law}
 use Rattle.pst_mirror.proofs.ChartReplace.{row_replace_law}
+use Rattle.pst_queue.specs.declared.links.Link.{Link}
 use Rattle.pst_queue.specs.declared.links.Link.TheVariants.{Out}
+use Rattle.pst_base.specs.declared.names.Name.{Name}
+use Rattle.pst_base.specs.declared.names.NodeId.{NodeId}
+use Rattle.pst_nodes.specs.Header.{HeaderValue}
 use Rattle.pst_nodes.specs.declared.node.Node.{Node}
 use Rattle.pst_base.specs.declared.shape.TypeShape.{TypeShape}
 use Rattle.pst_base.specs.declared.names.TypeNo.{TypeNo}
@@ -101,12 +105,12 @@ module _ (ns : List Node) (x : ℕ) (node : Node) (there : x < length ns) (read 
     pub charts_set : (qs : List ℕ) (P : List RowValue → Type 0) → P (set (values_of ns) x (shown new.row)) → P (values_of (set ns x new))
     charts_set qs P h = subst P (sym (map-set (λ (n : Node). shown n.row) ns x new)) h
 
-    pub touched : (k : ℕ) → frame_of new ≡ frame_of node → new.link ≡ node.link → new.row.lo.0 ≡ node.row.lo.0 → new.row.hi.0 ≡ node.row.hi.0 → width_of new.row ≡ width_of node.row → stamped_count new.row ≤ stamped_count node.row + k →
+    pub touched : (k : ℕ) → frame_of new ≡ frame_of node → new.header.link ≡ node.header.link → new.row.lo.0 ≡ node.row.lo.0 → new.row.hi.0 ≡ node.row.hi.0 → width_of new.row ≡ width_of node.row → stamped_count new.row ≤ stamped_count node.row + k →
         ((j : ℕ) → HasRoom node.row (j + k) → HasRoom new.row j) → ((j t : ℕ) → stamped_count new.row ≡ stamped_count node.row + t → HasRoom node.row (j + t) → HasRoom new.row j) → IsTouched k ns (set ns x new) x
     touched k frame link lo hi width stamped room spare = record {
       count = length-set ns x new;
       frames = same_map frame_of ns x node new there read frame;
-      links = λ i. ap (λ ls. get_or ls i Out) (same_map (λ (n : Node). n.link) ns x node new there read link);
+      links = λ i. ap (λ ls. get_or ls i Out) (same_map (λ (n : Node). n.header.link) ns x node new there read link);
       lo = λ i. ap (λ ls. get_or ls i 0) (same_map (λ (n : Node). n.row.lo.0) ns x node new there read lo);
       hi = λ i. ap (λ ls. get_or ls i 0) (same_map (λ (n : Node). n.row.hi.0) ns x node new there read hi);
       width = λ i d. ⊎_elim
@@ -119,11 +123,11 @@ module _ (ns : List Node) (x : ℕ) (node : Node) (there : x < length ns) (read 
       spare = λ d j t e h. rw (new_row d) (spare j t (rw (new_row d, the_row d) at e) (rw (the_row d) at h));
     }
 
-    pub same_nodes : frame_of new ≡ frame_of node → new.link ≡ node.link → shown new.row ≡ shown node.row → ((k : ℕ) → HasRoom node.row k → HasRoom new.row k) → AreSameNodes ns (set ns x new)
+    pub same_nodes : frame_of new ≡ frame_of node → new.header.link ≡ node.header.link → shown new.row ≡ shown node.row → ((k : ℕ) → HasRoom node.row k → HasRoom new.row k) → AreSameNodes ns (set ns x new)
     same_nodes frame link row room = record {
       count = length-set ns x new;
       frames = same_map frame_of ns x node new there read frame;
-      links = λ i. ap (λ ls. get_or ls i Out) (same_map (λ (n : Node). n.link) ns x node new there read link);
+      links = λ i. ap (λ ls. get_or ls i Out) (same_map (λ (n : Node). n.header.link) ns x node new there read link);
       rows = λ i d. ⊎_elim
           (λ (e : i ≡ x). rw (e, new_row d, the_row d) row)
           (λ (ne : i ≡ x → ⊥). rw (other_row i d ne) refl)
@@ -147,10 +151,10 @@ edges_in qs ns i d l g m = rows_edge-at (rank qs) (values_of ns) i (shown d) (om
 -- a row that only its room can tell from another one shows the same
 pub same_shown : (old new : Row) → IsSameRow old new → shown new ≡ shown old
 same_shown old new h =
-    ap (λ p. record { lo = p; hi = new.hi; slots = new.slots.items; stamps = new.stamps.items }) h.lo
-    ∙ ap (λ p. record { lo = old.lo; hi = p; slots = new.slots.items; stamps = new.stamps.items }) h.hi
-    ∙ ap (λ p. record { lo = old.lo; hi = old.hi; slots = p; stamps = new.stamps.items }) h.slots
-    ∙ ap (λ p. record { lo = old.lo; hi = old.hi; slots = old.slots.items; stamps = p }) h.stamps
+    ap (λ p. record { lo = p; hi = new.hi; slots = new.cells.slots; stamps = new.cells.stamps }) h.lo
+    ∙ ap (λ p. record { lo = old.lo; hi = p; slots = new.cells.slots; stamps = new.cells.stamps }) h.hi
+    ∙ ap (λ p. record { lo = old.lo; hi = old.hi; slots = p; stamps = new.cells.stamps }) h.slots
+    ∙ ap (λ p. record { lo = old.lo; hi = old.hi; slots = old.cells.slots; stamps = p }) h.stamps
 
 -- what is read in a row is held in the chart
 module _ (qs : List ℕ) (ns : List Node) (x slot n : ℕ) (d : Row) (all : AreRows qs ns) (is : IsSlot qs ns x slot n) where
@@ -246,8 +250,8 @@ module _ {A : Type 0} (f : Node → A) (ns : List Node) (x : ℕ) (node left rig
       (cases_eq i x)
 
 module _ (qs : List ℕ) (ns : List Node) (x : ℕ) (node left right : Node) (there : x < length ns) (read : node ≡ get_or ns x node) (s : Pos) (h : IsRowSplit (rank qs) node.row left.row right.row s)
-    (left_name : left.name ≡ node.name) (left_ty : left.ty ≡ node.ty) (left_later : option_map (λ i. i.0) left.later ≡ Some (length ns)) (left_link : left.link ≡ node.link)
-    (right_name : right.name ≡ node.name) (right_ty : right.ty ≡ node.ty) (right_later : right.later ≡ node.later) (right_link : right.link ≡ Out) where
+    (left_name : left.header.name ≡ node.header.name) (left_ty : left.header.ty ≡ node.header.ty) (left_later : option_map (λ i. i.0) left.header.later ≡ Some (length ns)) (left_link : left.header.link ≡ node.header.link)
+    (right_name : right.header.name ≡ node.header.name) (right_ty : right.header.ty ≡ node.header.ty) (right_later : right.header.later ≡ node.header.later) (right_link : right.header.link ≡ Out) where
   rows_are : values_of (set ns x left ++ right ∷ []) ≡ set (values_of ns) x (shown left.row) ++ shown right.row ∷ []
   rows_are = map-push (λ (n : Node). shown n.row) (set ns x left) right ∙ ap (λ ys. ys ++ shown right.row ∷ []) (map-set (λ (n : Node). shown n.row) ns x left)
 
@@ -304,8 +308,8 @@ module _ (qs : List ℕ) (ns : List Node) (x : ℕ) (node left right : Node) (th
         types = λ i l. at_frame (λ (f : Frame). f.ty) (ap (λ t. t.0) left_ty) i (λ e. omega arith);
         new_type = ap (λ (f : Frame). f.ty) (at_right frame_of ns x node left right there no_frame) ∙ ap (λ t. t.0) right_ty ∙ sym (ap (λ (f : Frame). f.ty) (at_map frame_of ns x node no_frame there read));
         links = λ i. ⊎_elim
-            (λ (e : i ≡ length ns). ap (link_at (set ns x left ++ right ∷ [])) e ∙ at_right (λ (n : Node). n.link) ns x node left right there Out ∙ right_link ∙ sym (get_or_past (map (λ (n : Node). n.link) ns) i Out (omega (arith, length-map ns (λ (n : Node). n.link)))))
-            (λ (ne : i ≡ length ns → ⊥). at_same (λ (n : Node). n.link) ns x node left right there Out read left_link i ne)
+            (λ (e : i ≡ length ns). ap (link_at (set ns x left ++ right ∷ [])) e ∙ at_right (λ (n : Node). n.header.link) ns x node left right there Out ∙ right_link ∙ sym (get_or_past (map (λ (n : Node). n.header.link) ns) i Out (omega (arith, length-map ns (λ (n : Node). n.header.link)))))
+            (λ (ne : i ≡ length ns → ⊥). at_same (λ (n : Node). n.header.link) ns x node left right there Out read left_link i ne)
             (cases_eq i (length ns));
         left = λ d. rw (at_left (λ (n : Node). n.row) ns x node left right there d, old d) h.left_count;
         right = λ d. rw (at_right (λ (n : Node). n.row) ns x node left right there d, old d) h.right_count;
@@ -314,14 +318,19 @@ module _ (qs : List ℕ) (ns : List Node) (x : ℕ) (node left right : Node) (th
         others = λ i d ne nz. at_others (λ (n : Node). n.row) ns x node left right there d i ne nz;
       }
 
-pub cut_in_two_at : (qs : List ℕ) (ns : List Node) (x z : ℕ) (node left right : Node) (there : x < length ns) (read : node ≡ get_or ns x node) (s : Pos) → z ≡ length ns → IsRowSplit (rank qs) node.row left.row right.row s →
-    left.name ≡ node.name → left.ty ≡ node.ty → option_map (λ i. i.0) left.later ≡ Some z → left.link ≡ node.link → right.name ≡ node.name → right.ty ≡ node.ty → right.later ≡ node.later → right.link ≡ Out →
+pub cut_in_two_at : (qs : List ℕ) (ns : List Node) (x : ℕ) (z : NodeId) (node left right : Node) (there : x < length ns) (read : node ≡ get_or ns x node) (s : Pos) → z.0 ≡ length ns → IsRowSplit (rank qs) node.row left.row right.row s →
+    left.header ≡ record { name = node.header.name; ty = node.header.ty; later = Some z; link = node.header.link } → right.header ≡ record { name = node.header.name; ty = node.header.ty; later = node.header.later; link = Out } →
     IsRow (rank qs) (length qs) left.row → IsRow (rank qs) (length qs) right.row → AreRows qs ns →
-    IsCutInTwo qs ns (set ns x left ++ right ∷ []) x z s.0 × AreRows qs (set ns x left ++ right ∷ [])
-cut_in_two_at qs ns x z node left right there read s is_z h a b c d e f i j o p all = (
-  subst (λ (y : ℕ). IsCutInTwo qs ns (set ns x left ++ right ∷ []) x y s.0) (sym is_z) (cut_in_two qs ns x node left right there read s h a b (c ∙ ap Some is_z) d e f i j),
-  parts_rows qs ns x node left right there read s h a b (c ∙ ap Some is_z) d e f i j o p all,
-)
+    IsCutInTwo qs ns (set ns x left ++ right ∷ []) x z.0 s.0 × AreRows qs (set ns x left ++ right ∷ [])
+cut_in_two_at qs ns x z node left right there read s is_z h l r o p all =
+    let name : (k : HeaderValue) → Name = λ k. k.name in
+    let ty : (k : HeaderValue) → TypeNo = λ k. k.ty in
+    let link : (k : HeaderValue) → Link = λ k. k.link in
+    let later : (k : HeaderValue) → Option NodeId = λ k. k.later in
+    let behind : option_map (λ i. i.0) left.header.later ≡ Some (length ns) = ap (λ k. option_map (λ i. i.0) (later k)) l ∙ ap Some is_z in (
+      subst (λ (y : ℕ). IsCutInTwo qs ns (set ns x left ++ right ∷ []) x y s.0) (sym is_z) (cut_in_two qs ns x node left right there read s h (ap name l) (ap ty l) behind (ap link l) (ap name r) (ap ty r) (ap later r) (ap link r)),
+      parts_rows qs ns x node left right there read s h (ap name l) (ap ty l) behind (ap link l) (ap name r) (ap ty r) (ap later r) (ap link r) o p all,
+    )
 
 -- inside a segment
 module _ (qs : List ℕ) (ns : List Node) (x : ℕ) (node : Node) (there : x < length ns) (read : node ≡ get_or ns x node) (slot n : ℕ) (all : AreRows qs ns) (is : IsSlot qs ns x slot n) (inside : (chart qs ns).edge x slot n ≡ false) where

@@ -5,7 +5,7 @@ use Rattle.pst_rows.specs.declared.row.Row.{Row}
 use Rattle.pst_order.specs.Places.{rank}
 use Rattle.pst_mirror.specs.Mirror.{Chart}
 use Rattle.pst_mirror.specs.Charts.{chart_of, AllRows}
-use Rattle.pst_mirror.specs.Lives.{Lives}
+use Rattle.pst_mirror.specs.Lives.{Lives, IsLive}
 use Rattle.pst_mirror.specs.Degree.{is_entry, is_other_entry}
 use Rattle.pst_mirror.specs.Kinds.{IsInverse}
 use Rattle.pst_base.specs.declared.names.TypeNo.{TypeNo}
@@ -48,7 +48,7 @@ pub record Frame : Type 0 where
   pub later : Option ℕ
 
 abbrev pub frame_of : Node → Frame
-frame_of n = record { name = n.name; ty = n.ty.0; later = option_map (λ i. i.0) n.later }
+frame_of n = record { name = n.header.name; ty = n.header.ty.0; later = option_map (λ i. i.0) n.header.later }
 
 -- for a node that is not there
 abbrev pub no_frame : Frame
@@ -61,7 +61,7 @@ abbrev pub frame_at : List Node → ℕ → Frame
 frame_at ns i = get_or (frames_of ns) i no_frame
 
 abbrev pub link_at : List Node → ℕ → Link
-link_at ns i = get_or (map (λ (n : Node). n.link) ns) i Out
+link_at ns i = get_or (map (λ (n : Node). n.header.link) ns) i Out
 
 abbrev pub lo_at : List Node → ℕ → ℕ
 lo_at ns i = get_or (map (λ (n : Node). n.row.lo.0) ns) i 0
@@ -90,6 +90,12 @@ pub record IsAlive (qs : List ℕ) (ns : List Node) (x n : ℕ) : Type 0 where
   pub there : x < length ns
   pub low : (d : Row) → rank qs (row_at ns x d).lo.0 ≤ n
   pub high : (d : Row) → n < rank qs (row_at ns x d).hi.0
+
+-- node i leads to node j of its record, which begins later and stands for the record at a position too
+pub record LeadsTo (w : Lives) (i n j : ℕ) : Type 0 where
+  pub live : IsLive w j n
+  pub name : w.name j ≡ w.name i
+  pub later : w.lo i < w.lo j
 
 -- a slot of a node is there, and the node lives at a position
 pub record IsSlot (qs : List ℕ) (ns : List Node) (x slot n : ℕ) : Type 0 where

@@ -9,7 +9,8 @@
 //!     nodes.link(&order, from, to, x, field, y, slot);
 #![tactic(auto)]
 
-pub mod arena;
+pub mod access;
+pub mod header;
 pub mod node;
 pub mod pairs;
 pub mod slots;

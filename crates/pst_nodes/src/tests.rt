@@ -1,9 +1,10 @@
 //! What no clause says: that the calls which take memory succeed, and how large a node is.
 
+use crate::header::Header;
 use crate::node::{Node, Nodes};
 use pst_base::{Name, NoMemory, NodeId, RunNo, Targets, TypeNo, TypeShape};
 use pst_order::Pos;
-use pst_queue::links::Link;
+use pst_queue::links::{Link, Links};
 use pst_rows::Row;
 use std::alloc::Global;
 use std::mem::size_of;
@@ -38,18 +39,16 @@ fn nodes_are_numbered_from_0(rt: HostRuntime) -> Result<(), NoMemory> {
     assert_eq!(rt; nodes.row(NodeId(1)).width(), ITEM_SLOTS);
     assert_eq!(rt; nodes.later(NodeId(1)), None);
     let part = Node {
-        later: Some(NodeId(0)),
-        name,
+        header: Header::new(name, TypeNo(1), Some(NodeId(0)), Link::Before(NodeId(1))),
         row: row_of_item(alloc)?,
-        ty: TypeNo(1),
-        link: Link::Out,
     };
     assert_eq!(rt; nodes.push(part)?, NodeId(2));
     assert_eq!(rt; nodes.later(NodeId(2)), Some(NodeId(0)));
+    assert!(rt; nodes.queue_link(NodeId(2)) == Link::Before(NodeId(1)));
     Ok(())
 }
 
 #[test]
-fn an_item_with_four_stamped_values_takes_at_most_288_bytes(rt: HostRuntime) {
-    assert!(rt; size_of::<Node>() <= 288);
+fn what_stands_beside_a_row_takes_32_bytes(rt: HostRuntime) {
+    assert!(rt; size_of::<Node>() == size_of::<Row>() + 32);
 }

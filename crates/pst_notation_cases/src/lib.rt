@@ -1,4 +1,4 @@
-//! Canonical texts of trees, also of one that no text gives.
+//! Canonical texts of trees, also of one that no text gives, and what a token takes that the parser has at hand.
 #![tactic(auto)]
 
 #[cfg(test)]

@@ -6,6 +6,7 @@ use pst_notation::{
     canonical_text_keeps_what_was_read, canonical_text_reads_as_its_tree, print_program,
 };
 use pst_parse::parse;
+use pst_parse_expressions::Atom;
 use pst_tree::{
     Block, Declaration, Declarations, Expression, Form, Locals, Statement, Tree, TypeName,
 };
@@ -15,7 +16,7 @@ use std::test::Fail;
 #[test]
 fn text_that_was_read_keeps_its_tokens(rt: HostRuntime) -> Result<(), Fail> {
     let text = b"language # of arrays\n 2";
-    find_fault(rt.alloc(), text)?;
+    find_fault(text)?;
     let tree = parse(rt.alloc(), text)?;
     canonical_text_keeps_what_was_read(text, &tree);
     let canonical = print_program(rt.alloc(), &tree)?;
@@ -58,4 +59,9 @@ fn tree_that_was_not_read_prints_too(rt: HostRuntime) -> Result<(), Fail> {
         b"proc p(): int {\n  return -9223372036854775808;\n}\n".as_slice()
     );
     Ok(())
+}
+
+#[test]
+fn token_that_the_parser_has_at_hand_takes_32_bytes(rt: HostRuntime) {
+    assert_eq!(rt; size_of::<Atom>(), 32);
 }

@@ -1,3 +1,4 @@
+pub mod Atoms
 pub mod Opened
 pub mod Parsed
 pub mod Taken

@@ -4,54 +4,56 @@ use Rattle.std.proofs.Common.{refl, sym, ap, ◌∙◌, subst, arith, inl, inr, 
 use Rattle.std.proofs.Math.Seq.{drop-length}
 use Rattle.std.proofs.lemmas.List.{map-append, take-append-drop}
 use Rattle.pst_lex.specs.declared.types.Token.{Token}
+use Rattle.pst_parse_expressions.specs.declared.lexeme.Atom.{Atom}
 use Rattle.pst_lex.specs.declared.lexer.Lexer.{Lexer}
 use Rattle.pst_lex.specs.declared.faults.LexFault.{LexFault}
-use Rattle.pst_lex.specs.declared.faults.LexFault.TheVariants as lexical
-use Rattle.pst_lex.specs.Taking.{Left, TakesFromLeft, bytes_left, line_reached}
+use Rattle.pst_lex.specs.Lexing.{Lexes, HasLexing}
+use Rattle.pst_lex.specs.Taking.{BeginsAt, TakesFromLeft, bytes_left, line_reached}
 use Rattle.pst_lex.proofs.Taking.{ends_there}
 use Rattle.pst_tree.specs.declared.declaration.Declaration.{Declaration}
 use Rattle.pst_tree.specs.Syntax as tree
 use Rattle.pst_tree.specs.View.{item_of}
-use Rattle.pst_grammar.specs.Lexemes.{Lexeme, lexeme, lexemes}
+use Rattle.pst_grammar.specs.Lexemes.{Lexeme}
+use Rattle.pst_parse_expressions.specs.View.{atom_of, atoms_of, lexeme_of, lexemes_of}
 use Rattle.pst_grammar.specs.Reader.{Read, Got, Bad, Fault, Unexpected, TooDeep, and_then, many}
 use Rattle.pst_grammar.specs.Declarations.{item, any, declarations}
 use Rattle.pst_grammar.proofs.Many.{many-end}
 use Rattle.pst_parse.specs.declared.window.Window.{Window}
 use Rattle.pst_parse.specs.Answers.{StopsOn}
-use Rattle.pst_parse.specs.Window.{Ahead, HasAhead, KeepsAhead, EndsOn}
+use Rattle.pst_parse.specs.Window.{Ahead, HasAhead, Follows, KeepsAhead, IsFrontOf, EndsOn}
 use Rattle.pst_parse.specs.Taking.{last, read_with, FaultsAmong, Takes, AreRead}
 use Rattle.pst_parse.specs.declared.fault.ParseFault.{ParseFault}
 use Rattle.pst_parse.specs.declared.fault.ParseFault.TheVariants as fault
 use Rattle.pst_parse.proofs.Taken.{broken_with}
 
 -- of the tokens up to the end, those before the window are read
-pub record IsStage (l : ℕ) (tokens : List Token) (end : ℕ) (w : Window) (read : List Declaration) : Type 0 where
-  pub before : List Token
-  pub here : List Token
+pub record IsStage (l : ℕ) (tokens : List Atom) (end : ℕ) (w : Window) (read : List Declaration) : Type 0 where
+  pub before : List Atom
+  pub here : List Atom
   pub split : tokens ≡ before ++ here
   pub ahead : Ahead w here end
-  pub same : read_with l [] (lexemes tokens) ≡ read_with l read (lexemes here)
+  pub same : read_with l [] (lexemes_of tokens) ≡ read_with l read (lexemes_of here)
 
 -- of the tokens up to the end, the last of the window are left, and those behind it
-pub record IsLeft (l : ℕ) (tokens : List Token) (end : ℕ) (w : Window) (left : ℕ) (read : List Declaration) : Type 0 where
-  pub before : List Token
-  pub behind : List Token
+pub record IsLeft (l : ℕ) (tokens : List Atom) (end : ℕ) (w : Window) (left : ℕ) (read : List Declaration) : Type 0 where
+  pub before : List Atom
+  pub behind : List Atom
   pub split : tokens ≡ before ++ (last left w.tokens.items ++ behind)
-  pub more : Left w.lexer behind end
-  pub same : read_with l [] (lexemes tokens) ≡ read_with l read (lexemes (last left w.tokens.items ++ behind))
+  pub more : Follows w.lexer behind end
+  pub same : read_with l [] (lexemes_of tokens) ≡ read_with l read (lexemes_of (last left w.tokens.items ++ behind))
 
-pub first_stage : (l : ℕ) (tokens : List Token) (end : ℕ) (w : Window) → Ahead w tokens end → IsStage l tokens end w []
+pub first_stage : (l : ℕ) (tokens : List Atom) (end : ℕ) (w : Window) → Ahead w tokens end → IsStage l tokens end w []
 first_stage l tokens end w ahead = record { before = []; here = tokens; split = refl; ahead = ahead; same = refl }
 
-parted : (left : ℕ) (window before behind here tokens : List Token) → tokens ≡ before ++ here → here ≡ window ++ behind → tokens ≡ (before ++ take (length window - left) window) ++ (last left window ++ behind)
+parted : (left : ℕ) (window before behind here tokens : List Atom) → tokens ≡ before ++ here → here ≡ window ++ behind → tokens ≡ (before ++ take (length window - left) window) ++ (last left window ++ behind)
 parted left window before behind here tokens split is =
     let n = length window - left in
     split ∙ ap (λ x. before ++ x) (is ∙ ap (λ x. x ++ behind) (sym (take-append-drop n window)) ∙ append_assoc (take n window) (drop n window) behind)
     ∙ sym (append_assoc before (take n window) (drop n window ++ behind))
 
 -- after declarations were taken
-pub taken : (l : ℕ) (tokens : List Token) (end : ℕ) (w : Window) (left : ℕ) (read more : List Declaration) → IsStage l tokens end w read →
-    ((later : List Lexeme) → read_with l read (lexemes w.tokens.items ++ later) ≡ read_with l more (lexemes (last left w.tokens.items) ++ later)) → IsLeft l tokens end w left more
+pub taken : (l : ℕ) (tokens : List Atom) (end : ℕ) (w : Window) (left : ℕ) (read more : List Declaration) → IsStage l tokens end w read →
+    ((later : List Lexeme) → read_with l read (lexemes_of w.tokens.items ++ later) ≡ read_with l more (lexemes_of (last left w.tokens.items) ++ later)) → IsLeft l tokens end w left more
 taken l tokens end w left read more stage takes =
     let (behind, is, lexed) = stage.ahead in
     record {
@@ -59,48 +61,59 @@ taken l tokens end w left read more stage takes =
       behind = behind;
       split = parted left w.tokens.items stage.before behind stage.here tokens stage.split is;
       more = lexed;
-      same = stage.same ∙ ap (λ x. read_with l read (lexemes x)) is ∙ ap (read_with l read) (map-append lexeme w.tokens.items behind) ∙ takes (lexemes behind)
-          ∙ ap (read_with l more) (sym (map-append lexeme (last left w.tokens.items) behind));
+      same = stage.same ∙ ap (λ x. read_with l read (lexemes_of x)) is ∙ ap (read_with l read) (map-append lexeme_of w.tokens.items behind) ∙ takes (lexemes_of behind)
+          ∙ ap (read_with l more) (sym (map-append lexeme_of (last left w.tokens.items) behind));
     }
 
 -- after the window was filled again
-pub refilled : (l : ℕ) (tokens : List Token) (end : ℕ) (w kept new : Window) (left : ℕ) (read : List Declaration) → IsLeft l tokens end w left read →
+pub refilled : (l : ℕ) (tokens : List Atom) (end : ℕ) (w kept new : Window) (left : ℕ) (read : List Declaration) → IsLeft l tokens end w left read →
     kept.tokens.items ≡ last left w.tokens.items → kept.lexer ≡ w.lexer → KeepsAhead kept new → IsStage l tokens end new read
 refilled l tokens end w kept new left read stage items lexer keeps = record {
   before = stage.before;
   here = last left w.tokens.items ++ stage.behind;
   split = stage.split;
-  ahead = keeps (last left w.tokens.items ++ stage.behind) end (stage.behind, ap (λ x. x ++ stage.behind) (sym items), subst (λ (x : Lexer). Left x stage.behind end) (sym lexer) stage.more);
+  ahead = keeps (last left w.tokens.items ++ stage.behind) end (stage.behind, ap (λ x. x ++ stage.behind) (sym items), subst (λ (x : Lexer). Follows x stage.behind end) (sym lexer) stage.more);
   same = stage.same;
 }
 
-pub kept_ahead : (w kept : Window) (items : List Token) → HasAhead w → kept.tokens.items ≡ items → kept.lexer ≡ w.lexer → HasAhead kept
-kept_ahead w kept items (tokens, end, (behind, is, lexed)) same lexer = (kept.tokens.items ++ behind, end, (behind, refl, subst (λ (x : Lexer). Left x behind end) (sym lexer) lexed))
+pub kept_ahead : (w kept : Window) (items : List Atom) → HasAhead w → kept.tokens.items ≡ items → kept.lexer ≡ w.lexer → HasAhead kept
+kept_ahead w kept items (tokens, end, (behind, is, lexed)) same lexer = (kept.tokens.items ++ behind, end, (behind, refl, subst (λ (x : Lexer). Follows x behind end) (sym lexer) lexed))
 
 pub filled_ahead : (kept new : Window) → HasAhead kept → KeepsAhead kept new → HasAhead new
 filled_ahead kept new (tokens, end, ahead) keeps = (tokens, end, keeps tokens end ahead)
 
+-- before the first token all tokens of the text are ahead
+pub front_of : (w : Window) (text : List ℕ) → HasLexing text → w.tokens.items ≡ [] → BeginsAt w.lexer text → IsFrontOf w text
+front_of w text (tokens, end, lexes) none begins = ((atoms_of tokens, end, ahead tokens end lexes), none, ahead)
+  where
+    ahead : (ts : List Token) (e : ℕ) → Lexes text ts e → Ahead w (atoms_of ts) e
+    ahead ts e h = (atoms_of ts, ap (λ x. x ++ atoms_of ts) (sym none), (ts, refl, rw (begins.0, begins.1, begins.2) h))
+
 -- ---- filling
 
 -- one more token is at hand
-pub one_more : (old w new : Window) (t : Token) → KeepsAhead old w → TakesFromLeft (Ok (Some t)) w.lexer new.lexer → new.tokens.items ≡ w.tokens.items ++ t ∷ [] → KeepsAhead old new
-one_more old w new t keeps takes pushed tokens end ahead =
-    let (left, is, lexed) = keeps tokens end ahead in
-    let (more, next, lexed') = takes left end lexed in
-    (more, is ∙ ap (λ x. w.tokens.items ++ x) next ∙ sym (append_assoc w.tokens.items (t ∷ []) more) ∙ ap (λ x. x ++ more) (sym pushed), lexed')
+pub one_more : (old w new : Window) (t : Token) (a : Atom) → KeepsAhead old w → TakesFromLeft (Ok (Some t)) w.lexer new.lexer → a ≡ atom_of t → new.tokens.items ≡ w.tokens.items ++ a ∷ [] → KeepsAhead old new
+one_more old w new t a keeps takes kept put tokens end ahead =
+    let pushed : new.tokens.items ≡ w.tokens.items ++ atom_of t ∷ [] = put ∙ ap (λ x. w.tokens.items ++ x ∷ []) kept in
+    let (left, is, (here, seen, lexed)) = keeps tokens end ahead in
+    let (more, next, lexed') = takes here end lexed in (
+      atoms_of more,
+      is ∙ ap (λ x. w.tokens.items ++ x) (seen ∙ ap atoms_of next) ∙ sym (append_assoc w.tokens.items (atom_of t ∷ []) (atoms_of more)) ∙ ap (λ x. x ++ atoms_of more) (sym pushed),
+      (more, refl, lexed'),
+    )
 
 -- the end is reached
 pub no_more : (old w new : Window) → KeepsAhead old w → TakesFromLeft (Ok None) w.lexer new.lexer → new.tokens.items ≡ w.tokens.items → KeepsAhead old new
 no_more old w new keeps takes same tokens end ahead =
-    let (left, is, lexed) = keeps tokens end ahead in
-    let (none, lexed') = takes left end lexed in
-    ([], is ∙ ap (λ x. w.tokens.items ++ x) none ∙ ap (λ x. x ++ []) (sym same), lexed')
+    let (left, is, (here, seen, lexed)) = keeps tokens end ahead in
+    let (none, lexed') = takes here end lexed in
+    ([], is ∙ ap (λ x. w.tokens.items ++ x) (seen ∙ ap atoms_of none) ∙ ap (λ x. x ++ []) (sym same), ([], refl, lexed'))
 
 -- no fault stands where tokens are up to the end
-pub only_memory : (old w : Window) (after : Lexer) (f : LexFault) → HasAhead old → KeepsAhead old w → TakesFromLeft (Err f) w.lexer after → f ≡ lexical.Memory
-only_memory old w after f (tokens, end, ahead) keeps takes =
-    let (left, is, lexed) = keeps tokens end ahead in
-    (takes left end lexed).0
+pub no_fault : (old w : Window) (after : Lexer) (f : LexFault) → HasAhead old → KeepsAhead old w → TakesFromLeft (Err f) w.lexer after → ⊥
+no_fault old w after f (tokens, end, ahead) keeps takes =
+    let (left, is, (here, seen, lexed)) = keeps tokens end ahead in
+    takes here end lexed
 
 -- ---- what is answered
 
@@ -122,43 +135,43 @@ all_bad l ts rest fault e = go (many any (item l 63 15) ts) e
     go (Bad k s) q = let kind : k ≡ fault = cc in let there : s ≡ rest = cc in ap (λ z. Bad z s) kind ∙ ap (Bad fault) there
 
 -- a fault among the tokens of the window
-pub stopped : (l : ℕ) (fault : Fault) (line : ℕ) (tokens : List Token) (end : ℕ) (w : Window) (read : List Declaration) → IsStage l tokens end w read → FaultsAmong l fault line w.tokens.items read →
-    StopsOn fault line (declarations l 63 15 (lexemes tokens)) tokens end
+pub stopped : (l : ℕ) (fault : Fault) (line : ℕ) (tokens : List Atom) (end : ℕ) (w : Window) (read : List Declaration) → IsStage l tokens end w read → FaultsAmong l fault line w.tokens.items read →
+    StopsOn fault line (declarations l 63 15 (lexemes_of tokens)) tokens end
 stopped l fault line tokens end w read stage (left, (t, rest, is, on), bad) =
     let (behind, split, lexed) = stage.ahead in
     let there : last left w.tokens.items ++ behind ≡ t ∷ (rest ++ behind) = ap (λ x. x ++ behind) is in
-    let found : read_with l [] (lexemes tokens) ≡ Bad fault (lexemes (t ∷ (rest ++ behind))) =
-    stage.same ∙ ap (λ x. read_with l read (lexemes x)) split ∙ ap (read_with l read) (map-append lexeme w.tokens.items behind) ∙ bad (lexemes behind)
-    ∙ ap (Bad fault) (sym (map-append lexeme (last left w.tokens.items) behind) ∙ ap lexemes there) in (
+    let found : read_with l [] (lexemes_of tokens) ≡ Bad fault (lexemes_of (t ∷ (rest ++ behind))) =
+    stage.same ∙ ap (λ x. read_with l read (lexemes_of x)) split ∙ ap (read_with l read) (map-append lexeme_of w.tokens.items behind) ∙ bad (lexemes_of behind)
+    ∙ ap (Bad fault) (sym (map-append lexeme_of (last left w.tokens.items) behind) ∙ ap lexemes_of there) in (
       stage.before ++ take (length w.tokens.items - left) w.tokens.items,
       t ∷ (rest ++ behind),
       parted left w.tokens.items stage.before behind stage.here tokens stage.split split ∙ ap (λ x. (stage.before ++ take (length w.tokens.items - left) w.tokens.items) ++ x) there,
-      all_bad l (lexemes tokens) (lexemes (t ∷ (rest ++ behind))) fault found,
+      all_bad l (lexemes_of tokens) (lexemes_of (t ∷ (rest ++ behind))) fault found,
       on,
     )
 
-pub none_behind : (w : Window) (behind : List Token) (end : ℕ) → bytes_left w.lexer ≡ 0 → Left w.lexer behind end → behind ≡ []
-none_behind w behind end none lexed = (ends_there true w.lexer (rw none refl) refl behind end lexed).0
+pub none_behind : (w : Window) (behind : List Atom) (end : ℕ) → bytes_left w.lexer ≡ 0 → Follows w.lexer behind end → behind ≡ []
+none_behind w behind end none (here, seen, lexed) = seen ∙ ap atoms_of (ends_there true w.lexer (rw none refl) refl here end lexed).0
 
 -- the line behind the tokens that were taken is that of the end
-pub end_is : (w : Window) (tokens : List Token) (end : ℕ) → bytes_left w.lexer ≡ 0 → Ahead w tokens end → end ≡ line_reached w.lexer
-end_is w tokens end none (behind, is, lexed) = (ends_there true w.lexer (rw none refl) refl behind end lexed).1
+pub end_is : (w : Window) (tokens : List Atom) (end : ℕ) → bytes_left w.lexer ≡ 0 → Ahead w tokens end → end ≡ line_reached w.lexer
+end_is w tokens end none (behind, is, (here, seen, lexed)) = (ends_there true w.lexer (rw none refl) refl here end lexed).1
 
 -- the text ends, and no token is left
-pub all_read : (l : ℕ) (tokens : List Token) (end : ℕ) (w : Window) (left : ℕ) (read : List Declaration) → IsLeft l tokens end w left read → bytes_left w.lexer ≡ 0 → left ≡ 0 →
-    declarations l 63 15 (lexemes tokens) ≡ Got (record { language = l; items = map item_of read }) []
+pub all_read : (l : ℕ) (tokens : List Atom) (end : ℕ) (w : Window) (left : ℕ) (read : List Declaration) → IsLeft l tokens end w left read → bytes_left w.lexer ≡ 0 → left ≡ 0 →
+    declarations l 63 15 (lexemes_of tokens) ≡ Got (record { language = l; items = map item_of read }) []
 all_read l tokens end w left read stage none done =
     let window = w.tokens.items in
     let whole : last left window ≡ [] = ap (λ k. drop k window) (omega (arith, done)) ∙ drop-length window in
     let nothing : last left window ++ stage.behind ≡ [] = ap (λ x. x ++ stage.behind) whole ∙ none_behind w stage.behind end none stage.more in
-    all_got l (lexemes tokens) [] (map item_of read) (stage.same ∙ ap (λ x. read_with l read (lexemes x)) nothing ∙ ending)
+    all_got l (lexemes_of tokens) [] (map item_of read) (stage.same ∙ ap (λ x. read_with l read (lexemes_of x)) nothing ∙ ending)
   where
     ending : read_with l read [] ≡ Got (map item_of read) []
     ending = rw (many-end any (item l 63 15)) (ap (λ x. Got x []) (append-nil (map item_of read)))
 
 -- the text ends in a declaration
-pub broken_off : (l : ℕ) (line : ℕ) (tokens : List Token) (end : ℕ) (w : Window) (left : ℕ) (read : List Declaration) → IsLeft l tokens end w left read → bytes_left w.lexer ≡ 0 → 0 < left → left ≤ length w.tokens.items →
-    (left ≡ 0) ⊎ (item l 63 15 (lexemes (last left w.tokens.items)) ≡ Bad Unexpected []) → EndsOn line w → StopsOn Unexpected line (declarations l 63 15 (lexemes tokens)) tokens end
+pub broken_off : (l : ℕ) (line : ℕ) (tokens : List Atom) (end : ℕ) (w : Window) (left : ℕ) (read : List Declaration) → IsLeft l tokens end w left read → bytes_left w.lexer ≡ 0 → 0 < left → left ≤ length w.tokens.items →
+    (left ≡ 0) ⊎ (item l 63 15 (lexemes_of (last left w.tokens.items)) ≡ Bad Unexpected []) → EndsOn line w → StopsOn Unexpected line (declarations l 63 15 (lexemes_of tokens)) tokens end
 broken_off l line tokens end w left read stage none some le (inl zero) ends = absurd (omega (arith, zero, some))
 broken_off l line tokens end w left read stage none some le (inr bad) ends =
     let window = w.tokens.items in
@@ -167,13 +180,13 @@ broken_off l line tokens end w left read stage none some le (inr bad) ends =
       tokens,
       [],
       sym (append-nil tokens),
-      all_bad l (lexemes tokens) [] Unexpected (stage.same ∙ ap (λ x. read_with l read (lexemes x)) rest ∙ broken_with l read (last left window) long bad),
+      all_bad l (lexemes_of tokens) [] Unexpected (stage.same ∙ ap (λ x. read_with l read (lexemes_of x)) rest ∙ broken_with l read (last left window) long bad),
       sym (ends none (window ++ stage.behind) end (stage.behind, refl, stage.more)),
     )
 
 -- ---- what taking declarations answers
 
-pub bad_among : (l : ℕ) (f : ParseFault) (tokens : List Token) (end : ℕ) (w : Window) (read : List Declaration) (window : List Token) (read' more : List Declaration) → IsStage l tokens end w read →
+pub bad_among : (l : ℕ) (f : ParseFault) (tokens : List Atom) (end : ℕ) (w : Window) (read : List Declaration) (window : List Atom) (read' more : List Declaration) → IsStage l tokens end w read →
     window ≡ w.tokens.items → read' ≡ read → Takes l (Err f) window read' more → AreRead l (Err f) tokens end
 bad_among l f tokens end w read window read' more stage e e' takes =
     go f (subst (λ x. Takes l (Err f) x read more) e (subst (λ x. Takes l (Err f) window x more) e' takes))
@@ -183,9 +196,9 @@ bad_among l f tokens end w read window read' more stage e e' takes =
     go (fault.TooDeep line) h = stopped l TooDeep line tokens end w read stage h
     go fault.Memory h = tt
 
-pub all_left : (l : ℕ) (w : Window) (left : ℕ) (window : List Token) (read read' more : List Declaration) → window ≡ w.tokens.items → read' ≡ read → Takes l (Ok left) window read' more →
-    (left ≤ length w.tokens.items) × ((left ≡ 0) ⊎ (item l 63 15 (lexemes (last left w.tokens.items)) ≡ Bad Unexpected []))
-    × ((tokens : List Token) (end : ℕ) → IsStage l tokens end w read → IsLeft l tokens end w left more)
+pub all_left : (l : ℕ) (w : Window) (left : ℕ) (window : List Atom) (read read' more : List Declaration) → window ≡ w.tokens.items → read' ≡ read → Takes l (Ok left) window read' more →
+    (left ≤ length w.tokens.items) × ((left ≡ 0) ⊎ (item l 63 15 (lexemes_of (last left w.tokens.items)) ≡ Bad Unexpected []))
+    × ((tokens : List Atom) (end : ℕ) → IsStage l tokens end w read → IsLeft l tokens end w left more)
 all_left l w left window read read' more e e' takes =
     let (within, broken, same) : Takes l (Ok left) w.tokens.items read more = subst (λ x. Takes l (Ok left) x read more) e (subst (λ x. Takes l (Ok left) window x more) e' takes) in
     (within, broken, λ tokens end stage. taken l tokens end w left read more stage same)

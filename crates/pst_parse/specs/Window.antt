@@ -1,25 +1,32 @@
 -- The next tokens of a text, and what is left of it behind them.
 use Rattle.std.specs.Prelude.{◌≡◌, ◌≤◌, ◌<◌, ◌+◌, ◌⊎◌, ℕ, Bool, true, false, List, [], ◌++◌, length}
 use Rattle.pst_lex.specs.declared.types.Token.{Token}
+use Rattle.pst_lex.specs.declared.lexer.Lexer.{Lexer}
 use Rattle.pst_lex.specs.Lexing.{Lexes}
 use Rattle.pst_lex.specs.Taking.{Left, bytes_left}
+use Rattle.pst_parse_expressions.specs.declared.lexeme.Atom.{Atom}
+use Rattle.pst_parse_expressions.specs.View.{atoms_of}
 use Rattle.pst_parse.specs.declared.window.Window.{Window}
 
+-- these tokens are left, as the parser has them at hand, and the end has this line
+abbrev pub Follows : Lexer → List Atom → (end : ℕ) → Type 0
+Follows lexer atoms end = (tokens : List Token) × (atoms ≡ atoms_of tokens) × Left lexer tokens end
+
 -- these tokens are still to be read, up to the end on this line: those at hand, and then those that the text has left
-abbrev pub Ahead : Window → List Token → (end : ℕ) → Type 0
-Ahead w tokens end = (left : List Token) × (tokens ≡ w.tokens.items ++ left) × Left w.lexer left end
+abbrev pub Ahead : Window → List Atom → (end : ℕ) → Type 0
+Ahead w tokens end = (left : List Atom) × (tokens ≡ w.tokens.items ++ left) × Follows w.lexer left end
 
 -- there are tokens up to the end
 abbrev pub HasAhead : Window → Type 0
-HasAhead w = (tokens : List Token) × (end : ℕ) × Ahead w tokens end
+HasAhead w = (tokens : List Atom) × (end : ℕ) × Ahead w tokens end
 
 -- what was still to be read is so
 abbrev pub KeepsAhead : (old new : Window) → Type 0
-KeepsAhead old new = (tokens : List Token) (end : ℕ) → Ahead old tokens end → Ahead new tokens end
+KeepsAhead old new = (tokens : List Atom) (end : ℕ) → Ahead old tokens end → Ahead new tokens end
 
 -- the tokens of the text are still to be read, and none is at hand
 abbrev pub IsFrontOf : Window → List ℕ → Type 0
-IsFrontOf w text = HasAhead w × (w.tokens.items ≡ []) × ((tokens : List Token) (end : ℕ) → Lexes text tokens end → Ahead w tokens end)
+IsFrontOf w text = HasAhead w × (w.tokens.items ≡ []) × ((tokens : List Token) (end : ℕ) → Lexes text tokens end → Ahead w (atoms_of tokens) end)
 
 -- no byte is left of the text, or two tokens were taken at least; and fewer bytes are left, where some were
 abbrev pub IsFilled : (old new : Window) → Type 0
@@ -32,4 +39,4 @@ IsLast false w = 0 < bytes_left w.lexer
 
 -- where no byte is left, this is the line of the end
 abbrev pub EndsOn : ℕ → Window → Type 0
-EndsOn line w = bytes_left w.lexer ≡ 0 → (tokens : List Token) (end : ℕ) → Ahead w tokens end → end ≡ line
+EndsOn line w = bytes_left w.lexer ≡ 0 → (tokens : List Atom) (end : ℕ) → Ahead w tokens end → end ≡ line

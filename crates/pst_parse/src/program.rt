@@ -8,9 +8,8 @@ ghost use Rattle.pst_parse.specs.Taking.{StandsOn, Takes, Declares, Opens, HasRo
 
 use crate::fault::ParseFault;
 use crate::window::Window;
-use pst_declarations::{behind_two, behind_word, declaration, is_token};
-use pst_expressions::Stop;
-use pst_lex::Token;
+use pst_parse_declarations::{behind_two, behind_word, declaration, is_token};
+use pst_parse_expressions::{Atom, Stop};
 use pst_tree::{Declaration, Declarations, Tree};
 use std::alloc::Global;
 
@@ -21,12 +20,12 @@ const HEIGHT: u8 = 63;
 const NESTING: u8 = 15;
 
 /// The line of the token from which on so many tokens are left.
-fn line_from(tokens: &[Token], left: usize) -> u32
+fn line_from(tokens: &[Atom<'_>], left: usize) -> u32
     requires some { 0 < left }
     requires within { left ≤ length tokens.now }
     ensures { StandsOn result tokens.now left }
 {
-    tokens[tokens.len() - left].line
+    tokens[tokens.len() - left].line()
 }
 
 /// Takes the declarations that stand at the front of the tokens, one after another, and answers how many tokens are left: none,
@@ -34,15 +33,17 @@ fn line_from(tokens: &[Token], left: usize) -> u32
 fn take_declarations(
     alloc: Global,
     language: u8,
-    tokens: &[Token],
+    tokens: &[Atom<'_>],
     items: &mut Vec<Declaration>,
 ) -> Result<usize, ParseFault>
     ensures { Takes language result tokens.now items.old.items items.new.items }
 {
-    let mut rest = tokens;
+    // All of them, as a part, as in `pst_parse_statements::block`.
+    let (_, mut rest) = tokens.split_at(0);
     while is_token(rest) {
         match declaration(alloc, language, rest, HEIGHT, NESTING) {
-            Ok((declaration, behind)) => {
+            Ok(read) => {
+                let (declaration, behind) = read;
                 items.push(declaration)?;
                 rest = behind;
             }
@@ -72,7 +73,7 @@ fn declarations(alloc: Global, language: u8, mut window: Window) -> Result<Decla
     let mut left = take_declarations(alloc, language, window.tokens(), &mut items)?;
     while !window.is_last() {
         window.keep(left);
-        window.fill(alloc)?;
+        window.fill()?;
         left = take_declarations(alloc, language, window.tokens(), &mut items)?;
     }
     if left > 0 {
@@ -112,7 +113,7 @@ fn program(alloc: Global, text: &[u8]) -> Result<Tree, ParseFault>
     ensures { Parses result text.now }
 {
     let mut window = Window::new(alloc, text);
-    window.fill(alloc)?;
+    window.fill()?;
     let (language, left) = opening(&window)?;
     window.keep(left);
     let declarations = declarations(alloc, language, window)?;

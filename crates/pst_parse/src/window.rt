@@ -3,24 +3,26 @@
 ghost use Rattle.std.specs.Prelude.{◌≡◌, ◌+◌, ◌-◌, ◌<◌, ◌≤◌, ◌^◌, length, drop, IfOk, OnOk};
 
 use pst_base::NoMemory;
-use pst_lex::{LexFault, Lexer, Token};
-use std::alloc::{AllocError, Global};
+use pst_lex::Lexer;
+use pst_parse_expressions::Atom;
+use std::alloc::Global;
 
 /// How many tokens are taken at once, at least.
 const LEAST: usize = 4_096;
 
-/// The one fault of a text that has tokens up to its end.
-fn no_memory(fault: LexFault) -> NoMemory
-    requires { fault ≡ LexFault.Memory }
+/// Lets the front of a list go, and keeps so many items at its end.
+fn keep_last<T: Drop>(items: &mut Vec<T>, left: usize)
+    requires { left ≤ length items.old.items }
+    ensures { items.new.items ≡ drop (length items.old.items - left) items.old.items }
 {
-    let _ = fault;
-    AllocError
+    let read = items.len() - left;
+    items.drain(..read);
 }
 
-/// The next tokens of a text that has tokens up to its end, and the text behind them.
+/// The next tokens of a text that has tokens up to its end, and the text behind them. Their names borrow from the text.
 #[derive(Drop)]
 pub struct Window<'a> {
-    tokens: Vec<Token>,
+    tokens: Vec<Atom<'a>>,
     lexer: Lexer<'a>,
 }
 
@@ -41,7 +43,7 @@ impl<'a> Window<'a> {
     }
 
     /// The tokens that are at hand.
-    pub fn tokens(&self) -> &[Token]
+    pub fn tokens(&self) -> &[Atom<'a>]
         ensures { result.now ≡ self.now.tokens.items }
     {
         self.tokens.as_slice()
@@ -67,8 +69,7 @@ impl<'a> Window<'a> {
         ensures tokens { self.new.tokens.items ≡ drop (length self.old.tokens.items - left) self.old.tokens.items }
         ensures lexer { self.new.lexer ≡ self.old.lexer }
     {
-        let read = self.tokens.len() - left;
-        self.tokens.drain(..read);
+        keep_last(&mut self.tokens, left);
     }
 
     /// Takes as many tokens more as are at hand, and a few at least, up to the end of the text. So what is read again, for want
@@ -76,16 +77,17 @@ impl<'a> Window<'a> {
     ///
     /// # Errors
     /// Want of memory.
-    pub fn fill(&mut self, alloc: Global) -> Result<(), NoMemory>
+    pub fn fill(&mut self) -> Result<(), NoMemory>
         requires { HasAhead self.old }
         ensures ahead { OnOk result (KeepsAhead self.old self.new) }
         ensures filled { OnOk result (IsFilled self.old self.new) }
     {
         for _ in 0..self.tokens.len().max(LEAST) {
-            match self.lexer.next_token(alloc) {
-                Ok(Some(token)) => self.tokens.push(token)?,
+            match self.lexer.next_token() {
+                Ok(Some(token)) => self.tokens.push(Atom::from_token(token))?,
                 Ok(None) => return Ok(()),
-                Err(fault) => return Err(no_memory(fault)),
+                // No fault stands where there are tokens up to the end.
+                Err(_) => return Ok(()),
             }
         }
         Ok(())

@@ -4,8 +4,8 @@ ghost use Rattle.std.specs.Prelude.{◌≡◌, ℕ, ◌+◌, ◌≤◌, List, []
 ghost use Rattle.pst_split.specs.Load.{IsSound, IsOver, potential_of};
 ghost use Rattle.pst_split.specs.Steps.{Queues};
 ghost use Rattle.pst_split.specs.Shown.{ShowsAll, KeepsLive};
-ghost use Rattle.pst_meaning.specs.Steps.{AreSplits};
-ghost use Rattle.pst_joint.specs.Seen.{seen};
+ghost use Rattle.pst_store_meaning.specs.Steps.{AreSplits};
+ghost use Rattle.pst_repair.specs.Seen.{seen};
 ghost use Rattle.pst_repair.specs.Repair.{IsQueued, IsDone, splits_in};
 
 use pst_base::{NoMemory, Shape};

@@ -10,12 +10,12 @@ use Rattle.pst_places.specs.declared.heap_at.StoreFault.TheVariants.{InDegree, M
 use Rattle.pst_places.specs.State.{State, ForkRow, Forked, Grows, IsOpenFork, Keeps, Unchanged, ValueStored}
 use Rattle.pst_places.specs.Store.{PointerOutcome}
 use Rattle.pst_places.proofs.StateLemmas.{Grows_trans}
-use Rattle.pst_meaning.specs.declared.place.Place.{Place}
-use Rattle.pst_meaning.specs.Store.{Stored, state_of}
-use Rattle.pst_meaning.proofs.Places.{slice_get-below, slice_get-last, store_is_versioned}
-use Rattle.pst_started.specs.Calls.{IsKept}
-use Rattle.pst_rings.specs.Rings.{HasRing, IsStamped}
-use Rattle.pst_rings.proofs.Rings.{placed_row, ring_grows, rings_grow}
+use Rattle.pst_store_meaning.specs.declared.place.Place.{Place}
+use Rattle.pst_store_meaning.specs.Store.{Stored, state_of}
+use Rattle.pst_store_meaning.proofs.Places.{slice_get-below, slice_get-last, store_is_versioned}
+use Rattle.pst_store.specs.Calls.{IsKept}
+use Rattle.pst_store_rings.specs.Rings.{HasRing, IsStamped}
+use Rattle.pst_store_rings.proofs.Rings.{placed_row, ring_grows, rings_grow}
 
 -- an unpublished fork can be written
 pub open_writable : (s : Stored) (at : Place) → IsKept s → (from : Place) × IsOpenFork (state_of s) at from → (state_of s).writable at

@@ -9,21 +9,20 @@ ghost use Rattle.std.specs.Option.{option_map};
 ghost use Rattle.pst_base.specs.Heap.{FitsField};
 ghost use Rattle.pst_base.specs.declared.names.Kind.TheVariants.{Pointer};
 ghost use Rattle.pst_places.specs.State.{Grows, IsOpenFork, Keeps};
-ghost use Rattle.pst_meaning.specs.declared.place.Place.{Place};
-ghost use Rattle.pst_meaning.specs.Store.{state_of};
-ghost use Rattle.pst_rings.specs.Rings.{HasRing, IsStamped};
+ghost use Rattle.pst_store_meaning.specs.declared.place.Place.{Place};
+ghost use Rattle.pst_store_meaning.specs.Store.{state_of};
+ghost use Rattle.pst_store_rings.specs.Rings.{HasRing, IsStamped};
 
-use pst_arena::Arena;
 use pst_base::{Kind, NoMemory, NodeId, RunNo, Shape, VersionNo};
 use pst_labels::LabelOrder;
-use pst_meaning::place::Place;
 use pst_order::Order;
 use pst_places::StoreFault;
-use pst_rings::{
+use pst_store::{Started, Store};
+use pst_store_arena::Arena;
+use pst_store_meaning::place::Place;
+use pst_store_rings::{
     FIRST, ITEM, NEXT, Reading, SECOND, Trouble, VALUE, readings, start_ring, type_of,
 };
-use pst_started::Started;
-use pst_store::Store;
 use std::alloc::Global;
 
 /// How often a call is made at most: one growth is refused, so the second time it succeeds.

@@ -122,17 +122,17 @@ pub(crate) fn answer(
     alloc: Global,
     program: &Program,
     history: &mut NumberedHistory,
-    line: &Command,
+    command: &Command,
 ) -> Result<Reply, NoMemory>
     requires typed { IsTyped (routines_of program.now) }
     requires sound { IsSoundHistory (meaning_of program.now) (kept_for program.now history.old) }
     requires numbered { IsNumbered program.now history.old }
-    requires accepted { refusal (meaning_of program.now) (kept_for program.now history.old) line.now ≡ None }
-    ensures reply { IfOk result (λ r. r ≡ answered (meaning_of program.now) (kept_for program.now history.old) line.now) }
-    ensures changed { OnOk result (kept_for program.now history.new ≡ changed (meaning_of program.now) (kept_for program.now history.old) line.now) }
+    requires accepted { refusal (meaning_of program.now) (kept_for program.now history.old) command.now ≡ None }
+    ensures reply { IfOk result (λ r. r ≡ answered (meaning_of program.now) (kept_for program.now history.old) command.now) }
+    ensures changed { OnOk result (kept_for program.now history.new ≡ changed (meaning_of program.now) (kept_for program.now history.old) command.now) }
     ensures numbered { OnOk result (IsNumbered program.now history.new) }
 {
-    match line {
+    match command {
         Command::Run(call) => run(alloc, program, history, call),
         Command::Query(call) => query(alloc, program, history, call),
         Command::OpenRun(call) => {

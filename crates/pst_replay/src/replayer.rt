@@ -18,7 +18,7 @@ use crate::answer::answer;
 use crate::history::NumberedHistory;
 use pst_base::NoMemory;
 use pst_program::Program;
-use pst_refusals::refused;
+use pst_replay_refusals::refused;
 use pst_script::{Command, Reply};
 use std::alloc::Global;
 
@@ -35,11 +35,11 @@ pub struct Replayer {
 }
 
 /// How many runs are open after a command that is not refused.
-fn open_after(open_runs: usize, line: &Command) -> usize
+fn open_after(open_runs: usize, command: &Command) -> usize
     requires { open_runs ≤ RUNS + 1 }
-    ensures { result ≡ open_after open_runs line.now }
+    ensures { result ≡ open_after open_runs command.now }
 {
-    match line {
+    match command {
         Command::OpenRun(_) => open_runs + 1,
         Command::OpenEmpty { .. } => open_runs + 1,
         Command::CloseRun { .. } => open_runs.saturating_sub(1),
@@ -73,25 +73,25 @@ impl Replayer {
     /// nothing. Want of memory is the one fault: the replayer is failed then, answers the same from then on, and stays as
     /// it is. The program is the same at each call, and the numbers of the commands before are such as a line can give.
     #[tactic(auto, unfolding(pst_history::specs::History::reply, pst_history::specs::History::after))]
-    pub fn apply(&mut self, program: &Program, line: &Command) -> Result<Reply, NoMemory>
+    pub fn apply(&mut self, program: &Program, command: &Command) -> Result<Reply, NoMemory>
         requires typed { IsTyped (routines_of program.now) }
         requires may { self.old.failed ≡ false → MayApply program.now self.old }
         ensures ok { IfOk result (λ r. (self.old.failed ≡ false) × (self.new.failed ≡ false)) }
-        ensures answers { IfOk result (λ r. Answers (meaning_of program.now) (kept_for program.now self.old.history) line.now r (kept_for program.now self.new.history)) }
+        ensures answers { IfOk result (λ r. Answers (meaning_of program.now) (kept_for program.now self.old.history) command.now r (kept_for program.now self.new.history)) }
         ensures refused { IfOk result (λ r. (why : Refusal) → r ≡ answer.Refused why → self.new ≡ self.old) }
-        ensures may { IfOk result (λ r. in_range line.now ≡ true → MayApply program.now self.new) }
+        ensures may { IfOk result (λ r. in_range command.now ≡ true → MayApply program.now self.new) }
         ensures err { OnErr result (self.new.failed ≡ true) }
         ensures failed { self.old.failed ≡ true → OnErr result (self.new ≡ self.old) × IsErr result }
     {
         if self.failed {
             return Err(NoMemory);
         }
-        if let Some(refusal) = refused(program, &self.history.since, self.open_runs, line) {
+        if let Some(refusal) = refused(program, &self.history.since, self.open_runs, command) {
             return Ok(Reply::Refused(refusal));
         }
         self.failed = true;
-        let reply = answer(self.alloc, program, &mut self.history, line)?;
-        self.open_runs = open_after(self.open_runs, line);
+        let reply = answer(self.alloc, program, &mut self.history, command)?;
+        self.open_runs = open_after(self.open_runs, command);
         self.failed = false;
         Ok(reply)
     }

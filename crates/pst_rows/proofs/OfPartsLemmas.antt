@@ -2,7 +2,7 @@ use Rattle.std.proofs.Common.{◌≡◌, ℕ, zero, suc, ◌+◌, ◌<◌, ◌�
 use Rattle.std.proofs.lemmas.Bool.{cases_eq, le-ltb}
 use Rattle.pst_rows.specs.declared.content.Content.{Content}
 use Rattle.pst_rows.specs.declared.content.Content.TheVariants.{Null}
-use Rattle.pst_rows.specs.declared.content.Slot.{Slot}
+use Rattle.pst_rows.specs.Slots.{SlotValue as Slot}
 use Rattle.pst_rows.specs.declared.content.Stamp.{Stamp}
 use Rattle.pst_rows.specs.Values.{no_slot, before_slot, AreStamps}
 use Rattle.pst_rows.specs.Steps.{AreRecounted}
@@ -68,17 +68,17 @@ bare_length : (cs : List Content) → length (map bare_slot cs) ≡ length cs
 bare_length [] = refl
 bare_length (c ∷ cs) = ap suc (bare_length cs)
 
--- what the three steps make
-pub all_made : (bases : List Content) (stamps : List Stamp) (slots counted added : List Slot) → slots ≡ map bare_slot bases → AreCounted slots counted stamps → AreRecounted counted added stamps → added ≡ slots_from stamps 0 bases
-all_made bases stamps slots counted added e h k =
+-- what the steps make
+pub all_made : (bases : List Content) (stamps : List Stamp) (slots added : List Slot) → slots ≡ map bare_slot bases → AreRecounted slots added stamps → added ≡ slots_from stamps 0 bases
+all_made bases stamps slots added e k =
     let n : length slots ≡ length bases = ap length e ∙ bare_length bases in
-    made stamps 0 bases added (k.count ∙ (h.count ∙ n))
-    (λ g l. k.contents g ∙ (h.contents g ∙ (ap (λ (ss : List Slot). (get_or ss g no_slot).content) e ∙ bare_content bases g)))
-    (λ g l. k.starts g (omega (arith, k.count, h.count, n)) ∙ ap (before_slot stamps) (omega arith))
+    made stamps 0 bases added (k.count ∙ n)
+    (λ g l. k.contents g ∙ (ap (λ (ss : List Slot). (get_or ss g no_slot).content) e ∙ bare_content bases g))
+    (λ g l. k.starts g (omega (arith, k.count, n)) ∙ ap (before_slot stamps) (omega arith))
 
--- the counts, seen from the counted slots
-pub counted_self : (old new : List Slot) (stamps : List Stamp) → AreCounted old new stamps → AreCounted new new stamps
-counted_self old new stamps h = record { count = refl; contents = λ g. refl; starts = λ g l. h.starts g (omega (arith, h.count)) }
+-- counted, and then added up
+pub recounted : (old mid new : List Slot) (stamps : List Stamp) → AreCounted old mid stamps → AreRecounted mid new stamps → AreRecounted old new stamps
+recounted old mid new stamps h k = record { count = k.count ∙ h.count; contents = λ g. k.contents g ∙ h.contents g; starts = k.starts }
 
 from_length : (stamps : List Stamp) (k : ℕ) (bases : List Content) → length (slots_from stamps k bases) ≡ length bases
 from_length stamps k [] = refl

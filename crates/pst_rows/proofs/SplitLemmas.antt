@@ -6,7 +6,7 @@ use Rattle.std.proofs.lemmas.List.Sums.{sum_by-cons, sum_by-le-sum_by, length-fi
 use Rattle.std.specs.declared.cmp.Ordering.TheVariants.{Less, Greater}
 use Rattle.pst_order.specs.declared.order.Pos.{Pos}
 use Rattle.pst_order.specs.Places.{rank}
-use Rattle.pst_rows.specs.declared.content.Slot.{Slot}
+use Rattle.pst_rows.specs.Slots.{SlotValue as Slot}
 use Rattle.pst_rows.specs.declared.content.Stamp.{Stamp}
 use Rattle.pst_rows.specs.declared.stamps.Bounds.{Bounds}
 use Rattle.pst_rows.specs.declared.row.Row.{Row}
@@ -20,28 +20,28 @@ use Rattle.pst_rows.proofs.TimelineLemmas.{base_below}
 use Rattle.pst_rows.proofs.StampLemmas.{stamp_inside, slot_unstamped, stamp_at-filter, AreStamps-filter, row_inside}
 use Rattle.pst_rows.proofs.MedianLemmas.{middle_law, middle_counts_law}
 
-pub places_in : (r : ℕ → ℕ) (places : ℕ) (row : Row) → IsRow r places row → All (λ (e : Stamp). r e.place.0 < places) row.stamps.items
+pub places_in : (r : ℕ → ℕ) (places : ℕ) (row : Row) → IsRow r places row → All (λ (e : Stamp). r e.place.0 < places) row.cells.stamps
 places_in r places row h k d l =
-    let p : ((get_or row.stamps.items k no_stamp).slot.0 < length row.slots.items) × (r row.lo.0 < r (get_or row.stamps.items k no_stamp).place.0) × (r (get_or row.stamps.items k no_stamp).place.0 < r row.hi.0) = stamp_inside r (r row.lo.0) (r row.hi.0) (length row.slots.items) row.stamps.items h.stamps k l in
-    subst (λ (e : Stamp). r e.place.0 < places) (get_or_default row.stamps.items k no_stamp d l) (omega (arith, p.2, h.there))
+    let p : ((get_or row.cells.stamps k no_stamp).slot.0 < length row.cells.slots) × (r row.lo.0 < r (get_or row.cells.stamps k no_stamp).place.0) × (r (get_or row.cells.stamps k no_stamp).place.0 < r row.hi.0) = stamp_inside r (r row.lo.0) (r row.hi.0) (length row.cells.slots) row.cells.stamps h.stamps k l in
+    subst (λ (e : Stamp). r e.place.0 < places) (get_or_default row.cells.stamps k no_stamp d l) (omega (arith, p.2, h.there))
 
 module _ (r : ℕ → ℕ) (places : ℕ) (old left right : Row) (s : Pos) (row : IsRow r places old) (low : r old.lo.0 < r s.0) (high : r s.0 < r old.hi.0)
-    (left_lo : left.lo ≡ old.lo) (left_hi : left.hi ≡ s) (left_slots : AreRecounted old.slots.items left.slots.items left.stamps.items) (left_stamps : left.stamps.items ≡ filter (λ e. ltb (r e.place.0) (r s.0)) old.stamps.items)
-    (right_lo : right.lo ≡ s) (right_hi : right.hi ≡ old.hi) (right_slots : AreSlotsAt r old (r s.0) right.stamps.items right.slots.items) (right_stamps : right.stamps.items ≡ filter (λ e. ltb (r s.0) (r e.place.0)) old.stamps.items) where
+    (left_lo : left.lo ≡ old.lo) (left_hi : left.hi ≡ s) (left_slots : AreRecounted old.cells.slots left.cells.slots left.cells.stamps) (left_stamps : left.cells.stamps ≡ filter (λ e. ltb (r e.place.0) (r s.0)) old.cells.stamps)
+    (right_lo : right.lo ≡ s) (right_hi : right.hi ≡ old.hi) (right_slots : AreSlotsAt r old (r s.0) right.cells.stamps right.cells.slots) (right_stamps : right.cells.stamps ≡ filter (λ e. ltb (r s.0) (r e.place.0)) old.cells.stamps) where
   left_is : (g n : ℕ) → stamps_of r left g n ≡ cond (ltb n (r s.0)) (stamps_of r old g n) None
-  left_is g n = ap (λ (xs : List Stamp). stamp_at r xs g n) left_stamps ∙ stamp_at-filter r (λ m. ltb m (r s.0)) old.stamps.items g n
+  left_is g n = ap (λ (xs : List Stamp). stamp_at r xs g n) left_stamps ∙ stamp_at-filter r (λ m. ltb m (r s.0)) old.cells.stamps g n
 
   right_is : (g n : ℕ) → stamps_of r right g n ≡ cond (ltb (r s.0) n) (stamps_of r old g n) None
-  right_is g n = ap (λ (xs : List Stamp). stamp_at r xs g n) right_stamps ∙ stamp_at-filter r (λ m. ltb (r s.0) m) old.stamps.items g n
+  right_is g n = ap (λ (xs : List Stamp). stamp_at r xs g n) right_stamps ∙ stamp_at-filter r (λ m. ltb (r s.0) m) old.cells.stamps g n
 
   base_is : (g : ℕ) → base_of right g ≡ in_force (stamps_of r old g) (base_of old g) (r s.0)
   base_is g =
-      ⊎_elim (λ (l : g < length old.slots.items). right_slots.contents g l)
-      (λ (l : length old.slots.items ≤ g).
-      ap (λ (t : Slot). t.content) (get_or_past right.slots.items g no_slot (omega (arith, right_slots.count)))
-      ∙ sym (ap (λ (t : Slot). t.content) (get_or_past old.slots.items g no_slot l))
-      ∙ sym (base_below (stamps_of r old g) (base_of old g) (r s.0) (λ (k : ℕ) (p : k ≤ r s.0). slot_unstamped r (r old.lo.0) (r old.hi.0) (length old.slots.items) old.stamps.items row.stamps g k l)))
-      (cases_lt g (length old.slots.items))
+      ⊎_elim (λ (l : g < length old.cells.slots). right_slots.contents g l)
+      (λ (l : length old.cells.slots ≤ g).
+      ap (λ (t : Slot). t.content) (get_or_past right.cells.slots g no_slot (omega (arith, right_slots.count)))
+      ∙ sym (ap (λ (t : Slot). t.content) (get_or_past old.cells.slots g no_slot l))
+      ∙ sym (base_below (stamps_of r old g) (base_of old g) (r s.0) (λ (k : ℕ) (p : k ≤ r s.0). slot_unstamped r (r old.lo.0) (r old.hi.0) (length old.cells.slots) old.cells.stamps row.stamps g k l)))
+      (cases_lt g (length old.cells.slots))
 
   pub row_split : IsRowSplit r old left right s
   row_split = record {
@@ -62,8 +62,8 @@ module _ (r : ℕ → ℕ) (places : ℕ) (old left right : Row) (s : Pos) (row 
       right_kept = λ n l. right_is g n ∙ (rw (lt-ltb (r s.0) n l) refl);
       right_dropped = λ n l. right_is g n ∙ (rw (le-ltb (r s.0) n l) refl);
     };
-    left_count = ap length left_stamps ∙ length-filter (λ (e : Stamp). ltb (r e.place.0) (r s.0)) old.stamps.items;
-    right_count = ap length right_stamps ∙ length-filter (λ (e : Stamp). ltb (r s.0) (r e.place.0)) old.stamps.items;
+    left_count = ap length left_stamps ∙ length-filter (λ (e : Stamp). ltb (r e.place.0) (r s.0)) old.cells.stamps;
+    right_count = ap length right_stamps ∙ length-filter (λ (e : Stamp). ltb (r s.0) (r e.place.0)) old.cells.stamps;
   }
 
   pub left_row : IsRow r places left
@@ -72,7 +72,7 @@ module _ (r : ℕ → ℕ) (places : ℕ) (old left right : Row) (s : Pos) (row 
     there = rw left_hi (omega (arith, row.there));
     narrow = rw left_slots.count row.narrow;
     stamps = rw (left_lo, left_hi, left_slots.count, left_stamps)
-        (AreStamps-filter r (λ m. ltb m (r s.0)) (r old.lo.0) (r old.hi.0) (r old.lo.0) (r s.0) (length old.slots.items) old.stamps.items (λ n p q e. (p, ltb-true n (r s.0) e)) row.stamps);
+        (AreStamps-filter r (λ m. ltb m (r s.0)) (r old.lo.0) (r old.hi.0) (r old.lo.0) (r s.0) (length old.cells.slots) old.cells.stamps (λ n p q e. (p, ltb-true n (r s.0) e)) row.stamps);
     starts = left_slots.starts;
   }
 
@@ -82,7 +82,7 @@ module _ (r : ℕ → ℕ) (places : ℕ) (old left right : Row) (s : Pos) (row 
     there = rw right_hi row.there;
     narrow = rw right_slots.count row.narrow;
     stamps = rw (right_lo, right_hi, right_slots.count, right_stamps)
-        (AreStamps-filter r (λ m. ltb (r s.0) m) (r old.lo.0) (r old.hi.0) (r s.0) (r old.hi.0) (length old.slots.items) old.stamps.items (λ n p q e. (ltb-true (r s.0) n e, q)) row.stamps);
+        (AreStamps-filter r (λ m. ltb (r s.0) m) (r old.lo.0) (r old.hi.0) (r s.0) (r old.hi.0) (length old.cells.slots) old.cells.stamps (λ n p q e. (ltb-true (r s.0) n e, q)) row.stamps);
     starts = right_slots.starts;
   }
 
@@ -120,10 +120,10 @@ some_half r xs l f =
     let a : 2 * above n (positions r xs) ≤ length (positions r xs) = rw at at t.1.few_above in
     f t.0 there (record { few_before = omega (arith, b, below_is r xs n, length-positions r xs); few_after = omega (arith, a, above_is r xs n, length-positions r xs) })
 
-pub split_stamp_is : (r : ℕ → ℕ) (places : ℕ) (row : Row) (i : ℕ) → IsRow r places row → i < length row.stamps.items → IsHalf r row.stamps.items (r (get_or row.stamps.items i no_stamp).place.0) → IsSplitStamp r row (r (get_or row.stamps.items i no_stamp).place.0)
+pub split_stamp_is : (r : ℕ → ℕ) (places : ℕ) (row : Row) (i : ℕ) → IsRow r places row → i < length row.cells.stamps → IsHalf r row.cells.stamps (r (get_or row.cells.stamps i no_stamp).place.0) → IsSplitStamp r row (r (get_or row.cells.stamps i no_stamp).place.0)
 split_stamp_is r places row i h l half =
-    let xs : List Stamp = row.stamps.items in
-    let p : ((get_or xs i no_stamp).slot.0 < length row.slots.items) × (r row.lo.0 < r (get_or xs i no_stamp).place.0) × (r (get_or xs i no_stamp).place.0 < r row.hi.0) = stamp_inside r (r row.lo.0) (r row.hi.0) (length row.slots.items) xs h.stamps i l in
+    let xs : List Stamp = row.cells.stamps in
+    let p : ((get_or xs i no_stamp).slot.0 < length row.cells.slots) × (r row.lo.0 < r (get_or xs i no_stamp).place.0) × (r (get_or xs i no_stamp).place.0 < r row.hi.0) = stamp_inside r (r row.lo.0) (r row.hi.0) (length row.cells.slots) xs h.stamps i l in
     let n : ℕ = r (get_or xs i no_stamp).place.0 in
     let at : get_or (positions r xs) i 0 ≡ n = position_at r xs i l in
     let c : below (get_or (positions r xs) i 0) (positions r xs) + above (get_or (positions r xs) i 0) (positions r xs) < length (positions r xs) = middle_counts_law (positions r xs) i (omega (arith, length-positions r xs)) in
@@ -136,9 +136,9 @@ split_stamp_is r places row i h l half =
       stamped_there = omega (arith, c', below_is r xs n, above_is r xs n, length-positions r xs);
     }
 
--- a stamp of a slice is one of the row
-pub same_stamp : (ys xs : List Stamp) (i : ℕ) (d : Stamp) → ys ≡ xs → i < length ys → (i < length xs) × (get_or ys i d ≡ get_or xs i (get_or ys i d))
-same_stamp ys xs i d same l = subst (λ (zs : List Stamp). (i < length zs) × (get_or ys i d ≡ get_or zs i (get_or ys i d))) same (l, get_or_default ys i d (get_or ys i d) l)
+-- what was read is one of the row
+pub same_read : (ys xs : List Stamp) (i : ℕ) (e : Stamp) → ys ≡ xs → i < length ys → e ≡ get_or ys i e → (i < length xs) × (e ≡ get_or xs i e)
+same_read ys xs i e same l is = subst (λ (zs : List Stamp). (i < length zs) × (e ≡ get_or zs i e)) same (l, is)
 
 before_rises : (r : ℕ → ℕ) (xs : List Stamp) (m n : ℕ) → m ≤ n → count_by (λ (e : Stamp). ltb (r e.place.0) m) xs ≤ count_by (λ (e : Stamp). ltb (r e.place.0) n) xs
 before_rises r xs m n l =
@@ -174,60 +174,60 @@ pub first_bounds : (ps : List ℕ) (row : Row) → IsRow (rank ps) (length ps) r
 first_bounds ps row h = record {
   low_in = omega (arith, h.life, h.there);
   high_in = h.there;
-  between = λ (k : ℕ) (l : k < length row.stamps.items) (half : IsHalf (rank ps) row.stamps.items (rank ps (get_or row.stamps.items k no_stamp).place.0)).
-      let s : ((get_or row.stamps.items k no_stamp).slot.0 < length row.slots.items) × (rank ps row.lo.0 < rank ps (get_or row.stamps.items k no_stamp).place.0) × (rank ps (get_or row.stamps.items k no_stamp).place.0 < rank ps row.hi.0) = stamp_inside (rank ps) (rank ps row.lo.0) (rank ps row.hi.0) (length row.slots.items) row.stamps.items h.stamps k l in
+  between = λ (k : ℕ) (l : k < length row.cells.stamps) (half : IsHalf (rank ps) row.cells.stamps (rank ps (get_or row.cells.stamps k no_stamp).place.0)).
+      let s : ((get_or row.cells.stamps k no_stamp).slot.0 < length row.cells.slots) × (rank ps row.lo.0 < rank ps (get_or row.cells.stamps k no_stamp).place.0) × (rank ps (get_or row.cells.stamps k no_stamp).place.0 < rank ps row.hi.0) = stamp_inside (rank ps) (rank ps row.lo.0) (rank ps row.hi.0) (length row.cells.slots) row.cells.stamps h.stamps k l in
       (s.1, s.2);
 }
 
 -- the search for a stamp that halves the others, at the stamp e with the index i
-module _ (ps : List ℕ) (row : Row) (h : IsRow (rank ps) (length ps) row) (i : ℕ) (e : Stamp) (l : i < length row.stamps.items) (is : e ≡ get_or row.stamps.items i e) where
-  read_is : e ≡ get_or row.stamps.items i no_stamp
-  read_is = is ∙ get_or_default row.stamps.items i e no_stamp l
+module _ (ps : List ℕ) (row : Row) (h : IsRow (rank ps) (length ps) row) (i : ℕ) (e : Stamp) (l : i < length row.cells.stamps) (is : e ≡ get_or row.cells.stamps i e) where
+  read_is : e ≡ get_or row.cells.stamps i no_stamp
+  read_is = is ∙ get_or_default row.cells.stamps i e no_stamp l
 
   pub place_in : rank ps e.place.0 < length ps
   place_in = subst (λ (x : Stamp). rank ps x.place.0 < length ps) (sym is) (places_in (rank ps) (length ps) row h i e l)
 
-  pub split_found : IsHalf (rank ps) row.stamps.items (rank ps e.place.0) → IsSplitStamp (rank ps) row (rank ps e.place.0)
+  pub split_found : IsHalf (rank ps) row.cells.stamps (rank ps e.place.0) → IsSplitStamp (rank ps) row (rank ps e.place.0)
   split_found half =
-      let half' : IsHalf (rank ps) row.stamps.items (rank ps (get_or row.stamps.items i no_stamp).place.0) = subst (λ (x : Stamp). IsHalf (rank ps) row.stamps.items (rank ps x.place.0)) read_is half in
+      let half' : IsHalf (rank ps) row.cells.stamps (rank ps (get_or row.cells.stamps i no_stamp).place.0) = subst (λ (x : Stamp). IsHalf (rank ps) row.cells.stamps (rank ps x.place.0)) read_is half in
       subst (λ (x : Stamp). IsSplitStamp (rank ps) row (rank ps x.place.0)) (sym read_is) (split_stamp_is (rank ps) (length ps) row i h l half')
 
   -- a stamp that does not lie between the bounds does not halve the others
-  pub outside : (b : Bounds) → AreBounds ps row b → ((rank ps b.low.0 < rank ps e.place.0) × (rank ps e.place.0 < rank ps b.high.0) → ⊥) → IsHalf (rank ps) row.stamps.items (rank ps e.place.0) → ⊥
+  pub outside : (b : Bounds) → AreBounds ps row b → ((rank ps b.low.0 < rank ps e.place.0) × (rank ps e.place.0 < rank ps b.high.0) → ⊥) → IsHalf (rank ps) row.cells.stamps (rank ps e.place.0) → ⊥
   outside b between out half =
-      let half' : IsHalf (rank ps) row.stamps.items (rank ps (get_or row.stamps.items i no_stamp).place.0) = subst (λ (x : Stamp). IsHalf (rank ps) row.stamps.items (rank ps x.place.0)) read_is half in
+      let half' : IsHalf (rank ps) row.cells.stamps (rank ps (get_or row.cells.stamps i no_stamp).place.0) = subst (λ (x : Stamp). IsHalf (rank ps) row.cells.stamps (rank ps x.place.0)) read_is half in
       out (subst (λ (x : Stamp). (rank ps b.low.0 < rank ps x.place.0) × (rank ps x.place.0 < rank ps b.high.0)) (sym read_is) (between.between i l half'))
 
   -- one that is too late is an upper bound
-  pub too_late : (b : Bounds) → AreBounds ps row b → IsMiddleFrom (rank ps) row.stamps.items (rank ps e.place.0) Less → AreBounds ps row (record { low = b.low; high = e.place })
+  pub too_late : (b : Bounds) → AreBounds ps row b → IsMiddleFrom (rank ps) row.cells.stamps (rank ps e.place.0) Less → AreBounds ps row (record { low = b.low; high = e.place })
   too_late b between many = record {
     low_in = between.low_in;
     high_in = place_in;
-    between = λ k m half. ((between.between k m half).0, half_before (rank ps) row.stamps.items (rank ps (get_or row.stamps.items k no_stamp).place.0) (rank ps e.place.0) many half);
+    between = λ k m half. ((between.between k m half).0, half_before (rank ps) row.cells.stamps (rank ps (get_or row.cells.stamps k no_stamp).place.0) (rank ps e.place.0) many half);
   }
 
   -- one that is too early is a lower bound
-  pub too_early : (b : Bounds) → AreBounds ps row b → IsMiddleFrom (rank ps) row.stamps.items (rank ps e.place.0) Greater → AreBounds ps row (record { low = e.place; high = b.high })
+  pub too_early : (b : Bounds) → AreBounds ps row b → IsMiddleFrom (rank ps) row.cells.stamps (rank ps e.place.0) Greater → AreBounds ps row (record { low = e.place; high = b.high })
   too_early b between many = record {
     low_in = place_in;
     high_in = between.high_in;
-    between = λ k m half. (half_after (rank ps) row.stamps.items (rank ps (get_or row.stamps.items k no_stamp).place.0) (rank ps e.place.0) many half, (between.between k m half).1);
+    between = λ k m half. (half_after (rank ps) row.cells.stamps (rank ps (get_or row.cells.stamps k no_stamp).place.0) (rank ps e.place.0) many half, (between.between k m half).1);
   }
 
   -- with a gap of one, each stamp so far was looked at
   pub passed_more : (b : Bounds) → AreBounds ps row b → ((rank ps b.low.0 < rank ps e.place.0) × (rank ps e.place.0 < rank ps b.high.0) → ⊥) → (gap : ℕ) →
-      (gap ≡ 1 → (k : ℕ) → k < i → IsHalf (rank ps) row.stamps.items (rank ps (get_or row.stamps.items k no_stamp).place.0) → ⊥) →
-      gap ≡ 1 → (k : ℕ) → k < i + gap → IsHalf (rank ps) row.stamps.items (rank ps (get_or row.stamps.items k no_stamp).place.0) → ⊥
+      (gap ≡ 1 → (k : ℕ) → k < i → IsHalf (rank ps) row.cells.stamps (rank ps (get_or row.cells.stamps k no_stamp).place.0) → ⊥) →
+      gap ≡ 1 → (k : ℕ) → k < i + gap → IsHalf (rank ps) row.cells.stamps (rank ps (get_or row.cells.stamps k no_stamp).place.0) → ⊥
   passed_more b between out gap before one k m half =
       ⊎_elim
       (λ (here : k ≡ i).
-      outside b between out (subst (λ (x : Stamp). IsHalf (rank ps) row.stamps.items (rank ps x.place.0)) (ap (λ (j : ℕ). get_or row.stamps.items j no_stamp) here ∙ sym read_is) half))
+      outside b between out (subst (λ (x : Stamp). IsHalf (rank ps) row.cells.stamps (rank ps x.place.0)) (ap (λ (j : ℕ). get_or row.cells.stamps j no_stamp) here ∙ sym read_is) half))
       (λ (ne : k ≡ i → ⊥). before one k (omega (arith, ne)) half)
       (cases_eq k i)
 
-pub none_stamped : (r : ℕ → ℕ) (row : Row) (i : ℕ) → length row.stamps.items ≤ i → ((k : ℕ) → k < i → IsHalf r row.stamps.items (r (get_or row.stamps.items k no_stamp).place.0) → ⊥) → stamped_count row ≡ 0
+pub none_stamped : (r : ℕ → ℕ) (row : Row) (i : ℕ) → length row.cells.stamps ≤ i → ((k : ℕ) → k < i → IsHalf r row.cells.stamps (r (get_or row.cells.stamps k no_stamp).place.0) → ⊥) → stamped_count row ≡ 0
 none_stamped r row i l before =
     ⊎_elim
-    (λ (s : 0 < length row.stamps.items). absurd (some_half r row.stamps.items s (λ (k : ℕ) (m : k < length row.stamps.items). before k (omega arith))))
-    (λ (s : length row.stamps.items ≤ 0). omega arith)
-    (cases_lt 0 (length row.stamps.items))
+    (λ (s : 0 < length row.cells.stamps). absurd (some_half r row.cells.stamps s (λ (k : ℕ) (m : k < length row.cells.stamps). before k (omega arith))))
+    (λ (s : length row.cells.stamps ≤ 0). omega arith)
+    (cases_lt 0 (length row.cells.stamps))

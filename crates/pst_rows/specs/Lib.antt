@@ -1,6 +1,7 @@
-pub mod Held
+pub mod Stamps
+pub mod StampsKept
 pub mod Slots
-pub mod SlotsKept
+pub mod Cells
 pub mod Timeline
 pub mod Values
 pub mod Rows

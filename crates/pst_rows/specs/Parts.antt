@@ -3,7 +3,7 @@ use Rattle.std.specs.Prelude.{◌≡◌, ◌≢◌, ℕ, suc, ◌+◌, ◌<◌, 
 use Rattle.pst_order.specs.declared.order.Pos.{Pos}
 use Rattle.pst_rows.specs.declared.content.Content.{Content}
 use Rattle.pst_rows.specs.declared.content.Content.TheVariants.{Null}
-use Rattle.pst_rows.specs.declared.content.Slot.{Slot}
+use Rattle.pst_rows.specs.Slots.{SlotValue as Slot}
 use Rattle.pst_rows.specs.declared.content.Stamp.{Stamp}
 use Rattle.pst_rows.specs.Values.{RowValue, IsValue, AreStamps, no_slot, before_slot, width_in, base_in}
 
@@ -20,7 +20,7 @@ value_of lo hi bases stamps = record { lo = lo; hi = hi; slots = slots_from stam
 pub record IsOfParts (lo hi : Pos) (bases : List Content) (stamps : List Stamp) : Type 0 where
   pub width : width_in (value_of lo hi bases stamps) ≡ length bases
   pub content : (g : ℕ) → base_in (value_of lo hi bases stamps) g ≡ get_or bases g Null
-  pub row : (r : ℕ → ℕ) (places : ℕ) → r lo.0 < r hi.0 → r hi.0 < places → length bases ≤ 65536 →
+  pub row : (r : ℕ → ℕ) (places : ℕ) → r lo.0 < r hi.0 → r hi.0 < places → length bases ≤ 256 →
       AreStamps r (r lo.0) (r hi.0) (length bases) stamps → IsValue r places (value_of lo hi bases stamps)
 
 -- what a row of parts is

@@ -11,7 +11,7 @@ use Rattle.pst_rows.specs.Values.{RowValue, IsValue, stamp_at, no_slot}
 
 -- what is stamped in a row for a slot at a position
 abbrev pub stamps_of : (ℕ → ℕ) → Row → ℕ → ℕ → Option Content
-stamps_of r row slot n = stamp_at r row.stamps.items slot n
+stamps_of r row slot n = stamp_at r row.cells.stamps slot n
 
 -- for a stamp that is not there
 abbrev pub no_stamp : Stamp
@@ -19,11 +19,11 @@ no_stamp = record { slot = record { 0 = 0 }; place = record { 0 = 0 }; content =
 
 -- how many slots a row has
 abbrev pub width_of : Row → ℕ
-width_of row = length row.slots.items
+width_of row = length row.cells.slots
 
 -- what a slot holds from the begin of the life on
 abbrev pub base_of : Row → ℕ → Content
-base_of row slot = (get_or row.slots.items slot no_slot).content
+base_of row slot = (get_or row.cells.slots slot no_slot).content
 
 -- what a slot holds at a position
 abbrev pub content_at : (ℕ → ℕ) → Row → ℕ → ℕ → Content
@@ -35,27 +35,27 @@ row_edge r row slot n = is_edge (stamps_of r row slot) (r row.lo.0) (r row.hi.0)
 
 -- how many stamped values a row has
 abbrev pub stamped_count : Row → ℕ
-stamped_count row = length row.stamps.items
+stamped_count row = length row.cells.stamps
 
 -- how many stamped values a slot of a row has
 abbrev pub stamped_in : Row → ℕ → ℕ
-stamped_in row slot = count_by (λ e. e.slot.0 == slot) row.stamps.items
+stamped_in row slot = count_by (λ e. e.slot.0 == slot) row.cells.stamps
 
 -- how many stamped values lie before a position
 abbrev pub stamped_before : (ℕ → ℕ) → Row → ℕ → ℕ
-stamped_before r row n = count_by (λ e. nat_lt (r e.place.0) n) row.stamps.items
+stamped_before r row n = count_by (λ e. nat_lt (r e.place.0) n) row.cells.stamps
 
 -- how many stamped values lie after a position
 abbrev pub stamped_after : (ℕ → ℕ) → Row → ℕ → ℕ
-stamped_after r row n = count_by (λ e. nat_lt n (r e.place.0)) row.stamps.items
+stamped_after r row n = count_by (λ e. nat_lt n (r e.place.0)) row.cells.stamps
 
 -- how many stamped values more a row can take without memory
 abbrev pub spare_of : Row → ℕ
-spare_of row = row.stamps.capacity - length row.stamps.items
+spare_of row = row.cells.capacity - length row.cells.stamps
 
 -- what a row shows
 abbrev pub shown : Row → RowValue
-shown row = record { lo = row.lo; hi = row.hi; slots = row.slots.items; stamps = row.stamps.items }
+shown row = record { lo = row.lo; hi = row.hi; slots = row.cells.slots; stamps = row.cells.stamps }
 
 -- a row over a list of places
 abbrev pub IsRow : (ℕ → ℕ) → ℕ → Row → Type 0

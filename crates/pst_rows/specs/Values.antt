@@ -4,7 +4,7 @@ use Rattle.pst_order.specs.declared.order.Pos.{Pos}
 use Rattle.pst_rows.specs.declared.content.Content.{Content}
 use Rattle.pst_rows.specs.declared.content.Content.TheVariants.{Null}
 use Rattle.pst_rows.specs.declared.content.Stamp.{Stamp}
-use Rattle.pst_rows.specs.declared.content.Slot.{Slot}
+use Rattle.pst_rows.specs.Slots.{SlotValue as Slot}
 use Rattle.pst_rows.specs.Timeline.{in_force, is_edge, IsSegment, IsSetOver, IsCut, IsReplaced, IsSplitOff}
 
 -- where the life begins and ends, what each slot holds at first and where its stamps begin, and what is stamped
@@ -82,7 +82,7 @@ AreStarts slots stamps = (slot : ℕ) → slot < length slots → (get_or slots 
 pub record IsValue (r : ℕ → ℕ) (places : ℕ) (row : RowValue) : Type 0 where
   pub life : r row.lo.0 < r row.hi.0
   pub there : r row.hi.0 < places
-  pub narrow : length row.slots ≤ 65536
+  pub narrow : length row.slots ≤ 256
   pub stamps : AreStamps r (r row.lo.0) (r row.hi.0) (length row.slots) row.stamps
   pub starts : AreStarts row.slots row.stamps
 

@@ -1,6 +1,6 @@
 //! What a row is made of.
 
-ghost use Rattle.std.specs.Prelude.{◌≡◌};
+ghost use Rattle.std.specs.Prelude.{◌≡◌, ◌<◌};
 
 use pst_base::{NodeId, SlotNo};
 use pst_order::Pos;
@@ -21,163 +21,102 @@ pub enum Content {
     From(NodeId, SlotNo),
 }
 
-/// A content as a row keeps it: contracts see the content. It takes 16 bytes, where a `Content` takes 24.
-#[derive(Clone, Copy)]
-pub struct Held {
-    kept: Kept,
-}
-
-// The cases of a content, with the slot before the node: there it lies beside the tag of the enum, and takes no more room.
-#[derive(Clone, Copy)]
-enum Kept {
-    Number(i64),
-    Null,
-    Target(NodeId),
-    Free,
-    From(SlotNo, NodeId),
-}
-
-impl Model for Held {
-    ghost use Rattle.pst_rows.specs.declared.content.Content.{Content};
-
-    ghost Value = { Content };
-
-    ghost use Rattle.pst_rows.specs.Held.{content_of, held_of, kept_back};
-
-    ghost view = { λ h. content_of h.kept };
-
-    ghost inverse = { held_of };
-
-    ghost inverse_ok = { λ h _. kept_back h };
-}
-
-impl Held {
-    /// A content, to be kept.
-    #[inline]
-    pub fn new(content: Content) -> Held
-        ensures { result ≡ content }
-    {
-        let kept = match content {
-            Content::Number(n) => Kept::Number(n),
-            Content::Null => Kept::Null,
-            Content::Target(node) => Kept::Target(node),
-            Content::Free => Kept::Free,
-            Content::From(node, slot) => Kept::From(slot, node),
-        };
-        Held { kept }
-    }
-
-    /// The content that is kept.
-    #[inline]
-    pub fn content(&self) -> Content
-        ensures { result ≡ self.now }
-    {
-        match self.kept {
-            Kept::Number(n) => Content::Number(n),
-            Kept::Null => Content::Null,
-            Kept::Target(node) => Content::Target(node),
-            Kept::Free => Content::Free,
-            Kept::From(slot, node) => Content::From(node, slot),
-        }
-    }
-}
-
-/// A content that a slot holds from a place on, up to the slot's next stamp or to the end of the row's life.
+/// A content that a slot holds from a place on, up to the slot's next stamp or to the end of the row's life. It takes 16 bytes;
+/// contracts see the slot, the place and the content.
 #[derive(Clone, Copy)]
 pub struct Stamp {
-    pub slot: SlotNo,
-    pub place: Pos,
-    pub content: Held,
+    kept: StampKept,
 }
 
-impl Default for Stamp {
-    fn default() -> Stamp {
-        Stamp {
-            slot: SlotNo(0),
-            place: Pos(0),
-            content: Held::new(Content::Null),
+// The cases of a content, each with the slot and the place, which lie beside the tag of the enum and take no more room.
+#[derive(Clone, Copy)]
+enum StampKept {
+    Number(u8, Pos, i64),
+    Null(u8, Pos),
+    Target(u8, Pos, NodeId),
+    Free(u8, Pos),
+    From(u8, SlotNo, Pos, NodeId),
+}
+
+impl Model for Stamp {
+    ghost use Rattle.pst_rows.specs.Stamps.{StampValue};
+
+    ghost Value = { StampValue };
+
+    ghost use Rattle.pst_rows.specs.StampsKept.{stamp_of, stamp_held, stamp_back};
+
+    ghost view = { λ s. stamp_of s.kept };
+
+    ghost inverse = { stamp_held };
+
+    ghost inverse_ok = { λ s _. stamp_back s };
+}
+
+impl Stamp {
+    /// A content of a slot from a place on. The slot is one of the first 256.
+    #[inline]
+    pub fn new(slot: SlotNo, place: Pos, content: Content) -> Stamp
+        requires { slot.0 < 256 }
+        ensures { result ≡ record { slot = slot; place = place; content = content } }
+    {
+        let own = slot.0 as u8;
+        let kept = match content {
+            Content::Number(n) => StampKept::Number(own, place, n),
+            Content::Null => StampKept::Null(own, place),
+            Content::Target(node) => StampKept::Target(own, place, node),
+            Content::Free => StampKept::Free(own, place),
+            Content::From(node, from) => StampKept::From(own, from, place, node),
+        };
+        Stamp { kept }
+    }
+
+    /// Whose content it is.
+    #[inline]
+    pub fn slot(&self) -> SlotNo
+        ensures value { result ≡ self.now.slot }
+        ensures most { result.0 < 256 }
+    {
+        let own = match self.kept {
+            StampKept::Number(own, _, _) => own,
+            StampKept::Null(own, _) => own,
+            StampKept::Target(own, _, _) => own,
+            StampKept::Free(own, _) => own,
+            StampKept::From(own, _, _, _) => own,
+        };
+        SlotNo(u16::from(own))
+    }
+
+    /// From where on it is held.
+    #[inline]
+    pub fn place(&self) -> Pos
+        ensures { result ≡ self.now.place }
+    {
+        match self.kept {
+            StampKept::Number(_, place, _) => place,
+            StampKept::Null(_, place) => place,
+            StampKept::Target(_, place, _) => place,
+            StampKept::Free(_, place) => place,
+            StampKept::From(_, _, place, _) => place,
         }
     }
-}
 
-/// What a slot holds from the begin of the life on, and how many stamps of earlier slots there are: there its own begin.
-/// It takes 16 bytes, so a row has six of them beside its life.
-#[derive(Clone, Copy)]
-pub struct Slot {
-    kept: SlotKept,
-}
-
-// The cases of a content, each with the start, which lies beside the tag of the enum and takes no more room.
-#[derive(Clone, Copy)]
-enum SlotKept {
-    Number(u32, i64),
-    Null(u32),
-    Target(u32, NodeId),
-    Free(u32),
-    From(SlotNo, u32, NodeId),
-}
-
-impl Model for Slot {
-    ghost use Rattle.pst_rows.specs.Slots.{SlotValue};
-
-    ghost Value = { SlotValue };
-
-    ghost use Rattle.pst_rows.specs.SlotsKept.{slot_of, slot_held, slot_back};
-
-    ghost view = { λ s. slot_of s.kept };
-
-    ghost inverse = { slot_held };
-
-    ghost inverse_ok = { λ s _. slot_back s };
-}
-
-impl Slot {
-    /// A slot with a content, whose stamps begin at an index.
-    #[inline]
-    pub fn new(content: Content, start: u32) -> Slot
-        ensures { result ≡ record { content = content; start = start } }
-    {
-        let kept = match content {
-            Content::Number(n) => SlotKept::Number(start, n),
-            Content::Null => SlotKept::Null(start),
-            Content::Target(node) => SlotKept::Target(start, node),
-            Content::Free => SlotKept::Free(start),
-            Content::From(node, slot) => SlotKept::From(slot, start, node),
-        };
-        Slot { kept }
-    }
-
-    /// What it holds from the begin of the life on.
+    /// What is held.
     #[inline]
     pub fn content(&self) -> Content
         ensures { result ≡ self.now.content }
     {
         match self.kept {
-            SlotKept::Number(_, n) => Content::Number(n),
-            SlotKept::Null(_) => Content::Null,
-            SlotKept::Target(_, node) => Content::Target(node),
-            SlotKept::Free(_) => Content::Free,
-            SlotKept::From(slot, _, node) => Content::From(node, slot),
-        }
-    }
-
-    /// Where its stamps begin.
-    #[inline]
-    pub fn start(&self) -> u32
-        ensures { result ≡ self.now.start }
-    {
-        match self.kept {
-            SlotKept::Number(start, _) => start,
-            SlotKept::Null(start) => start,
-            SlotKept::Target(start, _) => start,
-            SlotKept::Free(start) => start,
-            SlotKept::From(_, start, _) => start,
+            StampKept::Number(_, _, n) => Content::Number(n),
+            StampKept::Null(_, _) => Content::Null,
+            StampKept::Target(_, _, node) => Content::Target(node),
+            StampKept::Free(_, _) => Content::Free,
+            StampKept::From(_, from, _, node) => Content::From(node, from),
         }
     }
 }
 
-impl Default for Slot {
-    fn default() -> Slot {
-        Slot::new(Content::Null, 0)
+impl Default for Stamp {
+    fn default() -> Stamp {
+        Stamp::new(SlotNo(0), Pos(0), Content::Null)
     }
 }

@@ -9,6 +9,7 @@
 //!     row.set_over(&order, slot, from, to, Content::Number(7));
 #![tactic(auto)]
 
+mod cells;
 mod content;
 mod laws;
 mod parts;
@@ -17,7 +18,7 @@ mod stamps;
 #[cfg(test)]
 mod tests;
 
-pub use content::{Content, Held, Slot, Stamp};
+pub use content::{Content, Stamp};
 pub use laws::{
     cuts_hold, insertions_keep_rows, parts_hold, replacements_hold, rows_are_inside,
     rows_are_steady, sets_hold, splits_hold,

@@ -1,81 +1,100 @@
-//! The slots of a row that is made of its parts. One walk over the stamps counts those of each slot, and one over the slots
-//! adds the counts up.
+//! Slots and stamps that are made of their parts. One walk over the stamps counts those of each slot, and one over the slots adds
+//! the counts up.
 
-ghost use Rattle.std.specs.Prelude.{◌≡◌, ℕ, ◌-◌, ◌^◌, ◌<◌, IfOk, length, map, get_or};
+ghost use Rattle.std.specs.Prelude.{◌≡◌, ◌-◌, ◌^◌, ◌<◌, [], IfOk, OnOk, length, map, get_or};
 ghost use Rattle.pst_rows.specs.Values.{no_slot};
-ghost use Rattle.pst_rows.specs.Parts.{slots_from, bare_slot, AreCounted, AreBare, IsCountedOnce, HasStart};
+ghost use Rattle.pst_rows.specs.Parts.{slots_from, bare_slot, AreCounted, AreBare, IsCountedOnce};
 ghost use Rattle.pst_rows.specs.Steps.{AreRecounted};
 
-use crate::content::{Content, Slot, Stamp};
-use crate::stamps::Slots;
+use crate::cells::Cells;
+use crate::content::{Content, Stamp};
 use pst_base::NoMemory;
-use smallvec::SmallVec;
 use std::alloc::Global;
 
-/// Slots with these contents, each with where its stamps begin among these. It takes a time that grows with the count of both.
-pub fn slots_of(alloc: Global, bases: &[Content], stamps: &[Stamp]) -> Result<Slots, NoMemory>
+/// Slots with these contents, and these stamps. It takes a time that grows with the count of both.
+pub fn cells_of(alloc: Global, bases: &[Content], stamps: &[Stamp]) -> Result<Cells, NoMemory>
     requires { length stamps.now < 2 ^ 32 }
-    ensures { IfOk result (λ slots. slots.items ≡ slots_from stamps.now 0 bases.now) }
+    ensures slots { IfOk result (λ cells. cells.slots ≡ slots_from stamps.now 0 bases.now) }
+    ensures stamps { IfOk result (λ cells. cells.stamps ≡ stamps.now) }
 {
-    let mut slots = bare_slots(alloc, bases)?;
-    count_own(&mut slots, stamps);
-    add_up(&mut slots, stamps);
-    Ok(slots)
+    let mut cells = Cells::with_capacity(alloc, bases.len() + stamps.len())?;
+    put_bare(&mut cells, bases)?;
+    put_stamps(&mut cells, stamps)?;
+    recount(&mut cells);
+    Ok(cells)
 }
 
-// Slots with these contents, and no stamp counted.
-fn bare_slots(alloc: Global, bases: &[Content]) -> Result<Slots, NoMemory>
-    ensures { IfOk result (λ slots. slots.items ≡ map bare_slot bases.now) }
+// Puts slots with these contents, and no stamp counted.
+fn put_bare(cells: &mut Cells, bases: &[Content]) -> Result<(), NoMemory>
+    requires slots { cells.old.slots ≡ [] }
+    requires stamps { cells.old.stamps ≡ [] }
+    ensures slots { OnOk result (cells.new.slots ≡ map bare_slot bases.now) }
+    ensures stamps { OnOk result (cells.new.stamps ≡ []) }
 {
-    let mut slots = SmallVec::with_capacity(alloc, bases.len())?;
     for base in bases {
-        slots.push(Slot::new(*base, 0))?;
+        cells.push_slot(*base)?;
     }
-    Ok(slots)
+    Ok(())
+}
+
+// Puts these stamps.
+fn put_stamps(cells: &mut Cells, stamps: &[Stamp]) -> Result<(), NoMemory>
+    requires { cells.old.stamps ≡ [] }
+    ensures slots { OnOk result (cells.new.slots ≡ cells.old.slots) }
+    ensures stamps { OnOk result (cells.new.stamps ≡ stamps.now) }
+{
+    for stamp in stamps {
+        cells.push(*stamp)?;
+    }
+    Ok(())
+}
+
+/// Counts where the stamps of each slot begin, of which none is counted yet.
+pub fn recount(cells: &mut Cells)
+    requires { AreBare cells.old.slots }
+    ensures slots { AreRecounted cells.old.slots cells.new.slots cells.old.stamps }
+    ensures stamps { cells.new.stamps ≡ cells.old.stamps }
+{
+    count_own(cells);
+    add_up(cells);
 }
 
 // Counts for each slot its own stamps.
-fn count_own(slots: &mut Slots, stamps: &[Stamp])
-    requires few { length stamps.now < 2 ^ 32 }
-    requires bare { AreBare slots.old.items }
-    ensures { AreCounted slots.old.items slots.new.items stamps.now }
+fn count_own(cells: &mut Cells)
+    requires { AreBare cells.old.slots }
+    ensures slots { AreCounted cells.old.slots cells.new.slots cells.old.stamps }
+    ensures stamps { cells.new.stamps ≡ cells.old.stamps }
 {
-    for stamp in stamps {
-        count_one(slots, usize::from(stamp.slot.0));
+    for index in 0..cells.len() {
+        let slot = cells.stamps()[index].slot();
+        count_one(cells, usize::from(slot.0));
     }
 }
 
 // Counts a stamp of a slot, if the slot is there.
-fn count_one(slots: &mut Slots, slot: usize)
-    requires { (get_or slots.old.items slot no_slot).start < 2 ^ 32 - 1 }
-    ensures { IsCountedOnce slots.old.items slots.new.items slot }
+fn count_one(cells: &mut Cells, slot: usize)
+    requires { (get_or cells.old.slots slot no_slot).start < 2 ^ 32 - 1 }
+    ensures slots { IsCountedOnce cells.old.slots cells.new.slots slot }
+    ensures stamps { cells.new.stamps ≡ cells.old.stamps }
 {
-    if slot >= slots.len() {
+    if slot >= cells.width() {
         return;
     }
-    let start = slots.as_slice()[slot].start();
-    set_start(slots, slot, start + 1);
-}
-
-// Gives a slot another start.
-fn set_start(slots: &mut Slots, slot: usize, start: u32)
-    requires { slot < length slots.old.items }
-    ensures { HasStart slots.old.items slots.new.items slot start }
-{
-    let written = &mut slots.as_mut_slice()[slot];
-    *written = Slot::new(written.content(), start);
+    let start = cells.start(slot);
+    cells.set_start(slot, start + 1);
 }
 
 // From how many stamps each slot has, where they begin: behind those of the slots before it.
-fn add_up(slots: &mut Slots, stamps: &[Stamp])
-    requires few { length stamps.now < 2 ^ 32 }
-    requires counted { AreCounted slots.old.items slots.old.items stamps.now }
-    ensures { AreRecounted slots.old.items slots.new.items stamps.now }
+fn add_up(cells: &mut Cells)
+    requires { AreCounted cells.old.slots cells.old.slots cells.old.stamps }
+    ensures slots { AreRecounted cells.old.slots cells.new.slots cells.old.stamps }
+    ensures stamps { cells.new.stamps ≡ cells.old.stamps }
 {
+    let _few = cells.len();
     let mut before = 0;
-    for slot in 0..slots.len() {
-        let own = slots.as_slice()[slot].start();
-        set_start(slots, slot, before);
+    for slot in 0..cells.width() {
+        let own = cells.start(slot);
+        cells.set_start(slot, before);
         before += own;
     }
 }

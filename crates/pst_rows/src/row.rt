@@ -1,23 +1,22 @@
 //! Rows.
 
-ghost use Rattle.std.specs.Prelude.{◌≡◌, ℕ, ◌+◌, ◌-◌, ◌^◌, ◌<◌, ◌≤◌, ◌↔◌, IfOk, OnOk, IfErr, OnErr, IfSome, IsNone, length, false, is_some};
+ghost use Rattle.std.specs.Prelude.{◌≡◌, ℕ, ◌+◌, ◌-◌, ◌^◌, ◌<◌, ◌≤◌, ◌↔◌, [], IfOk, OnOk, IfErr, OnErr, IfSome, IsNone, length, false, is_some};
 ghost use Rattle.pst_order.specs.Places.{rank, IsIn};
 ghost use Rattle.pst_order.specs.Search.{IsFewMore};
 ghost use Rattle.pst_rows.specs.Values.{before_slot};
 ghost use Rattle.pst_rows.specs.Parts.{value_of};
 ghost use Rattle.pst_rows.specs.Rows.{stamps_of, width_of, base_of, content_at, row_edge, stamped_count, stamped_in, spare_of, shown, IsRow, IsRowIn, IsInLife};
 ghost use Rattle.pst_rows.specs.Changes.{slot_count, first_content, IsNewRow, IsSegmentAround, IsSameRow, IsRowSet, IsRowCut, IsRowReplaced, IsRowSplit, IsSplitStamp, HasMore, needed, missing};
-ghost use Rattle.pst_rows.specs.Steps.{AreBounds, HasParts, IsLocated, IsStampAt, IsGap, IsInserted, IsRowPut, IsPutUnlessStamped, IsRowRestored, IsRowBegun, AreSlotsAt, AreFirstSlots};
+ghost use Rattle.pst_rows.specs.Steps.{AreBounds, HasParts, IsLocated, IsStampAt, IsGap, IsInserted, IsRowPut, IsPutUnlessStamped, IsRowRestored, IsRowBegun, AreCellsBefore, AreCellsAfter, AreFirstSlots};
 
-use crate::content::{Content, Held, Slot, Stamp};
-use crate::parts::slots_of;
+use crate::cells::Cells;
+use crate::content::{Content, Stamp};
+use crate::parts::{cells_of, recount};
 use crate::stamps::{
-    Bounds, Located, Slots, StampPlaces, Stamps, count_slots, middle_from, raise_starts, recount,
-    stamps_after, stamps_before, write_base,
+    Bounds, Located, StampPlaces, middle_from, put_after, put_before, raise_starts,
 };
 use pst_base::{NoMemory, SlotNo, TypeShape};
 use pst_order::{Compare, Counting, Order, Pos, partition};
-use smallvec::SmallVec;
 use std::alloc::Global;
 use std::cmp::Ordering;
 
@@ -30,22 +29,20 @@ use std::cmp::Ordering;
 pub struct Row {
     lo: Pos,
     hi: Pos,
-    slots: Slots,
-    stamps: Stamps,
+    cells: Cells,
 }
 
 impl Row {
     /// A row of a type with the life from `lo` to `hi`, without `hi`: each number 0, each pointer null, each inverse slot
     /// free. `NoMemory` where there is no memory for it.
     pub fn new(alloc: Global, shape: &TypeShape, lo: Pos, hi: Pos) -> Result<Row, NoMemory>
-        requires { slot_count shape.now ≤ 65536 }
+        requires { slot_count shape.now ≤ 256 }
         ensures { IfOk result (IsNewRow shape.now lo hi) }
     {
         Ok(Row {
             lo,
             hi,
-            slots: first_slots(alloc, shape)?,
-            stamps: Stamps::new(alloc),
+            cells: first_cells(alloc, shape)?,
         })
     }
 
@@ -65,8 +62,7 @@ impl Row {
         Ok(Row {
             lo,
             hi,
-            slots: slots_of(alloc, bases, stamps)?,
-            stamps: Stamps::of_slice(alloc, stamps)?,
+            cells: cells_of(alloc, bases, stamps)?,
         })
     }
 
@@ -88,7 +84,7 @@ impl Row {
     pub fn width(&self) -> usize
         ensures { result ≡ width_of self.now }
     {
-        self.slots.len()
+        self.cells.width()
     }
 
     /// What a slot holds from the begin of the life on, up to its first stamped value.
@@ -96,29 +92,28 @@ impl Row {
         requires { slot.0 < width_of self.now }
         ensures { result ≡ base_of self.now slot.0 }
     {
-        let slots = self.slots.as_slice();
-        slots[usize::from(slot.0)].content()
+        self.cells.base(slot)
     }
 
     /// The stamped values, in the order of slot and then place.
     pub fn stamps(&self) -> &[Stamp]
-        ensures { result.now ≡ self.now.stamps.items }
+        ensures { result.now ≡ self.now.cells.stamps }
     {
-        self.stamps.as_slice()
+        self.cells.stamps()
     }
 
     /// How many stamped values there are.
     pub fn stamped(&self) -> usize
         ensures { result ≡ stamped_count self.now }
     {
-        self.stamps.len()
+        self.cells.len()
     }
 
     /// How many stamped values more need no memory.
     pub fn spare(&self) -> usize
         ensures { result ≡ spare_of self.now }
     {
-        self.stamps.capacity() - self.stamps.len()
+        self.cells.capacity() - self.cells.len()
     }
 
     /// Makes room for so many stamped values more. `NoMemory` where there is none: then nothing changes.
@@ -128,7 +123,7 @@ impl Row {
         ensures as_well { spare_of self.old ≤ spare_of self.new }
         ensures err { OnErr result (self.new ≡ self.old) }
     {
-        self.stamps.reserve(count)
+        self.cells.reserve(count)
     }
 
     /// What a slot holds at a place of the life.
@@ -156,13 +151,13 @@ impl Row {
     {
         let (start, stop) = self.part(slot);
         if start < stop {
-            let stamps = self.stamps.as_slice();
+            let stamps = self.cells.stamps();
             let index = partition(compare, &StampPlaces { stamps }, start, stop, at);
             if start < index {
-                return stamps[index - 1].content.content();
+                return stamps[index - 1].content();
             }
         }
-        self.slots.as_slice()[usize::from(slot.0)].content()
+        self.cells.base(slot)
     }
 
     /// Where the segment of a slot that covers a place of the life begins, and before which place it ends.
@@ -174,16 +169,16 @@ impl Row {
             (rank (O.places order.now) result.0.0) (rank (O.places order.now) result.1.0) }
     {
         let located = self.locate(&mut Counting::new(order), slot, at);
-        let stamps = self.stamps.as_slice();
+        let stamps = self.cells.stamps();
         let begin = if located.index == located.start {
             self.lo
         } else {
-            stamps[located.index - 1].place
+            stamps[located.index - 1].place()
         };
         let end = if located.index == located.stop {
             self.hi
         } else {
-            stamps[located.index].place
+            stamps[located.index].place()
         };
         (begin, end)
     }
@@ -238,9 +233,9 @@ impl Row {
     {
         let located = self.locate(&mut Counting::new(order), slot, at);
         if located.index == located.start {
-            write_base(&mut self.slots, slot, content);
+            self.cells.write_base(slot, content);
         } else {
-            self.stamps.write_content(located.index - 1, content);
+            self.cells.write_content(located.index - 1, content);
         }
     }
 
@@ -259,7 +254,7 @@ impl Row {
             low: self.lo,
             high: self.hi,
         };
-        let mut gap = self.stamps.len() / 2;
+        let mut gap = self.cells.len() / 2;
         while gap > 1 {
             if let Some(place) = self.narrow(order, gap, &mut bounds) {
                 return Some(place);
@@ -280,19 +275,15 @@ impl Row {
         ensures right { IfOk result (IsRowIn (O.places order.now)) }
         ensures err { OnErr result (self.new ≡ self.old) }
     {
-        let alloc = *self.slots.allocator();
-        let left = stamps_before(alloc, order, self.stamps.as_slice(), at)?;
-        let right = stamps_after(alloc, order, self.stamps.as_slice(), at)?;
-        let slots = self.slots_at(alloc, order, at, right.as_slice())?;
-        recount(&mut self.slots, left.as_slice());
+        let right = self.right_of(order, at)?;
+        let left = self.left_of(order, at)?;
+        self.cells = left;
         let hi = self.hi;
         self.hi = at;
-        self.stamps = left;
         Ok(Row {
             lo: at,
             hi,
-            slots,
-            stamps: right,
+            cells: right,
         })
     }
 
@@ -306,9 +297,9 @@ impl Row {
         ensures bounds { AreBounds (O.places order.now) self.now bounds.new }
         ensures none { IsNone result → gap ≡ 1 → stamped_count self.now ≡ 0 }
     {
-        let stamps = self.stamps.as_slice();
+        let stamps = self.cells.stamps();
         for index in (0..stamps.len()).step_by(gap) {
-            let place = stamps[index].place;
+            let place = stamps[index].place();
             if order.before(bounds.low, place) && order.before(place, bounds.high) {
                 match middle_from(order, stamps, place) {
                     Ordering::Less => bounds.high = place,
@@ -325,17 +316,16 @@ impl Row {
     fn part(&self, slot: SlotNo) -> (usize, usize)
         requires parts { HasParts self.now }
         requires slot { slot.0 < width_of self.now }
-        ensures start { result.0 ≡ before_slot self.now.stamps.items slot.0 }
-        ensures stop { result.1 ≡ before_slot self.now.stamps.items (slot.0 + 1) }
+        ensures start { result.0 ≡ before_slot self.now.cells.stamps slot.0 }
+        ensures stop { result.1 ≡ before_slot self.now.cells.stamps (slot.0 + 1) }
     {
-        let slots = self.slots.as_slice();
         let slot = usize::from(slot.0);
-        let stop = if slot + 1 < slots.len() {
-            slots[slot + 1].start() as usize
+        let stop = if slot + 1 < self.cells.width() {
+            self.cells.start(slot + 1) as usize
         } else {
-            self.stamps.len()
+            self.cells.len()
         };
-        (slots[slot].start() as usize, stop)
+        (self.cells.start(slot) as usize, stop)
     }
 
     // Where a slot's stamps are, and which of them are not after a place.
@@ -345,13 +335,13 @@ impl Row {
         requires slot { slot.0 < width_of self.now }
         requires at { IsIn (P.list compare.old) at.0 }
         requires calls { P.calls compare.old ≤ 2 ^ 63 }
-        ensures located { IsLocated (rank (P.list compare.old)) self.now.stamps.items slot.0 (rank (P.list compare.old) at.0) result.start result.index result.stop }
+        ensures located { IsLocated (rank (P.list compare.old)) self.now.cells.stamps slot.0 (rank (P.list compare.old) at.0) result.start result.index result.stop }
         ensures list { P.list compare.new ≡ P.list compare.old }
         ensures calls { IsFewMore (stamped_in self.now slot.0) (P.calls compare.old) (P.calls compare.new) }
     {
         let (start, stop) = self.part(slot);
         let places = StampPlaces {
-            stamps: self.stamps.as_slice(),
+            stamps: self.cells.stamps(),
         };
         let index = partition(compare, &places, start, stop, at);
         Located { start, index, stop }
@@ -362,13 +352,13 @@ impl Row {
         requires row { IsRowIn (O.places order.now) self.now }
         requires slot { slot.0 < width_of self.now }
         requires place { IsIn (O.places order.now) place.0 }
-        ensures ok { IfOk result (λ i. IsStampAt (rank (O.places order.now)) self.now.stamps.items i slot.0 (rank (O.places order.now) place.0)) }
-        ensures err { IfErr result (λ k. IsGap (rank (O.places order.now)) self.now.stamps.items k slot.0 (rank (O.places order.now) place.0)) }
+        ensures ok { IfOk result (λ i. IsStampAt (rank (O.places order.now)) self.now.cells.stamps i slot.0 (rank (O.places order.now) place.0)) }
+        ensures err { IfErr result (λ k. IsGap (rank (O.places order.now)) self.now.cells.stamps k slot.0 (rank (O.places order.now) place.0)) }
     {
         let located = self.locate(&mut Counting::new(order), slot, place);
         if located.start < located.index {
             let last = located.index - 1;
-            if self.stamps.as_slice()[last].place == place {
+            if self.cells.stamps()[last].place() == place {
                 return Ok(last);
             }
         }
@@ -378,18 +368,13 @@ impl Row {
     // Puts a stamp at an index.
     fn insert(&mut self, index: usize, slot: SlotNo, place: Pos, content: Content)
         requires parts { HasParts self.old }
+        requires slot { slot.0 < width_of self.old }
         requires index { index ≤ stamped_count self.old }
         requires spare { 1 ≤ spare_of self.old }
         ensures { IsInserted self.old self.new index (record { slot = slot; place = place; content = content }) }
     {
-        let _room = self.stamps.capacity();
-        let stamp = Stamp {
-            slot,
-            place,
-            content: Held::new(content),
-        };
-        self.stamps.insert(index, stamp);
-        raise_starts(&mut self.slots, slot);
+        self.cells.insert(index, Stamp::new(slot, place, content));
+        raise_starts(&mut self.cells, slot);
     }
 
     // Stamps a content at a place, in the place of one that is stamped there.
@@ -404,7 +389,7 @@ impl Row {
         ensures more { HasMore (missing (is_some (stamps_of (rank (O.places order.now)) self.old slot.0 (rank (O.places order.now) place.0)))) self.old self.new }
     {
         match self.find(order, slot, place) {
-            Ok(index) => self.stamps.write_content(index, content),
+            Ok(index) => self.cells.write_content(index, content),
             Err(index) => self.insert(index, slot, place, content),
         }
     }
@@ -453,42 +438,54 @@ impl Row {
         ensures more { HasMore (missing (row_edge (rank (O.places order.now)) self.old slot.0 (rank (O.places order.now) from.0))) self.old self.new }
     {
         if from == self.lo {
-            write_base(&mut self.slots, slot, content);
+            self.cells.write_base(slot, content);
         } else {
             self.put(order, slot, from, content);
         }
     }
 
-    // What each slot holds at a place, with where its stamps begin in another list.
-    fn slots_at<O: Order>(
-        &self,
-        alloc: Global,
-        order: &O,
-        at: Pos,
-        stamps: &[Stamp],
-    ) -> Result<Slots, NoMemory>
+    // The slots, and the stamps before a place.
+    fn left_of<O: Order>(&self, order: &O, at: Pos) -> Result<Cells, NoMemory>
         requires row { IsRowIn (O.places order.now) self.now }
         requires life { IsInLife (O.places order.now) self.now at.0 }
-        requires few { length stamps.now < 2 ^ 32 }
-        ensures { IfOk result (λ slots. AreSlotsAt (rank (O.places order.now)) self.now (rank (O.places order.now) at.0) stamps.now slots.items) }
+        ensures { IfOk result (λ cells. AreCellsBefore (rank (O.places order.now)) self.now (rank (O.places order.now) at.0) cells) }
     {
-        let mut slots = SmallVec::with_capacity(alloc, self.slots.len())?;
-        for slot in 0..self.slots.len() {
-            let content = self.read(order, SlotNo(slot as u16), at);
-            slots.push(Slot::new(content, count_slots(stamps, slot)))?;
+        let count = self.cells.width() + self.cells.len() / 2;
+        let mut cells = Cells::with_capacity(self.cells.allocator(), count)?;
+        for slot in 0..self.cells.width() {
+            cells.push_slot(self.cells.base(SlotNo(slot as u16)))?;
         }
-        Ok(slots)
+        put_before(&mut cells, order, self.cells.stamps(), at)?;
+        recount(&mut cells);
+        Ok(cells)
+    }
+
+    // What each slot holds at a place, and the stamps after it.
+    fn right_of<O: Order>(&self, order: &O, at: Pos) -> Result<Cells, NoMemory>
+        requires row { IsRowIn (O.places order.now) self.now }
+        requires life { IsInLife (O.places order.now) self.now at.0 }
+        ensures { IfOk result (λ cells. AreCellsAfter (rank (O.places order.now)) self.now (rank (O.places order.now) at.0) cells) }
+    {
+        let count = self.cells.width() + self.cells.len() / 2;
+        let mut cells = Cells::with_capacity(self.cells.allocator(), count)?;
+        for slot in 0..self.cells.width() {
+            cells.push_slot(self.read(order, SlotNo(slot as u16), at))?;
+        }
+        put_after(&mut cells, order, self.cells.stamps(), at)?;
+        recount(&mut cells);
+        Ok(cells)
     }
 }
 
 // What the slots of a new row hold.
-fn first_slots(alloc: Global, shape: &TypeShape) -> Result<Slots, NoMemory>
-    requires { slot_count shape.now ≤ 65536 }
-    ensures { IfOk result (λ slots. AreFirstSlots shape.now slots.items) }
+fn first_cells(alloc: Global, shape: &TypeShape) -> Result<Cells, NoMemory>
+    requires { slot_count shape.now ≤ 256 }
+    ensures slots { IfOk result (λ cells. AreFirstSlots shape.now cells.slots) }
+    ensures stamps { IfOk result (λ cells. cells.stamps ≡ []) }
 {
     let fields = usize::from(shape.values) + shape.targets.as_slice().len();
     let count = fields + usize::from(shape.limit);
-    let mut slots = SmallVec::with_capacity(alloc, count)?;
+    let mut cells = Cells::with_capacity(alloc, count)?;
     for slot in 0..count {
         let content = if slot < usize::from(shape.values) {
             Content::Number(0)
@@ -497,7 +494,7 @@ fn first_slots(alloc: Global, shape: &TypeShape) -> Result<Slots, NoMemory>
         } else {
             Content::Free
         };
-        slots.push(Slot::new(content, 0))?;
+        cells.push_slot(content)?;
     }
-    Ok(slots)
+    Ok(cells)
 }

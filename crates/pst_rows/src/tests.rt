@@ -1,18 +1,16 @@
 //! A row of parts by hand: seven slots, of which two have two stamped values and one has one.
 
-use crate::content::{Content, Held, Stamp};
-use crate::parts::slots_of;
+use crate::cells::Cells;
+use crate::content::{Content, Stamp};
+use crate::parts::cells_of;
 use crate::row::Row;
 use pst_base::{NoMemory, NodeId, SlotNo};
 use pst_order::Pos;
+use std::alloc::Global;
 
 // A stamped value.
-fn stamp(slot: u16, place: u32, content: Content) -> Stamp {
-    Stamp {
-        slot: SlotNo(slot),
-        place: Pos(place),
-        content: Held::new(content),
-    }
+fn stamp(slot: u8, place: u32, content: Content) -> Stamp {
+    Stamp::new(SlotNo(u16::from(slot)), Pos(place), content)
 }
 
 // What the seven slots hold at first: two numbers, two pointers, three inverse slots.
@@ -39,13 +37,19 @@ fn stamps() -> [Stamp; 5] {
     ]
 }
 
+// Where the stamps of each slot begin.
+fn starts_of(alloc: Global, cells: &Cells) -> Result<Vec<u32>, NoMemory> {
+    let mut starts = Vec::new(alloc);
+    for slot in 0..cells.width() {
+        starts.push(cells.start(slot))?;
+    }
+    Ok(starts)
+}
+
 #[test]
 fn each_slot_begins_behind_those_before_it(rt: HostRuntime) -> Result<(), NoMemory> {
     let alloc = rt.alloc();
-    let mut starts = Vec::new(alloc);
-    for slot in slots_of(alloc, &bases(), &stamps())?.as_slice() {
-        starts.push(slot.start())?;
-    }
+    let starts = starts_of(alloc, &cells_of(alloc, &bases(), &stamps())?)?;
     assert!(rt; starts.as_slice() == [0, 0, 2, 2, 3, 3, 5].as_slice());
     Ok(())
 }
@@ -53,11 +57,8 @@ fn each_slot_begins_behind_those_before_it(rt: HostRuntime) -> Result<(), NoMemo
 #[test]
 fn stamps_of_slots_that_are_not_there_count_for_none(rt: HostRuntime) -> Result<(), NoMemory> {
     let alloc = rt.alloc();
-    let mut starts = Vec::new(alloc);
     let bases = [Content::Null, Content::Free];
-    for slot in slots_of(alloc, &bases, &stamps())?.as_slice() {
-        starts.push(slot.start())?;
-    }
+    let starts = starts_of(alloc, &cells_of(alloc, &bases, &stamps())?)?;
     assert!(rt; starts.as_slice() == [0, 0].as_slice());
     Ok(())
 }
@@ -69,9 +70,9 @@ fn a_row_gives_its_parts_back(rt: HostRuntime) -> Result<(), NoMemory> {
     assert!(rt; row.hi() == Pos(11));
     assert_eq!(rt; row.stamped(), 5);
     for (kept, given) in row.stamps().iter().zip(stamps().iter()) {
-        assert!(rt; kept.slot == given.slot);
-        assert!(rt; kept.place == given.place);
-        assert!(rt; kept.content.content() == given.content.content());
+        assert!(rt; kept.slot() == given.slot());
+        assert!(rt; kept.place() == given.place());
+        assert!(rt; kept.content() == given.content());
     }
     assert_eq!(rt; row.width(), 7);
     assert!(rt; row.base(SlotNo(1)) == Content::Number(-1));

@@ -4,8 +4,7 @@ ghost use Rattle.std.specs.Fmt.{decimal};
 ghost use Rattle.pst_script.specs.Texts.{printed_lines, trap_name, trap_line, version_line, version_lines, bound_of, line_bound_of, counts_line, refusal_name, text_of};
 
 use crate::reply::{Refusal, Reply};
-use itoa::{Buffer, Integer};
-use pst_base::{Counts, NoMemory, Text, Trap, TrapKind, VersionNo};
+use pst_base::{Counts, NoMemory, Text, Trap, TrapKind, VersionNo, put_number_between};
 use std::alloc::Global;
 
 /// The most bytes that the line of a printed number takes.
@@ -48,29 +47,13 @@ fn refusal_name(refusal: Refusal) -> &'static [u8]
     }
 }
 
-/// Puts a number between two pieces of text.
-#[inline(always)]
-fn push_number<N: Integer>(
-    text: &mut Vec<u8>,
-    before: &[u8],
-    number: N,
-    behind: &[u8],
-) -> Result<(), NoMemory>
-    ensures { OnOk result (text.new.items ≡ text.old.items ++ (before.now ++ N.text number ++ behind.now)) }
-{
-    let mut digits = Buffer::new();
-    text.extend_from_slice(before)?;
-    text.extend_from_slice(digits.format(number).as_bytes())?;
-    text.extend_from_slice(behind)
-}
-
 /// Puts the numbers that were printed, each on a line.
 fn push_printed(text: &mut Vec<u8>, printed: &[i64]) -> Result<(), NoMemory>
     ensures { OnOk result (text.new.items ≡ text.old.items ++ printed_lines printed.now) }
 {
     text.reserve(PRINTED_LINE_BYTES.saturating_mul(printed.len()))?;
     for number in printed {
-        push_number(text, b"| ", *number, b"\n")?;
+        put_number_between(text, b"| ", *number, b"\n")?;
     }
     Ok(())
 }
@@ -81,15 +64,15 @@ fn push_trap(text: &mut Vec<u8>, trap: Trap) -> Result<(), NoMemory>
 {
     text.extend_from_slice(b"trap ")?;
     text.extend_from_slice(trap_name(trap.kind))?;
-    push_number(text, b" at ", trap.line, b"\n")
+    put_number_between(text, b" at ", trap.line, b"\n")
 }
 
 /// Puts the line of a version.
 fn push_version(text: &mut Vec<u8>, version: usize, parent: VersionNo) -> Result<(), NoMemory>
     ensures { OnOk result (text.new.items ≡ text.old.items ++ version_line version parent) }
 {
-    push_number(text, b"", version, b" from ")?;
-    push_number(text, b"", parent.0, b"\n")
+    put_number_between(text, b"", version, b" from ")?;
+    put_number_between(text, b"", parent.0, b"\n")
 }
 
 /// Puts a line for each version from 1 on.
@@ -121,10 +104,10 @@ fn line_bound(counts: &Counts) -> u128
 fn push_counts(text: &mut Vec<u8>, counts: &Counts, bound: u128) -> Result<(), NoMemory>
     ensures { OnOk result (text.new.items ≡ text.old.items ++ counts_line counts.now bound) }
 {
-    push_number(text, b"records ", counts.records, b"")?;
-    push_number(text, b" pointers ", counts.pointer_writes, b"")?;
-    push_number(text, b" values ", counts.value_writes, b"")?;
-    push_number(text, b" bound ", bound, b"\n")
+    put_number_between(text, b"records ", counts.records, b"")?;
+    put_number_between(text, b" pointers ", counts.pointer_writes, b"")?;
+    put_number_between(text, b" values ", counts.value_writes, b"")?;
+    put_number_between(text, b" bound ", bound, b"\n")
 }
 
 /// Puts the text of a reply.
@@ -135,7 +118,7 @@ fn push_reply(text: &mut Vec<u8>, reply: &Reply) -> Result<(), NoMemory>
     match reply {
         Reply::Version { printed, version } => {
             push_printed(text, printed.as_slice())?;
-            push_number(text, b"version ", version.0, b"\n")
+            put_number_between(text, b"version ", version.0, b"\n")
         }
         Reply::Answer { printed } => {
             push_printed(text, printed.as_slice())?;
@@ -145,11 +128,11 @@ fn push_reply(text: &mut Vec<u8>, reply: &Reply) -> Result<(), NoMemory>
             push_printed(text, printed.as_slice())?;
             push_trap(text, *trap)
         }
-        Reply::Opened { run } => push_number(text, b"run ", run.0, b"\n"),
-        Reply::Running { run } => push_number(text, b"run ", run.0, b" running\n"),
-        Reply::Finished { run } => push_number(text, b"run ", run.0, b" done\n"),
-        Reply::Dropped { run } => push_number(text, b"dropped ", run.0, b"\n"),
-        Reply::BudgetSet { charges } => push_number(text, b"budget ", *charges, b"\n"),
+        Reply::Opened { run } => put_number_between(text, b"run ", run.0, b"\n"),
+        Reply::Running { run } => put_number_between(text, b"run ", run.0, b" running\n"),
+        Reply::Finished { run } => put_number_between(text, b"run ", run.0, b" done\n"),
+        Reply::Dropped { run } => put_number_between(text, b"dropped ", run.0, b"\n"),
+        Reply::BudgetSet { charges } => put_number_between(text, b"budget ", *charges, b"\n"),
         Reply::VersionList(parents) => {
             text.extend_from_slice(b"0\n")?;
             push_versions(text, parents.as_slice())

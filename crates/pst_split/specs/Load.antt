@@ -38,7 +38,7 @@ IsOver types ns i = half_at types ns i + half_at types ns i < stamped_at ns i
 
 -- how far a node is above half its capacity
 abbrev pub excess : List TypeShape → Node → ℕ
-excess types n = stamped_count n.row - half_in types n.ty.0
+excess types n = stamped_count n.row - half_in types n.header.ty.0
 
 -- the potential: the sum of that over the nodes
 abbrev pub potential_of : List TypeShape → List Node → ℕ

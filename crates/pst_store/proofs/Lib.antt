@@ -1,1 +1,11 @@
+pub mod Held
+pub mod Stores
+pub mod Links
+pub mod Forks
+pub mod Answered
+pub mod Starts
+pub mod Numbers
+pub mod Around
+pub mod Stamping
 pub mod Wholes
+pub mod ForkListLemmas

@@ -5,11 +5,11 @@ use Rattle.std.proofs.lemmas.Bool.{cases_lt}
 use Rattle.pst_base.specs.Shape.{type_at}
 use Rattle.pst_mirror.specs.Potential.{capacity}
 use Rattle.pst_places.specs.State.{IsSound, IsVersioned}
-use Rattle.pst_meaning.specs.declared.place.Place.{Place}
-use Rattle.pst_meaning.specs.Store.{Stored, IsOpen, IsStore}
-use Rattle.pst_meaning.proofs.Places.{store_is_sound, store_is_versioned}
-use Rattle.pst_meaning.proofs.Starting.{none_there}
-use Rattle.pst_started.specs.Calls.{IsKept}
+use Rattle.pst_store_meaning.specs.declared.place.Place.{Place}
+use Rattle.pst_store_meaning.specs.Store.{Stored, IsOpen, IsStore}
+use Rattle.pst_store_meaning.proofs.Places.{store_is_sound, store_is_versioned}
+use Rattle.pst_store_meaning.proofs.Starting.{none_there}
+use Rattle.pst_store.specs.Calls.{IsKept}
 use Rattle.pst_store.specs.Whole.{IsSmall, queue_in, state_in}
 
 pub whole_sound : (o : Option Stored) → IfSome o IsStore → IsSound (state_in o)

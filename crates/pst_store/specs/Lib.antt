@@ -1,1 +1,4 @@
+pub mod Codes
+pub mod Calls
 pub mod Whole
+pub mod ForkLists

@@ -1,10 +1,10 @@
 //! The store, and what is asked of it alone.
 
-use pst_arena::{Arena, FatNodes};
+use crate::Started;
 use pst_base::{NoMemory, RunNo, Shape, TypeNo, VersionNo};
 use pst_labels::LabelOrder;
 use pst_order::{Order, Pos};
-use pst_started::Started;
+use pst_store_arena::{Arena, FatNodes};
 use std::alloc::Global;
 use std::marker::Model;
 
@@ -24,8 +24,8 @@ pub type Store = StoreOf<LabelOrder>;
 impl<O: Order + Drop, N: FatNodes> Model for StoreOf<O, N> {
     ghost use Rattle.std.specs.Prelude.{Option};
     ghost use Rattle.std.specs.Coded.{coded_option};
-    ghost use Rattle.pst_meaning.specs.Store.{Stored};
-    ghost use Rattle.pst_started.specs.Codes.{coded_stored};
+    ghost use Rattle.pst_store_meaning.specs.Store.{Stored};
+    ghost use Rattle.pst_store.specs.Codes.{coded_stored};
 
     ghost Value = { Option Stored };
 
@@ -38,12 +38,12 @@ impl<O: Order + Drop, N: FatNodes> StoreOf<O, N> {
     ghost use Rattle.std.specs.Prelude.{◌≡◌, ◌<◌, ◌↔◌, [], None, Some, OnOk, OnErr, IfSome, IsSome, IsSomeAnd, IsTrue, length, slice_get};
     ghost use Rattle.std.specs.Option.{option_map};
     ghost use Rattle.pst_versions.specs.declared.rows.VersionRow.{VersionRow};
-    ghost use Rattle.pst_meaning.specs.declared.place.Place.{Place};
+    ghost use Rattle.pst_store_meaning.specs.declared.place.Place.{Place};
     ghost use Rattle.pst_base.specs.Shape.{IsValid, type_at};
     ghost use Rattle.pst_mirror.specs.Potential.{capacity};
     ghost use Rattle.pst_places.specs.State.{Unchanged, WritesStay};
-    ghost use Rattle.pst_meaning.specs.Store.{IsStore};
-    ghost use Rattle.pst_started.specs.Calls.{IsKept, IsStarted};
+    ghost use Rattle.pst_store_meaning.specs.Store.{IsStore};
+    ghost use Rattle.pst_store.specs.Calls.{IsKept, IsStarted};
     ghost use Rattle.pst_store.specs.Whole.{IsBounded, IsSmall, nodes_in, potential_in, queue_in, state_in};
 
     /// A store with no version and no node. It takes no memory.

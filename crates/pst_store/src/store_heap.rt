@@ -1,11 +1,11 @@
 //! The store as a heap at many places, which are forked and published.
 
 use crate::store::StoreOf;
-use pst_arena::FatNodes;
 use pst_base::{Counts, Name, NoMemory, NodeId, ROOT, RunNo, SlotNo, TypeNo, VersionNo};
-use pst_meaning::place::Place;
 use pst_order::Order;
 use pst_places::{HeapAt, StoreFault, VersionedHeap};
+use pst_store_arena::FatNodes;
+use pst_store_meaning::place::Place;
 
 impl<O: Order + Drop, N: FatNodes> HeapAt for StoreOf<O, N> {
     type Ref = NodeId;
@@ -17,9 +17,9 @@ impl<O: Order + Drop, N: FatNodes> HeapAt for StoreOf<O, N> {
     ghost use Rattle.pst_base.specs.Heap.{kind_in};
     ghost use Rattle.pst_places.specs.State.{Allocated, HasRoom, IsFresh, IsNewType, Unchanged, ValueStored, WritesStay};
     ghost use Rattle.pst_places.specs.Store.{MayStorePointer, PointerOutcome};
-    ghost use Rattle.pst_meaning.specs.Arena.{IsIn};
-    ghost use Rattle.pst_meaning.specs.Store.{arena, begin_of};
-    ghost use Rattle.pst_started.specs.Calls.{HoldsAfter, HoldsRoots, RestsAfter};
+    ghost use Rattle.pst_store_meaning.specs.Arena.{IsIn};
+    ghost use Rattle.pst_store_meaning.specs.Store.{arena, begin_of};
+    ghost use Rattle.pst_store.specs.Calls.{HoldsAfter, HoldsRoots, RestsAfter};
     ghost use Rattle.pst_store.specs.Whole.{Stamps, queue_in, state_in};
 
     ghost state = { state_in };

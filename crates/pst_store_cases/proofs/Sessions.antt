@@ -10,9 +10,9 @@ use Rattle.pst_history.specs.Direct.{direct}
 use Rattle.pst_versions.specs.declared.rows.VersionRow.{VersionRow}
 use Rattle.pst_places.specs.State.{State, IsVersioned}
 use Rattle.pst_engine.specs.Stands.{IsStartedHeap}
-use Rattle.pst_meaning.specs.Store.{Stored, as_fork}
-use Rattle.pst_meaning.proofs.Starting.{only_start}
-use Rattle.pst_started.specs.Calls.{IsStarted}
+use Rattle.pst_store_meaning.specs.Store.{Stored, as_fork}
+use Rattle.pst_store_meaning.proofs.Starting.{only_start}
+use Rattle.pst_store.specs.Calls.{IsStarted}
 use Rattle.pst_store.specs.Whole.{state_in}
 
 -- the record types of a program's meaning are its own

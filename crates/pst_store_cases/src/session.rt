@@ -7,12 +7,12 @@ ghost use Rattle.pst_engine.specs.Stands.{IsStartedHeap};
 ghost use Rattle.pst_store_cases.specs.Going.{IsGoing};
 
 use pst_base::{NoMemory, Text, VersionNo};
-use pst_coded::Compiled;
 use pst_dump::dump;
 use pst_engine::{Engine, a_new_engine_stands};
+use pst_engine_runs::Compiled;
+use pst_engine_testing::Trouble;
 use pst_places::VersionedHeap;
 use pst_script::{Command, LineFault, read_line, reply_text};
-use pst_testing::Trouble;
 use std::alloc::Global;
 
 /// A program's engine with its heap of versions. Both stand for a history.

@@ -8,13 +8,13 @@ ghost use Rattle.pst_store.specs.Whole.{state_in};
 ghost use Rattle.pst_store_cases.specs.Going.{IsGoing};
 
 use crate::session::Session;
-use pst_arena::FatNodes;
 use pst_base::NoMemory;
-use pst_coded::{Compiled, Meant};
+use pst_engine_runs::{Compiled, Meant};
+use pst_engine_testing::{Trouble, compiled, forest_for};
 use pst_forest::Forest;
 use pst_order::Order;
 use pst_store::StoreOf;
-use pst_testing::{Trouble, compiled, forest_for};
+use pst_store_arena::FatNodes;
 use std::alloc::Global;
 
 /// Starts an empty store for a program.

@@ -8,14 +8,14 @@ use crate::made_up::{MadeUp, PROGRAM, make_up};
 use crate::measured::{answers_at_rest, most_growth};
 use crate::session::{Session, have_same_dumps};
 use crate::starting::{over_forest, over_store};
-use pst_arena::{Arena, FatNodes};
 use pst_base::{Counts, NoMemory};
+use pst_engine_testing::Trouble;
 use pst_forest::Forest;
 use pst_labels::LabelOrder;
 use pst_order::{Order, RowOrder};
 use pst_places::VersionedHeap;
 use pst_store::StoreOf;
-use pst_testing::Trouble;
+use pst_store_arena::{Arena, FatNodes};
 use std::alloc::Global;
 
 /// How many records were made and fields written: fewer than the calls of the heap, which also loads.

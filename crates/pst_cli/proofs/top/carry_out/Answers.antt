@@ -1,12 +1,12 @@
 use Rattle.std.proofs.Common.{◌≡◌, ap, Err, refl}
-use Rattle.pst_jobs.specs.declared.job.Job.TheVariants.{Run, Replay, Line}
-use Rattle.pst_judge.specs.declared.page.Page.TheVariants.{Canonical, Listing}
-use Rattle.pst_answers.specs.Kept.{still, together}
-use Rattle.pst_serving.specs.Held.{kept_in}
+use Rattle.pst_cli_words.specs.declared.job.Job.TheVariants.{Run, Replay, Line}
+use Rattle.pst_front.specs.declared.page.Page.TheVariants.{Canonical, Listing}
+use Rattle.pst_cli_scripts.specs.Kept.{still, together}
+use Rattle.pst_cli_serving.specs.Held.{kept_in}
 use Rattle.pst_cli.specs.Held.{lined_in}
 use Rattle.pst_cli.proofs.Stores.{untouched, then_still, still_then}
-use Rattle.pst_serving.proofs.RowLemmas.{text_stopped, text_served, text_printed}
-use Rattle.pst_serving.proofs.Serving.{served_as, all_still}
+use Rattle.pst_cli_serving.proofs.RowLemmas.{text_stopped, text_served, text_printed}
+use Rattle.pst_cli_serving.proofs.Serving.{served_as, all_still}
 use Rattle.pst_cli.proofs.top.carry_out.Goals as goal
 
 pub returns-in-Err-clause-table : goal.returns-in-Err-clause-table

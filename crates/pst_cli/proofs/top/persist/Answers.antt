@@ -1,6 +1,6 @@
 use Rattle.std.proofs.Common.{◌≡◌, Some}
-use Rattle.pst_jobs.specs.declared.job.Task.TheVariants.{Input}
-use Rattle.pst_serving.proofs.RowLemmas.{named, one_job, completes}
+use Rattle.pst_cli_words.specs.declared.job.Task.TheVariants.{Input}
+use Rattle.pst_cli_serving.proofs.RowLemmas.{named, one_job, completes}
 use Rattle.pst_cli.proofs.top.persist.Goals as goal
 
 pub returns-in-Some-Input-clause-table : goal.returns-in-Some-Input-clause-table

@@ -1,5 +1,5 @@
 use Rattle.std.proofs.Common.{◌≡◌, ◌++◌, map, take}
-use Rattle.pst_compiled.specs.declared.need.Need.{Need}
+use Rattle.pst_translation.specs.declared.need.Need.{Need}
 use Rattle.pst_codegen.proofs.compiler.register_kinds.Given as goal
 
 abbrev pub invariant-loop-need : goal.invariant-loop-need

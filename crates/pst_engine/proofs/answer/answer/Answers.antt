@@ -1,6 +1,6 @@
 use Rattle.std.proofs.Common.{subst, sym}
 use Rattle.pst_script.specs.declared.command.Command.{Command}
-use Rattle.pst_active.specs.Stands.{machine_runs}
+use Rattle.pst_engine_runs.specs.Stands.{machine_runs}
 use Rattle.pst_engine.specs.Stands.{MayAnswer, Carries}
 use Rattle.std.specs.Prelude.{IfOk}
 use Rattle.std.proofs.Common.{refl, ap, ◌∙◌}

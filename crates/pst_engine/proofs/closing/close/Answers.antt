@@ -1,8 +1,8 @@
 use Rattle.std.proofs.Common.{◌≡◌, sym, ◌∙◌, subst, refl, slice_get, Some}
-use Rattle.pst_active.proofs.Slicing.{room, run-is, entry-at, entry-waits, slice-stays, stay-trans, on-err}
+use Rattle.pst_engine_runs.proofs.Slicing.{room, run-is, entry-at, entry-waits, slice-stays, stay-trans, on-err}
 use Rattle.pst_engine.proofs.Ending.{may-publish, closed-answers}
 use Rattle.pst_history.specs.History.{closed}
-use Rattle.pst_active.specs.Stands.{StandsFor, VersionsStay, machine_runs}
+use Rattle.pst_engine_runs.specs.Stands.{StandsFor, VersionsStay, machine_runs}
 use Rattle.pst_engine.specs.Stands.{Settled, MayPublish}
 use Rattle.pst_engine.proofs.closing.close.Given.{Over}
 use Rattle.pst_engine.proofs.closing.close.Goals.{After-index_mut-entry, After-advance}

@@ -1,6 +1,6 @@
 use Rattle.std.proofs.Common.{ℕ, [], sym, subst, arith}
 use Rattle.pst_history.specs.History.{Opening, begun, opening}
-use Rattle.pst_active.specs.Stands.{StandsFor, machine_runs}
+use Rattle.pst_engine_runs.specs.Stands.{StandsFor, machine_runs}
 use Rattle.pst_engine.specs.Stands.{opening_of}
 use Rattle.pst_engine.proofs.Fresh.{begins, started-opens, started-opening}
 use Rattle.pst_engine.proofs.laws.a_new_engine_stands.Goals as goal

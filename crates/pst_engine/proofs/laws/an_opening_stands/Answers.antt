@@ -1,6 +1,6 @@
 use Rattle.std.proofs.Common.{sym, subst}
 use Rattle.pst_history.specs.History.{begun}
-use Rattle.pst_active.specs.Stands.{StandsFor, machine_runs}
+use Rattle.pst_engine_runs.specs.Stands.{StandsFor, machine_runs}
 use Rattle.pst_engine.specs.Stands.{opening_of}
 use Rattle.pst_engine.proofs.Fresh.{begins}
 use Rattle.pst_engine.proofs.laws.an_opening_stands.Goals as goal

@@ -1,5 +1,5 @@
 use Rattle.pst_history.proofs.Accepting.{query-accepted}
-use Rattle.pst_active.proofs.Slicing.{if-ok-map}
+use Rattle.pst_engine_runs.proofs.Slicing.{if-ok-map}
 use Rattle.pst_engine.proofs.lines.ask.Goals as goal
 
 pub query-requires : goal.query-requires

@@ -1,7 +1,7 @@
 use Rattle.pst_history.proofs.Accepting.{call-open}
-use Rattle.pst_active.specs.Stands.{machine_runs}
-use Rattle.pst_active.proofs.Entries.{open-found-if, may-call}
-use Rattle.pst_active.proofs.Slicing.{if-ok-map}
+use Rattle.pst_engine_runs.specs.Stands.{machine_runs}
+use Rattle.pst_engine_runs.proofs.Entries.{open-found-if, may-call}
+use Rattle.pst_engine_runs.proofs.Slicing.{if-ok-map}
 use Rattle.pst_engine.proofs.lines.call_run.Goals as goal
 
 pub index_of-at-requires : goal.index_of-at-requires

@@ -1,8 +1,8 @@
 use Rattle.std.proofs.Common.{sym, subst, refl}
 use Rattle.pst_history.specs.History.{with_run, dropped_run, run_at}
 use Rattle.pst_history.proofs.Accepting.{drop-open}
-use Rattle.pst_active.specs.Stands.{StandsFor, machine_runs}
-use Rattle.pst_active.proofs.Entries.{open-found-if, entry-there}
+use Rattle.pst_engine_runs.specs.Stands.{StandsFor, machine_runs}
+use Rattle.pst_engine_runs.proofs.Entries.{open-found-if, entry-there}
 use Rattle.pst_engine.proofs.Commands.{drop-keeps}
 use Rattle.pst_engine.proofs.lines.drop_run.Goals as goal
 

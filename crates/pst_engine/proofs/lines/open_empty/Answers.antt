@@ -1,6 +1,6 @@
 use Rattle.std.proofs.Common.{◌+◌, ◌<◌, ◌^◌, arith}
 use Rattle.pst_history.proofs.After.{empty-opens}
-use Rattle.pst_active.specs.Stands.{machine_runs}
+use Rattle.pst_engine_runs.specs.Stands.{machine_runs}
 use Rattle.pst_engine.proofs.Commands.{opened-reply}
 use Rattle.pst_engine.proofs.lines.open_empty.Goals as goal
 

@@ -1,9 +1,9 @@
 use Rattle.std.proofs.Common.{◌+◌, ◌<◌, ◌^◌, [], ◌∷◌, arith}
 use Rattle.pst_history.specs.History.{opened, call_of}
 use Rattle.pst_history.proofs.After.{run-opens}
-use Rattle.pst_active.specs.Stands.{machine_runs}
+use Rattle.pst_engine_runs.specs.Stands.{machine_runs}
 use Rattle.pst_engine.proofs.Commands.{run-answers}
-use Rattle.pst_active.proofs.Slicing.{on-err, stay-trans}
+use Rattle.pst_engine_runs.proofs.Slicing.{on-err, stay-trans}
 use Rattle.pst_engine.proofs.lines.run.Goals as goal
 
 pub open_with-requires : goal.open_with-requires

@@ -1,7 +1,7 @@
 use Rattle.pst_history.proofs.Accepting.{step-open}
-use Rattle.pst_active.specs.Stands.{machine_runs}
-use Rattle.pst_active.proofs.Entries.{open-found-if}
-use Rattle.pst_active.proofs.Slicing.{if-ok-map}
+use Rattle.pst_engine_runs.specs.Stands.{machine_runs}
+use Rattle.pst_engine_runs.proofs.Entries.{open-found-if}
+use Rattle.pst_engine_runs.proofs.Slicing.{if-ok-map}
 use Rattle.pst_engine.proofs.lines.step_run.Goals as goal
 
 pub index_of-at-requires : goal.index_of-at-requires

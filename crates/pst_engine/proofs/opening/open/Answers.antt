@@ -1,13 +1,13 @@
 use Rattle.std.proofs.Common.{◌≡◌, ◌+◌, [], ◌∷◌, ◌++◌, ap, sym, ◌∙◌, subst, refl, arith, slice_get, length-append}
 use Rattle.pst_history.proofs.Lists.{slice_get-last}
-use Rattle.pst_active.proofs.Entries.{if-some}
+use Rattle.pst_engine_runs.proofs.Entries.{if-some}
 use Rattle.std.specs.Prelude.{length}
 use Rattle.pst_history.specs.History.{opened}
 use Rattle.pst_places.specs.State.{Forked, IsPublished}
-use Rattle.pst_active.specs.declared.entry.OpenEntry.{OpenEntry}
-use Rattle.pst_active.specs.Stands.{StandsFor, machine_runs}
-use Rattle.pst_active.proofs.Slicing.{stay-forked, stay-refused}
-use Rattle.pst_active.proofs.NewRuns.{row-at, begins-forked}
+use Rattle.pst_engine_runs.specs.declared.entry.OpenEntry.{OpenEntry}
+use Rattle.pst_engine_runs.specs.Stands.{StandsFor, machine_runs}
+use Rattle.pst_engine_runs.proofs.Slicing.{stay-forked, stay-refused}
+use Rattle.pst_engine_runs.proofs.NewRuns.{row-at, begins-forked}
 use Rattle.pst_engine.proofs.Begin.{open-keeps}
 use Rattle.pst_engine.proofs.opening.open.Goals as goal
 

@@ -1,6 +1,6 @@
 use Rattle.std.proofs.Common.{◌+◌, [], ◌∷◌, subst}
 use Rattle.pst_history.specs.History.{call_of, opened}
-use Rattle.pst_active.specs.Stands.{StandsFor, machine_runs}
+use Rattle.pst_engine_runs.specs.Stands.{StandsFor, machine_runs}
 use Rattle.pst_engine.proofs.Begin.{opened-called-as, opened-may-call-as, may-open-empty}
 use Rattle.pst_engine.proofs.opening.open_with.Goals as goal
 

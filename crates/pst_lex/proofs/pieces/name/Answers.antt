@@ -10,4 +10,4 @@ name_kind-requires-clause-starts c =
 pub returns : goal.returns
 returns c =
     let w = c.word_length-length.ensures in
-    (w.within, (letter_word c.args.text.now c.word_length-length.result c.requires w.within w.longest).0, c.in_ok-kind.ensures (drop c.word_length-length.result c.args.text.now) w.longest)
+    (w.within, (letter_word c.args.text.now c.word_length-length.result c.requires w.within w.longest).0, c.name_kind.ensures (drop c.word_length-length.result c.args.text.now) w.longest)

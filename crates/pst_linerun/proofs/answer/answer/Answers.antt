@@ -3,7 +3,7 @@ use Rattle.pst_script.specs.declared.command.Command.{Command}
 use Rattle.pst_script.specs.declared.reply.Reply.TheVariants as answer
 use Rattle.pst_history.specs.History.{History}
 use Rattle.pst_engine.proofs.Commands.{parents-are}
-use Rattle.pst_active.proofs.Slicing.{on-err}
+use Rattle.pst_engine_runs.proofs.Slicing.{on-err}
 use Rattle.pst_linerun.specs.Linear.{line_refusal}
 use Rattle.pst_linerun.specs.Standing.{LineStands}
 use Rattle.pst_linerun.specs.Carried.{IsCarried}

@@ -1,7 +1,7 @@
 use Rattle.std.proofs.Common.{◌∙◌, []}
 use Rattle.pst_program.specs.Outcome.{no_counts}
 use Rattle.pst_history.specs.History.{call_of}
-use Rattle.pst_runs.specs.Runs.{MayAdd, runs_of}
+use Rattle.pst_engine_runs.specs.Runs.{MayAdd, runs_of}
 use Rattle.pst_linerun.proofs.CarriedOut.{came, may-add, waiting}
 use Rattle.pst_linerun.proofs.carrying.carry_out.Given.{Over}
 use Rattle.pst_linerun.proofs.carrying.carry_out.Goals.{In_ok-activation}

@@ -1,5 +1,5 @@
 use Rattle.std.proofs.Common.{arith}
-use Rattle.pst_active.proofs.Slicing.{on-err}
+use Rattle.pst_engine_runs.proofs.Slicing.{on-err}
 use Rattle.pst_linerun.proofs.Holding.{many-rows}
 use Rattle.pst_linerun.proofs.Running.{run-carried, run-may, settled-some, unchanged-after}
 use Rattle.pst_linerun.proofs.lines.run.Goals as goal

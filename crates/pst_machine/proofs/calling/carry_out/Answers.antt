@@ -1,6 +1,6 @@
 use Rattle.std.proofs.Common.{Bool, subst}
-use Rattle.pst_steps.specs.declared.standing.Step.{Step}
-use Rattle.pst_running.specs.Ready.{Ran}
+use Rattle.pst_machine_steps.specs.declared.standing.Step.{Step}
+use Rattle.pst_machine_frames.specs.Ready.{Ran}
 use Rattle.pst_machine.specs.Advance.{GoesInto, IsInto}
 use Rattle.pst_machine.proofs.Carrying.{carried_on, carried_rest}
 use Rattle.pst_machine.proofs.calling.carry_out.Goals as goal

@@ -1,5 +1,5 @@
 use Rattle.std.proofs.Common.{◌≡◌, map, take}
-use Rattle.pst_steps.specs.declared.register.Register.TheVariants as register
+use Rattle.pst_machine_steps.specs.declared.register.Register.TheVariants as register
 use Rattle.pst_machine.proofs.calling.hold_first.Given as goal
 
 abbrev pub invariant-loop-n : goal.invariant-loop-n

@@ -1,7 +1,7 @@
 use Rattle.std.proofs.Common.{◌≡◌, ◌≤◌, ◌⊎◌, ℕ, List, [], length}
-use Rattle.pst_lex.specs.declared.types.Token.{Token}
+use Rattle.pst_parse_expressions.specs.declared.lexeme.Atom.{Atom}
 use Rattle.pst_lex.specs.Taking.{bytes_left}
-use Rattle.pst_grammar.specs.Lexemes.{lexemes}
+use Rattle.pst_parse_expressions.specs.View.{lexemes_of}
 use Rattle.pst_grammar.specs.Reader.{Bad, Unexpected}
 use Rattle.pst_grammar.specs.Declarations.{item}
 use Rattle.pst_parse.specs.Window.{Ahead, HasAhead}
@@ -13,8 +13,8 @@ abbrev pub invariant-loop-alloc : goal.invariant-loop-alloc
 invariant-loop-alloc l = record {
   ahead : HasAhead l.window;
   within : l.left ≤ length l.window.tokens.items;
-  broken : (l.left ≡ 0) ⊎ (item l.language 63 15 (lexemes (last l.left l.window.tokens.items)) ≡ Bad Unexpected []);
-  read : (tokens : List Token) (end : ℕ) → Ahead l.fn.window tokens end → IsLeft l.language tokens end l.window l.left l.items.items;
+  broken : (l.left ≡ 0) ⊎ (item l.language 63 15 (lexemes_of (last l.left l.window.tokens.items)) ≡ Bad Unexpected []);
+  read : (tokens : List Atom) (end : ℕ) → Ahead l.fn.window tokens end → IsLeft l.language tokens end l.window l.left l.items.items;
 }
 
 abbrev pub decreases-loop-alloc : goal.decreases-loop-alloc

@@ -6,7 +6,7 @@ use Rattle.pst_parse.proofs.program.take_declarations.Goals as goal
 
 pub loop-rest-preserved : goal.loop-rest-preserved
 loop-rest-preserved c =
-    at_next c.args.language c.args.tokens.now c.loop-rest.rest.now c.in-Ok.behind.now c.args.items.now.items c.loop-rest.items.items c.push.new.self.items c.in-Ok.declaration c.loop-rest.invariant c.loop-rest-test.ensures
+    at_next c.args.language c.args.tokens.now c.loop-rest.rest.now c.in-Ok.read.1.now c.args.items.now.items c.loop-rest.items.items c.push.new.self.items c.in-Ok.read.0 c.loop-rest.invariant c.loop-rest-test.ensures
     c.in-Ok.ensures.given c.in_ok-push-in-Ok.ensures.items
 
 pub returns-then-is_empty : goal.returns-then-is_empty

@@ -2,9 +2,9 @@ use Rattle.std.proofs.Common.{ℕ, List, [], ◌∷◌, ◌++◌, sym, ◌∙◌
 use Rattle.pst_queue.specs.Queue.{tail_of}
 use Rattle.pst_split.specs.Steps.{Queues}
 use Rattle.pst_split.proofs.ShownLemmas.{shows_rows, shows_on, live_rows, live_on}
-use Rattle.pst_joint.specs.Seen.{seen}
-use Rattle.pst_joint.proofs.SameLemmas.{seen_links, seen_same, one_split_more}
-use Rattle.pst_joint.proofs.StepLemmas.{splits_are_steps}
+use Rattle.pst_repair.specs.Seen.{seen}
+use Rattle.pst_repair.proofs.SameLemmas.{seen_links, seen_same, one_split_more}
+use Rattle.pst_repair.proofs.StepLemmas.{splits_are_steps}
 use Rattle.pst_repair.specs.Repair.{IsQueued}
 use Rattle.pst_repair.proofs.RepairLemmas.{IsPopped, first_waits, sound_rows, sound_same, popped_some, split_queued, refused_held, refused_queued, last_waits, potential_rows}
 use Rattle.pst_repair.proofs.repair.split_next.Given as given

@@ -1,6 +1,6 @@
 use Rattle.std.proofs.Common.{All, ◌≡◌}
-use Rattle.pst_meaning.specs.Store.{state_of}
-use Rattle.pst_rings.specs.Rings.{HasRing}
+use Rattle.pst_store_meaning.specs.Store.{state_of}
+use Rattle.pst_store_rings.specs.Rings.{HasRing}
 use Rattle.pst_repair_cases.proofs.repeated.make_versions.Given as goal
 
 -- the ring stands at the last version and at those before it

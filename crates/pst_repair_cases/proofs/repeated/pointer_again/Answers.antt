@@ -3,8 +3,8 @@ use Rattle.std.specs.Option.{option_map}
 use Rattle.pst_base.specs.declared.names.Kind.TheVariants.{Pointer}
 use Rattle.pst_base.specs.Heap.{FitsField}
 use Rattle.pst_places.proofs.StateLemmas.{Keeps_trans}
-use Rattle.pst_meaning.specs.Store.{state_of}
-use Rattle.pst_started.specs.Calls.{kind_at}
+use Rattle.pst_store_meaning.specs.Store.{state_of}
+use Rattle.pst_store.specs.Calls.{kind_at}
 use Rattle.pst_repair_cases.proofs.Repeats.{open_kept, open_writable, pointer_keeps, target_kept}
 use Rattle.pst_repair_cases.proofs.repeated.pointer_again.Goals as goal
 

@@ -5,6 +5,7 @@ use Rattle.pst_rows.proofs.parts.add_up.Given as goal
 
 abbrev pub invariant-loop-slot : goal.invariant-loop-slot
 invariant-loop-slot l = record {
-  sum : l.before ≡ before_slot l.stamps l.slot;
-  added : AreAddedTo l.initial.slots.items l.slots.items l.stamps l.slot;
+  sum : l.before ≡ before_slot l.initial.cells.stamps l.slot;
+  added : AreAddedTo l.initial.cells.slots l.cells.slots l.initial.cells.stamps l.slot;
+  stamps : l.cells.stamps ≡ l.initial.cells.stamps;
 }

@@ -1,7 +1,7 @@
 use Rattle.std.proofs.lemmas.Result.{err_from_is_err_and}
 use Rattle.pst_tree.specs.View as tree_view
 use Rattle.pst_typing.specs.Declarations.{noted}
-use Rattle.pst_scope.specs.View.{scope_of}
+use Rattle.pst_types_scope.specs.View.{scope_of}
 use Rattle.pst_typing.proofs.Through.{fails_there}
 use Rattle.pst_types.proofs.walks.gather.Goals as goal
 

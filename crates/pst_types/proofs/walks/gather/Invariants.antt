@@ -3,7 +3,7 @@ use Rattle.pst_tree.specs.View as tree_view
 use Rattle.pst_typing.specs.Answers.{through}
 use Rattle.pst_typing.specs.Declarations.{noted}
 use Rattle.pst_typing.specs.Names.{nothing_declared}
-use Rattle.pst_scope.specs.View.{scope_of}
+use Rattle.pst_types_scope.specs.View.{scope_of}
 use Rattle.pst_typing.proofs.Through.{Left}
 use Rattle.pst_types.proofs.walks.gather.Given as goal
 

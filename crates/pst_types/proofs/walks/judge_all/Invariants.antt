@@ -8,7 +8,7 @@ use Rattle.pst_tree.specs.declared.statement.Block.{Block}
 use Rattle.pst_tree.specs.declared.declaration.Declaration.{Declaration}
 use Rattle.pst_typing.specs.Answers.{through}
 use Rattle.pst_typing.specs.Declarations.{declared, root_alone}
-use Rattle.pst_scope.specs.View.{scope_of}
+use Rattle.pst_types_scope.specs.View.{scope_of}
 use Rattle.pst_types.specs.View.{draft_of}
 use Rattle.pst_types.specs.Bodies.{with_bodies}
 use Rattle.pst_types.proofs.walks.judge_all.Given as goal

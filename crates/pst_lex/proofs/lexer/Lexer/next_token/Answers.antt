@@ -2,18 +2,18 @@ use Rattle.std.proofs.Common.{◌≡◌, ◌<◌, ◌+◌, [], ◌∷◌, length
 use Rattle.std.proofs.lemmas.Result.{err_from_is_err_and}
 use Rattle.pst_lex.specs.Lexing.{LexedTo}
 use Rattle.pst_lex.proofs.Rows.{skip_fault, take_fault, take_token, skip_end, none_left, zero_test, more_test}
-use Rattle.pst_lex.proofs.Taking.{token_of, end_of, memory_of}
+use Rattle.pst_lex.proofs.Taking.{token_of, end_of, no_fault_of}
 use Rattle.pst_lex.proofs.lexer.Lexer.next_token.Goals as goal
 
 pub returns-in_err-blank-clause-exact : goal.returns-in_err-blank-clause-exact
 returns-in_err-blank-clause-exact c =
     let p = err_from_is_err_and c.from_residual.result c.from_residual.ensures.1 in
-    rw (p.1, p.2) (skip_fault _ _ _ _ c.in_err-blank.ensures, (refl, refl, refl))
+    rw (p.1, p.2) (skip_fault _ c.args.self.now.at _ _ c.in_err-blank.ensures, (refl, refl, refl))
 
 pub returns-in_err-blank-clause-left : goal.returns-in_err-blank-clause-left
 returns-in_err-blank-clause-left c = λ tokens end h.
     let p = err_from_is_err_and c.from_residual.result c.from_residual.ensures.1 in
-    rw (p.1, p.2) (memory_of _ _ _ _ tokens end (skip_fault _ c.args.self.now.at _ _ c.in_err-blank.ensures) h, h)
+    rw p.1 (no_fault_of _ _ _ _ tokens end (skip_fault _ c.args.self.now.at _ _ c.in_err-blank.ensures) h)
 
 pub returns-then-is_empty-clause-left : goal.returns-then-is_empty-clause-left
 returns-then-is_empty-clause-left c = λ tokens end h.
@@ -25,7 +25,7 @@ returns-in_err-kind-clause-left c = λ tokens end h.
     let p = err_from_is_err_and c.from_residual-in_err-kind.result c.from_residual-in_err-kind.ensures.1 in
     let some = more_test _ c.if-is_empty.ensures in
     let more : c.in_ok-blank.blank < length c.args.self.now.rest.now = omega (arith, some, c.split_at.ensures.back_len) in
-    rw (p.1, p.2) (memory_of _ _ _ _ tokens end (take_fault _ c.args.self.now.at _ _ _ _ c.in_ok-blank.ensures more (rw c.split_at.ensures.back at c.in_err-kind.ensures)) h, h)
+    rw p.1 (no_fault_of _ _ _ _ tokens end (take_fault _ c.args.self.now.at _ _ _ _ c.in_ok-blank.ensures more (rw c.split_at.ensures.back at c.in_err-kind.ensures)) h)
 
 pub returns-clause-left : goal.returns-clause-left
 returns-clause-left c = λ tokens end h.

@@ -1,5 +1,6 @@
 use Rattle.std.proofs.Common.{◌≡◌, ℕ, suc, ◌+◌, None, Option, true, length, ap, sym, ◌∙◌, arith}
-use Rattle.pst_line_nodes.specs.Line.{sum_below, if_newest}
+use Rattle.pst_base.specs.Below.{sum_below}
+use Rattle.pst_line_nodes.specs.Line.{if_newest}
 use Rattle.pst_line_nodes.specs.Nodes.{line_of}
 use Rattle.pst_line_nodes.proofs.NodeLemmas.{of_node-at, sum_below-part}
 use Rattle.pst_line_nodes.proofs.nodes.Nodes.potential.Goals as goal

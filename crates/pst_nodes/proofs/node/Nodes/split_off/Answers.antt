@@ -1,4 +1,4 @@
-use Rattle.std.proofs.Common.{◌<◌, refl, sym, subst, arith, List, Some}
+use Rattle.std.proofs.Common.{◌<◌, ◌∙◌, refl, sym, subst, arith, List, Some}
 use Rattle.pst_order.specs.Places.{rank}
 use Rattle.pst_queue.specs.declared.links.Link.TheVariants.{Out}
 use Rattle.pst_nodes.specs.declared.node.Node.{Node}
@@ -18,18 +18,18 @@ split_off-requires-clause-before g c = here c.args.self.now.list.items c.args.id
 
 pub returns-clause-split : goal.returns-clause-split
 returns-clause-split g c =
-    let t = cut_in_two_at (g.O.Order.places c.args.order.now) c.args.self.now.list.items c.args.id.0 c.len.result c.index_mut-node.result.now
-    (record { name = c.index_mut-node.result.now.name; ty = c.index_mut-node.result.now.ty; row = c.split_off.new.self; later = Some (record { 0 = c.len.result }); link = c.index_mut-node.result.now.link })
-    (record { name = c.index_mut-node.result.now.name; ty = c.index_mut-node.result.now.ty; row = c.in_ok-row.row; later = c.index_mut-node.result.now.later; link = Out })
-    c.requires.there c.index_mut-node.ensures.value c.args.at (omega (arith, c.len.ensures, c.args.self.now.list.ok.0)) c.in_ok-row.ensures.split refl refl refl refl refl refl refl refl
-    c.in_ok-row.ensures.left c.in_ok-row.ensures.right c.requires.rows in
+    let t = cut_in_two_at (g.O.Order.places c.args.order.now) c.args.self.now.list.items c.args.id.0 (record { 0 = c.len.result }) c.index_mut-node.result.now
+    (record { header = c.set_later.new.self; row = c.split_off.new.self })
+    (record { header = c.new-header.result; row = c.in_ok-row.row })
+    c.requires.there c.index_mut-node.ensures.value c.args.at (omega (arith, c.len.ensures, c.args.self.now.list.ok.0)) c.in_ok-row.ensures.split c.set_later.ensures
+    (c.new-header.ensures ∙ (rw (c.name.ensures, c.ty.ensures, c.later.ensures) refl)) c.in_ok-row.ensures.left c.in_ok-row.ensures.right c.requires.rows in
     subst (λ (ys : List Node). IsCutInTwo (g.O.Order.places c.args.order.now) c.args.self.now.list.items ys c.args.id.0 c.len.result c.args.at.0) (sym c.push_reserved.ensures.items) t.0
 
 pub returns-clause-rows : goal.returns-clause-rows
 returns-clause-rows g c =
-    let t = cut_in_two_at (g.O.Order.places c.args.order.now) c.args.self.now.list.items c.args.id.0 c.len.result c.index_mut-node.result.now
-    (record { name = c.index_mut-node.result.now.name; ty = c.index_mut-node.result.now.ty; row = c.split_off.new.self; later = Some (record { 0 = c.len.result }); link = c.index_mut-node.result.now.link })
-    (record { name = c.index_mut-node.result.now.name; ty = c.index_mut-node.result.now.ty; row = c.in_ok-row.row; later = c.index_mut-node.result.now.later; link = Out })
-    c.requires.there c.index_mut-node.ensures.value c.args.at (omega (arith, c.len.ensures, c.args.self.now.list.ok.0)) c.in_ok-row.ensures.split refl refl refl refl refl refl refl refl
-    c.in_ok-row.ensures.left c.in_ok-row.ensures.right c.requires.rows in
+    let t = cut_in_two_at (g.O.Order.places c.args.order.now) c.args.self.now.list.items c.args.id.0 (record { 0 = c.len.result }) c.index_mut-node.result.now
+    (record { header = c.set_later.new.self; row = c.split_off.new.self })
+    (record { header = c.new-header.result; row = c.in_ok-row.row })
+    c.requires.there c.index_mut-node.ensures.value c.args.at (omega (arith, c.len.ensures, c.args.self.now.list.ok.0)) c.in_ok-row.ensures.split c.set_later.ensures
+    (c.new-header.ensures ∙ (rw (c.name.ensures, c.ty.ensures, c.later.ensures) refl)) c.in_ok-row.ensures.left c.in_ok-row.ensures.right c.requires.rows in
     subst (λ (ys : List Node). AreRows (g.O.Order.places c.args.order.now) ys) (sym c.push_reserved.ensures.items) t.1

@@ -18,19 +18,19 @@ open_after-self-requires c =
 
 pub returns-clause-refused : goal.returns-clause-refused
 returns-clause-refused c = λ why e.
-    let accepted : refusal (meaning_of c.args.program.now) (kept_for c.args.program.now c.args.self.now.history) c.args.line.now ≡ None = search rules in
-    absurd (accepted-other (meaning_of c.args.program.now) (kept_for c.args.program.now c.args.self.now.history) c.args.line.now accepted why (sym c.in_ok-reply.ensures.reply ∙ e))
+    let accepted : refusal (meaning_of c.args.program.now) (kept_for c.args.program.now c.args.self.now.history) c.args.command.now ≡ None = search rules in
+    absurd (accepted-other (meaning_of c.args.program.now) (kept_for c.args.program.now c.args.self.now.history) c.args.command.now accepted why (sym c.in_ok-reply.ensures.reply ∙ e))
 
 pub returns-clause-may : goal.returns-clause-may
 returns-clause-may c = λ given.
     let m = meaning_of c.args.program.now in
     let h = kept_for c.args.program.now c.args.self.now.history in
     let may = c.requires.may c.if-self.false in
-    let accepted : refusal m h c.args.line.now ≡ None = search rules in
-    let extends = changed-extends m (direct_is_lawful (routines_of c.args.program.now) c.requires.typed.valid) h c.args.line.now given may.sound accepted in
+    let accepted : refusal m h c.args.command.now ≡ None = search rules in
+    let extends = changed-extends m (direct_is_lawful (routines_of c.args.program.now) c.requires.typed.valid) h c.args.command.now given may.sound accepted in
     let P : History → Type 0 = λ x. IsSoundHistory m x in
     record {
       sound = subst P (sym c.in_ok-reply.ensures.changed) extends.sound;
       numbered = c.in_ok-reply.ensures.numbered;
-      counted = c.open_after-self.ensures ∙ ap (λ n. open_after n c.args.line.now) may.counted ∙ counted-after m h c.args.line.now accepted ∙ ap (λ (x : History). count_by is_open x.runs) (sym c.in_ok-reply.ensures.changed);
+      counted = c.open_after-self.ensures ∙ ap (λ n. open_after n c.args.command.now) may.counted ∙ counted-after m h c.args.command.now accepted ∙ ap (λ (x : History). count_by is_open x.runs) (sym c.in_ok-reply.ensures.changed);
     }

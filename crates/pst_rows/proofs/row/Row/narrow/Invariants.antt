@@ -8,7 +8,7 @@ abbrev pub invariant-loop-index : goal.invariant-loop-index
 invariant-loop-index g l =
     record {
       bounds : AreBounds (g.O.Order.places l.order) l.self l.bounds;
-      passed : l.gap ≡ 1 → (k : ℕ) → k < l.index → IsHalf (rank (g.O.Order.places l.order)) l.self.stamps.items (rank (g.O.Order.places l.order) (get_or l.self.stamps.items k no_stamp).place.0) → ⊥;
+      passed : l.gap ≡ 1 → (k : ℕ) → k < l.index → IsHalf (rank (g.O.Order.places l.order)) l.self.cells.stamps (rank (g.O.Order.places l.order) (get_or l.self.cells.stamps k no_stamp).place.0) → ⊥;
     }
 
 abbrev pub decreases-loop-index : goal.decreases-loop-index

@@ -1,8 +1,8 @@
 use Rattle.std.proofs.Common.{◌≡◌, ℕ, ◌-◌, List, length, refl, sym, ap, ◌∙◌, arith, subst}
 use Rattle.pst_order.specs.Places.{rank}
 use Rattle.pst_order.specs.Search.{AreRising, IsPartition, IsFewMore}
-use Rattle.pst_rows.specs.declared.content.Slot.{Slot}
 use Rattle.pst_rows.specs.declared.content.Stamp.{Stamp}
+use Rattle.pst_rows.specs.Values.{no_slot}
 use Rattle.pst_rows.specs.Rows.{stamped_in}
 use Rattle.pst_rows.specs.Steps.{places_of}
 use Rattle.pst_rows.proofs.CountLemmas.{before_slot_step}
@@ -17,20 +17,20 @@ part-start-requires-clause-parts g c = has_parts (rank (g.P.Compare.list c.args.
 pub partition-index-requires-clause-rising : goal.partition-index-requires-clause-rising
 partition-index-requires-clause-rising g c =
     let list : List ℕ = g.P.Compare.list c.args.compare.now in
-    subst (λ (xs : List Stamp). AreRising list (places_of xs) c.part-start.result.0 c.part-start.result.1) (sym c.as_slice-stamps.ensures)
-    (part_rising list (rank list c.args.self.now.lo.0) (rank list c.args.self.now.hi.0) (length c.args.self.now.slots.items) c.args.self.now.stamps.items c.requires.row.stamps c.requires.row.there c.args.slot.0 c.part-start.result.0 c.part-start.result.1 c.part-start.ensures.start c.part-start.ensures.stop)
+    subst (λ (xs : List Stamp). AreRising list (places_of xs) c.part-start.result.0 c.part-start.result.1) (sym c.stamps-stamps.ensures)
+    (part_rising list (rank list c.args.self.now.lo.0) (rank list c.args.self.now.hi.0) (length c.args.self.now.cells.slots) c.args.self.now.cells.stamps c.requires.row.stamps c.requires.row.there c.args.slot.0 c.part-start.result.0 c.part-start.result.1 c.part-start.ensures.start c.part-start.ensures.stop)
 
 pub returns-then-start-index-clause-content : goal.returns-then-start-index-clause-content
 returns-then-start-index-clause-content g c =
     let list : List ℕ = g.P.Compare.list c.args.compare.now in
-    let found : IsPartition list (places_of c.args.self.now.stamps.items) c.part-start.result.0 c.part-start.result.1 c.args.at.0 c.partition-index.result = subst (λ (xs : List Stamp). IsPartition list (places_of xs) c.part-start.result.0 c.part-start.result.1 c.args.at.0 c.partition-index.result) c.as_slice-stamps.ensures c.partition-index.ensures.found in
-    c.content.ensures ∙ read_last (rank list) (length list) c.args.self.now c.args.slot.0 (rank list c.args.at.0) c.part-start.result.0 c.partition-index.result c.part-start.result.1 c.requires.row
-    (part_located list (rank list c.args.self.now.lo.0) (rank list c.args.self.now.hi.0) (length c.args.self.now.slots.items) c.args.self.now.stamps.items c.requires.row.stamps c.requires.row.there c.args.slot.0 c.part-start.result.0 c.part-start.result.1 c.part-start.ensures.start c.part-start.ensures.stop c.args.at.0 c.partition-index.result found)
-    c.as_slice-stamps.result.now _ c.as_slice-stamps.ensures c.if-start-index.true
+    let found : IsPartition list (places_of c.args.self.now.cells.stamps) c.part-start.result.0 c.part-start.result.1 c.args.at.0 c.partition-index.result = subst (λ (xs : List Stamp). IsPartition list (places_of xs) c.part-start.result.0 c.part-start.result.1 c.args.at.0 c.partition-index.result) c.stamps-stamps.ensures c.partition-index.ensures.found in
+    c.content.ensures ∙ ap (λ (e : Stamp). e.content) c.index-stamps-index.is ∙ read_last (rank list) (length list) c.args.self.now c.args.slot.0 (rank list c.args.at.0) c.part-start.result.0 c.partition-index.result c.part-start.result.1 c.requires.row
+    (part_located list (rank list c.args.self.now.lo.0) (rank list c.args.self.now.hi.0) (length c.args.self.now.cells.slots) c.args.self.now.cells.stamps c.requires.row.stamps c.requires.row.there c.args.slot.0 c.part-start.result.0 c.part-start.result.1 c.part-start.ensures.start c.part-start.ensures.stop c.args.at.0 c.partition-index.result found)
+    c.stamps-stamps.result.now _ c.stamps-stamps.ensures c.if-start-index.true
 
 pub returns-then-start-index-clause-calls : goal.returns-then-start-index-clause-calls
 returns-then-start-index-clause-calls g c =
-    let n : c.part-start.result.1 - c.part-start.result.0 ≡ stamped_in c.args.self.now c.args.slot.0 = omega (arith, c.part-start.ensures.start, c.part-start.ensures.stop, before_slot_step c.args.self.now.stamps.items c.args.slot.0) in
+    let n : c.part-start.result.1 - c.part-start.result.0 ≡ stamped_in c.args.self.now c.args.slot.0 = omega (arith, c.part-start.ensures.start, c.part-start.ensures.stop, before_slot_step c.args.self.now.cells.stamps c.args.slot.0) in
     subst (λ (k : ℕ). IsFewMore k (g.P.Compare.calls c.args.compare.now) (g.P.Compare.calls c.partition-index.new.compare)) n c.partition-index.ensures.calls
 
 pub returns-clause-content : goal.returns-clause-content
@@ -38,21 +38,21 @@ returns-clause-content g c =
     let list : List ℕ = g.P.Compare.list c.args.compare.now in
     elim c.if-start-stop.branch [
       | then-start-stop+else-start-index w ↦
-          let found : IsPartition list (places_of c.args.self.now.stamps.items) c.part-start.result.0 c.part-start.result.1 c.args.at.0 w.partition-index.result = subst (λ (xs : List Stamp). IsPartition list (places_of xs) c.part-start.result.0 c.part-start.result.1 c.args.at.0 w.partition-index.result) w.as_slice-stamps.ensures w.partition-index.ensures.found in
+          let found : IsPartition list (places_of c.args.self.now.cells.stamps) c.part-start.result.0 c.part-start.result.1 c.args.at.0 w.partition-index.result = subst (λ (xs : List Stamp). IsPartition list (places_of xs) c.part-start.result.0 c.part-start.result.1 c.args.at.0 w.partition-index.result) w.stamps-stamps.ensures w.partition-index.ensures.found in
           let same : w.partition-index.result ≡ c.part-start.result.0 = omega (arith, w.if-start-index.false, found.low) in
-          c.content-2.ensures ∙ ap (λ (s : Slot). s.content) c.index-as_slice-from.is ∙ read_base (rank list) (length list) c.args.self.now c.args.slot.0 (rank list c.args.at.0) c.part-start.result.0 w.partition-index.result c.part-start.result.1 c.requires.row
-          (part_located list (rank list c.args.self.now.lo.0) (rank list c.args.self.now.hi.0) (length c.args.self.now.slots.items) c.args.self.now.stamps.items c.requires.row.stamps c.requires.row.there c.args.slot.0 c.part-start.result.0 c.part-start.result.1 c.part-start.ensures.start c.part-start.ensures.stop c.args.at.0 w.partition-index.result found)
-          c.as_slice.result.now c.from.result _ c.as_slice.ensures c.from.ensures c.requires.slot same
+          c.base.ensures ∙ read_base (rank list) (length list) c.args.self.now c.args.slot.0 (rank list c.args.at.0) c.part-start.result.0 w.partition-index.result c.part-start.result.1 c.requires.row
+          (part_located list (rank list c.args.self.now.lo.0) (rank list c.args.self.now.hi.0) (length c.args.self.now.cells.slots) c.args.self.now.cells.stamps c.requires.row.stamps c.requires.row.there c.args.slot.0 c.part-start.result.0 c.part-start.result.1 c.part-start.ensures.start c.part-start.ensures.stop c.args.at.0 w.partition-index.result found)
+          c.args.self.now.cells.slots c.args.slot.0 no_slot refl refl c.requires.slot same
       | else-start-stop w ↦
-          let found : IsPartition list (places_of c.args.self.now.stamps.items) c.part-start.result.0 c.part-start.result.1 c.args.at.0 c.part-start.result.0 = empty_partition list (places_of c.args.self.now.stamps.items) c.part-start.result.0 c.part-start.result.1 c.args.at.0 (part_ordered list (rank list c.args.self.now.lo.0) (rank list c.args.self.now.hi.0) (length c.args.self.now.slots.items) c.args.self.now.stamps.items c.requires.row.stamps c.requires.row.there c.args.slot.0 c.part-start.result.0 c.part-start.result.1 c.part-start.ensures.start c.part-start.ensures.stop) w.if-start-stop.false in
-          c.content-2.ensures ∙ ap (λ (s : Slot). s.content) c.index-as_slice-from.is ∙ read_base (rank list) (length list) c.args.self.now c.args.slot.0 (rank list c.args.at.0) c.part-start.result.0 c.part-start.result.0 c.part-start.result.1 c.requires.row
-          (part_located list (rank list c.args.self.now.lo.0) (rank list c.args.self.now.hi.0) (length c.args.self.now.slots.items) c.args.self.now.stamps.items c.requires.row.stamps c.requires.row.there c.args.slot.0 c.part-start.result.0 c.part-start.result.1 c.part-start.ensures.start c.part-start.ensures.stop c.args.at.0 c.part-start.result.0 found)
-          c.as_slice.result.now c.from.result _ c.as_slice.ensures c.from.ensures c.requires.slot refl
+          let found : IsPartition list (places_of c.args.self.now.cells.stamps) c.part-start.result.0 c.part-start.result.1 c.args.at.0 c.part-start.result.0 = empty_partition list (places_of c.args.self.now.cells.stamps) c.part-start.result.0 c.part-start.result.1 c.args.at.0 (part_ordered list (rank list c.args.self.now.lo.0) (rank list c.args.self.now.hi.0) (length c.args.self.now.cells.slots) c.args.self.now.cells.stamps c.requires.row.stamps c.requires.row.there c.args.slot.0 c.part-start.result.0 c.part-start.result.1 c.part-start.ensures.start c.part-start.ensures.stop) w.if-start-stop.false in
+          c.base.ensures ∙ read_base (rank list) (length list) c.args.self.now c.args.slot.0 (rank list c.args.at.0) c.part-start.result.0 c.part-start.result.0 c.part-start.result.1 c.requires.row
+          (part_located list (rank list c.args.self.now.lo.0) (rank list c.args.self.now.hi.0) (length c.args.self.now.cells.slots) c.args.self.now.cells.stamps c.requires.row.stamps c.requires.row.there c.args.slot.0 c.part-start.result.0 c.part-start.result.1 c.part-start.ensures.start c.part-start.ensures.stop c.args.at.0 c.part-start.result.0 found)
+          c.args.self.now.cells.slots c.args.slot.0 no_slot refl refl c.requires.slot refl
     ]
 
 pub returns-clause-calls : goal.returns-clause-calls
 returns-clause-calls g c =
-    let n : c.part-start.result.1 - c.part-start.result.0 ≡ stamped_in c.args.self.now c.args.slot.0 = omega (arith, c.part-start.ensures.start, c.part-start.ensures.stop, before_slot_step c.args.self.now.stamps.items c.args.slot.0) in
+    let n : c.part-start.result.1 - c.part-start.result.0 ≡ stamped_in c.args.self.now c.args.slot.0 = omega (arith, c.part-start.ensures.start, c.part-start.ensures.stop, before_slot_step c.args.self.now.cells.stamps c.args.slot.0) in
     elim c.if-start-stop.branch [
       | then-start-stop+else-start-index w ↦
           rw w.compare-is (subst (λ (k : ℕ). IsFewMore k (g.P.Compare.calls c.args.compare.now) (g.P.Compare.calls w.partition-index.new.compare)) n w.partition-index.ensures.calls)

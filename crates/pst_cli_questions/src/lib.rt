@@ -1,0 +1,28 @@
+//! Answers to questions about the versions of a heap: what one holds, and which one changed what a path reads; and what a dump tells.
+//!
+//! Model: a history of a program, in which each version has a heap and a parent (`parent_in`). A path reads a value in the heap
+//! of each version, or none (`readings_in`). A text is accepted where it has tokens, they are those of a program within the limits of
+//! depth, and typing gives that program's typed form; the record types of that form are the root record's, called `root`, and then
+//! those that the text declares.
+//!
+//! Contract: [`tell`] gives the answer (`Tells`), for every history whose versions the heap holds: the dump of a version, or the
+//! first version on the way to version 0 that changed what a path reads; `refused path` exactly where the program has no such
+//! path, and else `refused version` exactly where no version has the number. Want of memory is the one free answer. By laws: what a
+//! text declares are names; the record types of a typed program are those that are declared, in order, under names that differ; so
+//! those of an accepted program have names of their own, in which no colon stands, and the dumps of two heaps of such a program are
+//! equal exactly where one heap is the other one with its records renamed.
+//!
+//!     let answer = tell(alloc, &store, &program, Question::Dump(VersionNo(3)), b"")?;
+//!
+//! For example `record N 1 { }` has the record types `root` and `N`. A text with `record root 1 { }` is not accepted, since
+//! `root` is a keyword; the grammar and the lexer say so, and not typing.
+#![tactic(auto)]
+
+mod answer;
+mod named;
+
+pub use answer::tell;
+pub use named::{
+    accepted_types_are_named_apart, declared_are_names, dumps_of_accepted_tell_heaps,
+    names_by_hand, types_are_declared,
+};

@@ -1,0 +1,27 @@
+use Rattle.std.proofs.Common.{◌≤◌, ◌-◌, List, ℕ}
+use Rattle.std.specs.Io.KnownBytes.{Appends}
+use Rattle.pst_io.specs.declared.room.TheConstants.{MOST_INPUT}
+use Rattle.pst_io.specs.Input.{Gives}
+use Rattle.pst_io.specs.Lines.{IsOpen}
+use Rattle.pst_history.specs.Meaning.{Meaning}
+use Rattle.pst_history.specs.History.{History}
+use Rattle.pst_cli_scripts.specs.Pieces.{IsAll, pieces_from, state_after}
+use Rattle.pst_cli_scripts.specs.Script.{script_of}
+use Rattle.pst_cli_scripts.specs.Reading.{IsNear}
+use Rattle.pst_cli_scripts.proofs.script.answer_script.Given as goal
+
+-- on each history that they stood for, these lines were handed out and answered, and they stand for the one after the lines
+abbrev pub invariant-answering : goal.invariant-answering
+invariant-answering g l = record {
+  given : (m : Meaning) (h : History) → g.X.Session.stands l.fn.session l.fn.held m h
+      → (given : List (List ℕ)) × (out : List ℕ) × Gives l.fn.lines.input (g.S.Source.left l.fn.source) l.lines.input (g.S.Source.left l.source) given
+      × Appends (g.K.Sink.taken l.fn.sink) (g.K.Sink.taken l.sink) out × IsAll (pieces_from (script_of g.X.Session.rules m) h given) out
+      × g.X.Session.stands l.session l.held m (state_after (script_of g.X.Session.rules m) h given);
+  near : IsNear l.lines.input;
+  opened : IsOpen l.lines (g.S.Source.left l.source);
+  later : g.S.Source.faults l.fn.source ≤ g.S.Source.faults l.source;
+  sink_later : g.K.Sink.faults l.fn.sink ≤ g.K.Sink.faults l.sink;
+}
+
+abbrev pub decreases-answering : goal.decreases-answering
+decreases-answering g l = MOST_INPUT - l.lines.input.handed

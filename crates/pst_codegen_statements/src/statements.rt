@@ -1,0 +1,165 @@
+//! The code of statements that hold no others.
+
+ghost use Rattle.std.specs.Prelude.{◌≡◌, ◌++◌, map, IfOk, OnOk};
+ghost use Rattle.std.specs.Option.{option_map};
+ghost use Rattle.pst_program.specs.View.{expr_of};
+ghost use Rattle.pst_translation.specs.Code.{arguments_code, registers, set_code, set_root_code, store_code, store_element_code, call_code, print_code, return_code};
+ghost use Rattle.pst_codegen_statements.specs.Made.{temps_of};
+ghost use Rattle.pst_codegen_registers.specs.Ready.{HasNoted, IsOperand, AreArguments, IsResult};
+
+use pst_base::{NoMemory, ProcNo, SlotNo};
+use pst_code::{Instr, Reg, Regs};
+use pst_codegen_expressions::{Layout, emit_expr, put};
+use pst_program::{Typed, TypedList};
+use std::alloc::Global;
+
+/// Adds the code of an assignment to a local.
+pub fn emit_set(
+    code: &mut Vec<Instr>,
+    layout: &Layout<'_>,
+    local: u16,
+    e: &Typed,
+    line: u32,
+) -> Result<(), NoMemory>
+    requires { IsOperand layout.now.shape.now (HasNoted layout.now.table) (expr_of e.now) 0 }
+    ensures { OnOk result (code.new.items ≡ code.old.items ++ set_code layout.now.shape.now (temps_of layout.now) local (expr_of e.now) line) }
+{
+    put(code, Instr::Charge(line))?;
+    let value = emit_expr(code, layout, e, 0)?;
+    put(code, Instr::Copy(Reg(local), value))
+}
+
+/// Adds the code of an assignment to a root.
+pub fn emit_set_root(
+    code: &mut Vec<Instr>,
+    layout: &Layout<'_>,
+    slot: SlotNo,
+    e: &Typed,
+    line: u32,
+) -> Result<(), NoMemory>
+    requires { IsOperand layout.now.shape.now (HasNoted layout.now.table) (expr_of e.now) 0 }
+    ensures { OnOk result (code.new.items ≡ code.old.items ++ set_root_code layout.now.shape.now (temps_of layout.now) slot.0 (expr_of e.now) line) }
+{
+    put(code, Instr::Charge(line))?;
+    let value = emit_expr(code, layout, e, 0)?;
+    put(code, Instr::Setroot(slot, value))
+}
+
+/// Adds the code of an assignment to a field. Null traps before the value is evaluated.
+pub fn emit_store(
+    code: &mut Vec<Instr>,
+    layout: &Layout<'_>,
+    object: &Typed,
+    slot: SlotNo,
+    e: &Typed,
+    line: u32,
+) -> Result<(), NoMemory>
+    requires object { IsOperand layout.now.shape.now (HasNoted layout.now.table) (expr_of object.now) 0 }
+    requires value { IsOperand layout.now.shape.now (HasNoted layout.now.table) (expr_of e.now) 1 }
+    ensures { OnOk result (code.new.items ≡ code.old.items ++ store_code layout.now.shape.now (temps_of layout.now) (expr_of object.now) slot.0 (expr_of e.now) line) }
+{
+    put(code, Instr::Charge(line))?;
+    let object = emit_expr(code, layout, object, 0)?;
+    put(code, Instr::Check(object))?;
+    let value = emit_expr(code, layout, e, 1)?;
+    put(code, Instr::Store(object, slot, value))
+}
+
+/// Adds the code of an assignment to an element of an array: the slot of the first one, and how many there are. Null traps
+/// before the index is evaluated, and a number that is no index before the value is.
+pub fn emit_store_element(
+    code: &mut Vec<Instr>,
+    layout: &Layout<'_>,
+    object: &Typed,
+    slot: SlotNo,
+    elements: u8,
+    index: &Typed,
+    e: &Typed,
+    line: u32,
+) -> Result<(), NoMemory>
+    requires object { IsOperand layout.now.shape.now (HasNoted layout.now.table) (expr_of object.now) 0 }
+    requires index { IsOperand layout.now.shape.now (HasNoted layout.now.table) (expr_of index.now) 1 }
+    requires value { IsOperand layout.now.shape.now (HasNoted layout.now.table) (expr_of e.now) 2 }
+    ensures { OnOk result (code.new.items ≡ code.old.items ++ store_element_code layout.now.shape.now (temps_of layout.now) (expr_of object.now) slot.0 elements (expr_of index.now) (expr_of e.now) line) }
+{
+    put(code, Instr::Charge(line))?;
+    let object = emit_expr(code, layout, object, 0)?;
+    put(code, Instr::Check(object))?;
+    let index = emit_expr(code, layout, index, 1)?;
+    put(code, Instr::Bound(index, elements))?;
+    let value = emit_expr(code, layout, e, 2)?;
+    put(code, Instr::Storex(object, slot, elements, index, value))
+}
+
+/// Adds the code of `print`.
+pub fn emit_print(
+    code: &mut Vec<Instr>,
+    layout: &Layout<'_>,
+    e: &Typed,
+    line: u32,
+) -> Result<(), NoMemory>
+    requires { IsOperand layout.now.shape.now (HasNoted layout.now.table) (expr_of e.now) 0 }
+    ensures { OnOk result (code.new.items ≡ code.old.items ++ print_code layout.now.shape.now (temps_of layout.now) (expr_of e.now) line) }
+{
+    put(code, Instr::Charge(line))?;
+    let value = emit_expr(code, layout, e, 0)?;
+    put(code, Instr::Print(value))
+}
+
+/// Adds the code of `return`.
+pub fn emit_return(
+    code: &mut Vec<Instr>,
+    layout: &Layout<'_>,
+    value: &Option<Typed>,
+    line: u32,
+) -> Result<(), NoMemory>
+    requires { IsResult layout.now.shape.now (HasNoted layout.now.table) (option_map expr_of value.now) }
+    ensures { OnOk result (code.new.items ≡ code.old.items ++ return_code layout.now.shape.now (temps_of layout.now) (option_map expr_of value.now) line) }
+{
+    put(code, Instr::Charge(line))?;
+    match value {
+        None => put(code, Instr::Return(None)),
+        Some(e) => {
+            let value = emit_expr(code, layout, e, 0)?;
+            put(code, Instr::Return(Some(value)))
+        }
+    }
+}
+
+/// Adds the code of arguments. The answer is the registers that hold their values.
+fn emit_arguments(
+    alloc: Global,
+    code: &mut Vec<Instr>,
+    layout: &Layout<'_>,
+    list: &[Typed],
+) -> Result<Regs, NoMemory>
+    requires { AreArguments layout.now.shape.now (HasNoted layout.now.table) (map expr_of list.now) 0 }
+    ensures code { OnOk result (code.new.items ≡ code.old.items ++ arguments_code layout.now.shape.now (temps_of layout.now) (map expr_of list.now) 0) }
+    ensures registers { IfOk result (λ rs. rs ≡ registers layout.now.shape.now (temps_of layout.now) (map expr_of list.now) 0) }
+{
+    let mut values = Vec::with_capacity(alloc, list.len())?;
+    let mut level = 0;
+    for e in list {
+        values.push(emit_expr(code, layout, e, level)?)?;
+        level += 1;
+    }
+    Ok(Regs::from_vec(values))
+}
+
+/// Adds the code of a call.
+pub fn emit_call(
+    alloc: Global,
+    code: &mut Vec<Instr>,
+    layout: &Layout<'_>,
+    local: Option<u16>,
+    procedure: ProcNo,
+    arguments: &TypedList,
+    line: u32,
+) -> Result<(), NoMemory>
+    requires { AreArguments layout.now.shape.now (HasNoted layout.now.table) (map expr_of arguments.now) 0 }
+    ensures { OnOk result (code.new.items ≡ code.old.items ++ call_code layout.now.shape.now (temps_of layout.now) local procedure.0 (map expr_of arguments.now) line) }
+{
+    put(code, Instr::Charge(line))?;
+    let values = emit_arguments(alloc, code, layout, arguments.as_slice())?;
+    put(code, Instr::Call(procedure, local.map(Reg), values))
+}

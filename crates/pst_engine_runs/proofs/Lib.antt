@@ -1,0 +1,15 @@
+pub mod Coding
+pub mod Stops
+pub mod Calling
+pub mod Ordering
+pub mod Meaning
+pub mod OneMeaning
+pub mod Ends
+pub mod Fits
+pub mod Standing
+pub mod Parts
+pub mod Moving
+pub mod Slicing
+pub mod NewRuns
+pub mod Queries
+pub mod Entries

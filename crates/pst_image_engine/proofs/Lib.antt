@@ -1,0 +1,4 @@
+pub mod Versions
+pub mod Counted
+pub mod Left
+pub mod Opens

@@ -1,5 +1,0 @@
-pub mod Behind
-pub mod Names
-pub mod Types
-pub mod Apart
-pub mod Worked

@@ -1,0 +1,10 @@
+-- What a contract sees of a stamped value.
+use Rattle.pst_base.specs.declared.names.SlotNo.{SlotNo}
+use Rattle.pst_order.specs.declared.order.Pos.{Pos}
+use Rattle.pst_rows.specs.declared.content.Content.{Content}
+
+-- whose content it is, from where on it is held, and what is held
+pub record StampValue : Type 0 where
+  pub slot : SlotNo
+  pub place : Pos
+  pub content : Content

@@ -1,0 +1,295 @@
+//! The slots and the stamped values of a row: some slots beside the life, and one list of the rest.
+
+ghost use Rattle.std.specs.Prelude.{◌≡◌, ◌+◌, ◌-◌, ◌^◌, ◌<◌, ◌≤◌, [], ◌∷◌, ◌++◌, IfOk, OnOk, OnErr, length, get_or, set};
+ghost use Rattle.std.specs.List.{insert as inserted};
+ghost use Rattle.smallvec.specs.SmallVec.{HasRoomFor};
+ghost use Rattle.pst_rows.specs.Cells.{slot_kept};
+ghost use Rattle.pst_rows.specs.Values.{no_slot};
+ghost use Rattle.pst_rows.specs.Parts.{bare_slot, HasStart};
+ghost use Rattle.pst_rows.specs.Steps.{with_content, with_base};
+
+use crate::content::{Content, Stamp};
+use pst_base::{NoMemory, SlotNo};
+use pst_order::Pos;
+use smallvec::SmallVec;
+use std::alloc::{AllocError, Global};
+use std::marker::Model;
+
+/// For so many slots and stamps behind the head a row has room at most, so that 32 bits count them. (They would take 64 GiB.)
+const MOST_CELLS: usize = 0xFFFF_FF00;
+
+/// How many slots stand in the head.
+const HEAD: usize = 4;
+
+// The slots behind the head and the stamps, of which up to two stand in the row itself.
+type List = SmallVec<Stamp, 2>;
+
+/// The slots of a row and its stamped values, in the order of slot and then place. The first four slots stand in the row, so that
+/// a read of them touches the node alone; a list has the other slots and behind them the stamped values, 16 bytes each. A slot is
+/// kept as a stamped value: in the place of its place stands how many stamped values there are of earlier slots, and there its
+/// own begin.
+#[derive(Drop)]
+pub struct Cells {
+    width: u32,
+    head: [Stamp; 4],
+    list: List,
+}
+
+impl Model for Cells {
+    ghost use Rattle.pst_rows.specs.Cells.{CellsValue, shown_cells, AreSound};
+
+    ghost Value = { CellsValue };
+
+    ghost view = { λ c. shown_cells c.width c.head c.list.items c.list.capacity };
+
+    ghost invariant = { λ c. AreSound c.width c.head c.list.items c.list.capacity };
+}
+
+impl Cells {
+    /// No slots and no stamps, with room for so many. `NoMemory` where there is no memory for it.
+    pub fn with_capacity(alloc: Global, count: usize) -> Result<Cells, NoMemory>
+        ensures slots { IfOk result (λ cells. cells.slots ≡ []) }
+        ensures stamps { IfOk result (λ cells. cells.stamps ≡ []) }
+    {
+        let mut cells = Cells {
+            width: 0,
+            head: [slot_stamp(Content::Null, 0); 4],
+            list: SmallVec::new(alloc),
+        };
+        cells.reserve(count.saturating_sub(HEAD))?;
+        Ok(cells)
+    }
+
+    /// How many slots there are.
+    #[inline(always)]
+    pub fn width(&self) -> usize
+        ensures { result ≡ length self.now.slots }
+    {
+        self.width as usize
+    }
+
+    /// How many stamps there are.
+    #[inline(always)]
+    pub fn len(&self) -> usize
+        ensures value { result ≡ length self.now.stamps }
+        ensures fits { result ≤ self.now.capacity }
+        ensures most { result < 2 ^ 32 }
+    {
+        self.list.len() - behind(self.width)
+    }
+
+    /// How many stamps need no memory.
+    #[inline(always)]
+    pub fn capacity(&self) -> usize
+        ensures value { result ≡ self.now.capacity }
+        ensures most { result < 2 ^ 32 }
+    {
+        let _known_to_fit = self.list.len();
+        self.list.capacity() - behind(self.width)
+    }
+
+    /// The allocator.
+    #[inline(always)]
+    pub fn allocator(&self) -> Global {
+        *self.list.allocator()
+    }
+
+    /// What a slot holds from the begin of the life on.
+    #[inline(always)]
+    pub fn base(&self, slot: SlotNo) -> Content
+        requires { slot.0 < length self.now.slots }
+        ensures { result ≡ (get_or self.now.slots slot.0 no_slot).content }
+    {
+        self.slot(usize::from(slot.0)).content()
+    }
+
+    /// Where the stamps of a slot begin.
+    #[inline(always)]
+    pub fn start(&self, slot: usize) -> u32
+        requires { slot < length self.now.slots }
+        ensures { result ≡ (get_or self.now.slots slot no_slot).start }
+    {
+        self.slot(slot).place().0
+    }
+
+    /// The stamps.
+    #[inline(always)]
+    pub fn stamps(&self) -> &[Stamp]
+        ensures { result.now ≡ self.now.stamps }
+    {
+        &self.list.as_slice()[behind(self.width)..]
+    }
+
+    // A slot as it is kept.
+    #[inline(always)]
+    fn slot(&self, slot: usize) -> &Stamp
+        requires { slot < length self.now.slots }
+        ensures { slot_kept result.now ≡ get_or self.now.slots slot no_slot }
+    {
+        if slot < HEAD {
+            &self.head[slot]
+        } else {
+            &self.list.as_slice()[slot - HEAD]
+        }
+    }
+
+    /// Makes room for so many stamps more. `NoMemory` where there is none: then nothing changes.
+    pub fn reserve(&mut self, count: usize) -> Result<(), NoMemory>
+        ensures slots { self.new.slots ≡ self.old.slots }
+        ensures stamps { self.new.stamps ≡ self.old.stamps }
+        ensures ok { OnOk result (length self.new.stamps + count ≤ self.new.capacity) }
+        ensures capacity { self.old.capacity ≤ self.new.capacity }
+        ensures err { OnErr result (self.new ≡ self.old) }
+    {
+        let _known_to_fit = self.list.len();
+        reserve(&mut self.list, count)
+    }
+
+    /// Puts a slot behind the others, as long as there are no stamps. `NoMemory` where there is no memory for it.
+    pub fn push_slot(&mut self, content: Content) -> Result<(), NoMemory>
+        requires { self.old.stamps ≡ [] }
+        ensures slots { OnOk result (self.new.slots ≡ self.old.slots ++ bare_slot content ∷ []) }
+        ensures stamps { self.new.stamps ≡ [] }
+    {
+        let slot = self.width as usize;
+        if slot < HEAD {
+            self.head[slot] = slot_stamp(content, 0);
+            self.width += 1;
+            return Ok(());
+        }
+        reserve(&mut self.list, 1)?;
+        self.list.push_reserved(slot_stamp(content, 0));
+        self.width += 1;
+        Ok(())
+    }
+
+    /// Puts a stamp behind the others. `NoMemory` where there is no memory for it.
+    pub fn push(&mut self, stamp: Stamp) -> Result<(), NoMemory>
+        ensures slots { self.new.slots ≡ self.old.slots }
+        ensures stamps { OnOk result (self.new.stamps ≡ self.old.stamps ++ stamp ∷ []) }
+    {
+        reserve(&mut self.list, 1)?;
+        self.list.push_reserved(stamp);
+        Ok(())
+    }
+
+    /// Puts a stamp at an index.
+    pub fn insert(&mut self, index: usize, stamp: Stamp)
+        requires index { index ≤ length self.old.stamps }
+        requires room { length self.old.stamps < self.old.capacity }
+        ensures slots { self.new.slots ≡ self.old.slots }
+        ensures stamps { self.new.stamps ≡ inserted self.old.stamps index stamp }
+        ensures capacity { self.new.capacity ≡ self.old.capacity }
+        ensures most { self.new.capacity < 2 ^ 32 }
+    {
+        let _known_to_fit = self.list.len();
+        let at = behind(self.width) + index;
+        insert(&mut self.list, at, stamp);
+    }
+
+    /// Gives a stamp another content.
+    pub fn write_content(&mut self, index: usize, content: Content)
+        requires { index < length self.old.stamps }
+        ensures slots { self.new.slots ≡ self.old.slots }
+        ensures stamps { self.new.stamps ≡ with_content self.old.stamps index content }
+        ensures capacity { self.new.capacity ≡ self.old.capacity }
+    {
+        let written = self.stamps()[index];
+        let stamp = Stamp::new(written.slot(), written.place(), content);
+        let at = behind(self.width) + index;
+        write(&mut self.list, at, stamp);
+    }
+
+    /// Gives a slot another content at the begin of the life.
+    pub fn write_base(&mut self, slot: SlotNo, content: Content)
+        requires { slot.0 < length self.old.slots }
+        ensures slots { self.new.slots ≡ with_base self.old.slots slot.0 content }
+        ensures stamps { self.new.stamps ≡ self.old.stamps }
+        ensures capacity { self.new.capacity ≡ self.old.capacity }
+    {
+        let slot = usize::from(slot.0);
+        let start = self.start(slot);
+        self.write_slot(slot, content, start);
+    }
+
+    /// Gives a slot another start.
+    pub fn set_start(&mut self, slot: usize, start: u32)
+        requires { slot < length self.old.slots }
+        ensures slots { HasStart self.old.slots self.new.slots slot start }
+        ensures stamps { self.new.stamps ≡ self.old.stamps }
+        ensures capacity { self.new.capacity ≡ self.old.capacity }
+    {
+        let content = self.slot(slot).content();
+        self.write_slot(slot, content, start);
+    }
+
+    // Writes a slot anew.
+    fn write_slot(&mut self, slot: usize, content: Content, start: u32)
+        requires { slot < length self.old.slots }
+        ensures slots { self.new.slots ≡ set self.old.slots slot (record { content = content; start = start }) }
+        ensures stamps { self.new.stamps ≡ self.old.stamps }
+        ensures capacity { self.new.capacity ≡ self.old.capacity }
+    {
+        let stamp = slot_stamp(content, start);
+        if slot < HEAD {
+            self.head[slot] = stamp;
+        } else {
+            write(&mut self.list, slot - HEAD, stamp);
+        }
+    }
+}
+
+// Makes room in a list for so many more. `NoMemory` where there is none: then nothing changes.
+fn reserve(list: &mut List, count: usize) -> Result<(), NoMemory>
+    requires { list.old.capacity ≤ 2 ^ 32 - 256 }
+    ensures items { list.new.items ≡ list.old.items }
+    ensures ok { OnOk result (HasRoomFor list.new count) }
+    ensures capacity { list.old.capacity ≤ list.new.capacity }
+    ensures most { list.new.capacity ≤ 2 ^ 32 - 256 }
+    ensures err { OnErr result (list.new ≡ list.old) }
+{
+    let len = list.len();
+    let capacity = list.capacity();
+    if count <= capacity - len {
+        return Ok(());
+    }
+    if count > MOST_CELLS - len {
+        return Err(AllocError);
+    }
+    let wanted = (len + count).max(capacity + capacity / 2);
+    list.grow(wanted.min(MOST_CELLS))
+}
+
+// Puts one into a list that has room.
+fn insert(list: &mut List, index: usize, stamp: Stamp)
+    requires index { index ≤ length list.old.items }
+    requires room { HasRoomFor list.old 1 }
+    ensures items { list.new.items ≡ inserted list.old.items index stamp }
+    ensures capacity { list.new.capacity ≡ list.old.capacity }
+{
+    let _there_is_room = list.insert(index, stamp);
+}
+
+// How many slots stand behind the head.
+#[inline(always)]
+fn behind(width: u32) -> usize
+    ensures { result ≡ width - 4 }
+{
+    (width as usize).saturating_sub(HEAD)
+}
+
+// A slot as it is kept.
+fn slot_stamp(content: Content, start: u32) -> Stamp
+    ensures { slot_kept result ≡ record { content = content; start = start } }
+{
+    Stamp::new(SlotNo(0), Pos(start), content)
+}
+
+// Writes one of a list anew.
+fn write(list: &mut List, index: usize, stamp: Stamp)
+    requires { index < length list.old.items }
+    ensures items { list.new.items ≡ set list.old.items index stamp }
+    ensures capacity { list.new.capacity ≡ list.old.capacity }
+{
+    list.as_mut_slice()[index] = stamp;
+}

@@ -1,0 +1,213 @@
+//! What a procedure says.
+
+ghost use Rattle.std.specs.Prelude.{◌≡◌, ◌≤◌, Ok, Bool, OnOk, [], ◌∷◌, ◌++◌, map};
+ghost use Rattle.std.specs.Option.{option_map};
+ghost use Rattle.pst_tree.specs.Syntax.{Phrases};
+ghost use Rattle.pst_tree.specs.View as tree_view;
+ghost use Rattle.pst_program.specs.View as typed_view;
+ghost use Rattle.pst_typing.specs.Answers.{through};
+ghost use Rattle.pst_typing.specs.Declarations.{variable, is_new, is_result_known, procedure};
+ghost use Rattle.pst_typing.specs.Names.{kind_of, is_named};
+ghost use Rattle.pst_typing.specs.View.{Answers};
+ghost use Rattle.pst_types_scope.specs.View.{kind_word, entries_of, local_of, scope_of, setting_of};
+ghost use Rattle.pst_types_procedures.specs.View.{procedure_text_of};
+ghost use Rattle.pst_types_procedures.specs.Parts.{counted, variables_in, procedure_in, by_parts};
+
+use indexmap::IndexMap;
+use pst_base::{Kind, Kinds, Text};
+use pst_program::TypedProc;
+use pst_tree::{Block, Local, TypeName};
+use pst_types_scope::{Scope, Setting, Variable, Word};
+use pst_types_statements::judge_block;
+use pst_typing::TypeFault;
+use std::alloc::{AllocError, Global};
+
+/// A procedure as it was written, without its body: its line, from 1 on, whether it is a query, its name, its parameters, the
+/// type of what it gives, and its locals.
+#[derive(Clone, Copy)]
+pub struct ProcedureHead<'t> {
+    pub line: u32,
+    pub query: bool,
+    pub name: &'t Text,
+    pub parameters: &'t [Local],
+    pub result: &'t Option<TypeName>,
+    pub locals: &'t [Local],
+}
+
+/// Whether neither a parameter or local before nor a root has the name.
+#[tactic(auto, using(pst_types_scope::proofs::Lookups::look_ups))]
+fn is_new<'t>(scope: &Scope<'t>, variables: &IndexMap<&'t [u8], Variable<'t>>, name: &[u8]) -> bool
+    ensures { result ≡ is_new (scope_of scope.now) (entries_of local_of variables.now.entries) name.now }
+{
+    !variables.contains_key(name) && !scope.roots.has(name)
+}
+
+/// Adds a parameter or a local whose name is new.
+#[tactic(auto, using(pst_types_scope::proofs::Lookups::look_ups))]
+fn insert<'t>(
+    variables: &mut IndexMap<&'t [u8], Variable<'t>>,
+    name: &'t [u8],
+    variable: Variable<'t>,
+) -> Result<(), AllocError>
+    requires { is_named name.now (entries_of local_of variables.old.entries) ≡ Bool.false }
+    ensures { OnOk result (entries_of local_of variables.new.entries ≡ entries_of local_of variables.old.entries ++ (name.now, local_of variable.entry) ∷ []) }
+{
+    variables.insert(name, variable)?;
+    Ok(())
+}
+
+/// Judges a parameter or a local after those before it, of which there may be so many, and adds it.
+#[tactic(auto, using(pst_types_scope::proofs::Lookups::look_ups))]
+fn add_variable<'t>(
+    scope: &Scope<'t>,
+    most: usize,
+    variables: &mut IndexMap<&'t [u8], Variable<'t>>,
+    local: &'t Local,
+) -> Result<(), TypeFault>
+    requires { most ≤ 72 }
+    ensures { Answers (λ _. entries_of local_of variables.new.entries) result (variable (scope_of scope.now) most (entries_of local_of variables.old.entries) (tree_view.local_of local.now)) }
+{
+    let line = local.line;
+    let count = variables.len();
+    if count >= most {
+        return Err(TypeFault::TooMany { line });
+    }
+    let name = local.name.as_slice();
+    if !is_new(scope, variables, name) {
+        return Err(TypeFault::Duplicate { line });
+    }
+    let kind = Word::of_type(&local.kind);
+    if !scope.is_known(kind) {
+        return Err(TypeFault::Unknown { line });
+    }
+    let number = count as u16;
+    insert(variables, name, Variable { number, kind })?;
+    Ok(())
+}
+
+/// Judges parameters or locals after others, so many in all at most.
+fn add_variables<'t>(
+    scope: &Scope<'t>,
+    most: usize,
+    variables: &mut IndexMap<&'t [u8], Variable<'t>>,
+    locals: &'t [Local],
+) -> Result<(), TypeFault>
+    requires { most ≤ 72 }
+    ensures { let es = entries_of local_of in Answers (λ _. es variables.new.entries) result (through (variable (scope_of scope.now) most) (es variables.old.entries) (map tree_view.local_of locals.now)) }
+{
+    for local in locals {
+        add_variable(scope, most, variables, local)?;
+    }
+    Ok(())
+}
+
+/// What the parameters and locals hold.
+fn kinds_of<'t>(
+    alloc: Global,
+    scope: &Scope<'t>,
+    variables: &IndexMap<&'t [u8], Variable<'t>>,
+) -> Result<Kinds, TypeFault>
+    ensures { Answers (λ kinds. kinds) result (Ok (map (λ v. kind_of (scope_of scope.now) v.1.kind) (entries_of local_of variables.now.entries))) }
+{
+    let mut items = Vec::new(alloc);
+    for variable in variables.values().as_slice() {
+        items.push(scope.kind_of(variable.kind))?;
+    }
+    Ok(Kinds::from_vec(items))
+}
+
+/// What a procedure gives.
+fn result_kind(scope: &Scope, kind: Option<Word>) -> Option<Kind>
+    ensures { result ≡ option_map (kind_of (scope_of scope.now)) (option_map kind_word kind.entry) }
+{
+    match kind {
+        None => None,
+        Some(kind) => Some(scope.kind_of(kind)),
+    }
+}
+
+/// Whether a procedure gives nothing, or something of a type that is declared.
+fn is_result_known(scope: &Scope, kind: Option<Word>) -> bool
+    ensures { result ≡ is_result_known (scope_of scope.now) (option_map kind_word kind.entry) }
+{
+    match kind {
+        None => true,
+        Some(kind) => scope.is_known(kind),
+    }
+}
+
+/// Judges the parameters of a procedure, what it gives, and its locals, whatever its body is; gives how many are parameters.
+fn declare<'t>(
+    scope: &Scope<'t>,
+    variables: &mut IndexMap<&'t [u8], Variable<'t>>,
+    head: &ProcedureHead<'t>,
+) -> Result<u8, TypeFault>
+    requires { variables.old.entries ≡ [] }
+    ensures { (body : Phrases) → Answers (counted (entries_of local_of variables.new.entries)) result (variables_in (scope_of scope.now) (procedure_text_of head.now body)) }
+{
+    add_variables(scope, 8, variables, head.parameters)?;
+    let parameters = variables.len();
+    if !is_result_known(scope, Word::of_result(head.result)) {
+        return Err(TypeFault::Unknown { line: head.line });
+    }
+    add_variables(scope, parameters + 64, variables, head.locals)?;
+    Ok(parameters as u8)
+}
+
+/// Judges the statements of a procedure with so many parameters, in the setting of its names.
+fn judge_in(
+    alloc: Global,
+    setting: &Setting,
+    arguments: u8,
+    head: &ProcedureHead,
+    body: &Block,
+) -> Result<TypedProc, TypeFault>
+    ensures { Answers typed_view.procedure_of result (procedure_in (setting_of setting.now) arguments (procedure_text_of head.now (tree_view.phrases_of body.now))) }
+{
+    let body = judge_block(alloc, setting, body)?;
+    Ok(TypedProc {
+        name: head.name.copy()?,
+        query: head.query,
+        arguments,
+        result: result_kind(setting.scope, setting.result),
+        kinds: kinds_of(alloc, setting.scope, &setting.locals)?,
+        body,
+    })
+}
+
+/// Judges a procedure by its parts: its names, and then its statements.
+fn judge_parts<'t>(
+    alloc: Global,
+    scope: &Scope<'t>,
+    head: &ProcedureHead<'t>,
+    body: &Block,
+) -> Result<TypedProc, TypeFault>
+    ensures { Answers typed_view.procedure_of result (by_parts (scope_of scope.now) (procedure_text_of head.now (tree_view.phrases_of body.now))) }
+{
+    let mut locals = IndexMap::new(alloc);
+    let arguments = declare(scope, &mut locals, head)?;
+    let setting = Setting {
+        scope,
+        query: head.query,
+        result: Word::of_result(head.result),
+        locals,
+    };
+    judge_in(alloc, &setting, arguments, head, body)
+}
+
+/// Judges a procedure with this body in the scope of the declared names: its parameters, what it gives, its locals, and then
+/// its statements. Gives the typed procedure. Its body is let go, which is nearly all of its text.
+///
+/// # Errors
+///
+/// The first fault with its line, or `Memory` where memory runs out before it is found. The body is let go then too.
+pub fn judge_procedure<'t>(
+    alloc: Global,
+    scope: &Scope<'t>,
+    head: &ProcedureHead<'t>,
+    body: Block,
+) -> Result<TypedProc, TypeFault>
+    ensures { Answers typed_view.procedure_of result (procedure (scope_of scope.now) (procedure_text_of head.now (tree_view.phrases_of body))) }
+{
+    judge_parts(alloc, scope, head, &body)
+}

@@ -1,8 +1,0 @@
-//! The law. It is the contract of a function that does nothing.
-
-ghost use Rattle.pst_unpacked.specs.Laws.{NeverBothLaw};
-
-/// Of bytes all rules hold, or one rule fails first, and not both: what is accepted is not refused.
-pub fn accepted_or_refused()
-    ensures { NeverBothLaw }
-{}
