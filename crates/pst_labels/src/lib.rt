@@ -12,7 +12,7 @@ ghost use Rattle.std.specs.Prelude.{◌≡◌, ℕ, suc, ◌+◌, ◌-◌, ◌/�
 ghost use Rattle.std.specs.Option.{option_map};
 ghost use Rattle.pst_order.specs.declared.order.Pos.{Pos};
 ghost use Rattle.pst_order.specs.Places.{rank, IsIn, AreBelow, AreDistinct, IsInsertedAfter};
-ghost use Rattle.pst_labels.specs.Labels.{circle, ahead as way, label_of, offset as offset_of, around, reach, width, spread as spread_labels, with_room, gap, labels_after, walk, LeastLaw, AheadLaw};
+ghost use Rattle.pst_labels.specs.Labels.{circle, ahead as way, label_of, offset as offset_of, around, reach, width, spread as spaced, with_room, gap, labels_after, walk, LeastLaw, AheadLaw};
 
 use pst_base::NoMemory;
 use pst_order::{Order, Pos, Walked};
@@ -232,7 +232,7 @@ fn spread(next: &[u32], labels: &mut [u64], first: u32, start: u64, room: &Reach
     requires start { start < circle }
     requires width { room.now.width ≤ circle }
     requires steps { room.now.steps ≤ length next.now }
-    ensures spread { labels.new ≡ spread_labels labels.old (take (room.now.steps - 1) (walk next.now (length next.now) first)) start room.now.width room.now.steps 1 }
+    ensures spread { let r = room.now in labels.new ≡ spaced labels.old (take (r.steps - 1) (walk next.now (length next.now) first)) start r.width r.steps 1 }
     ensures low { AreBelow circle labels.new }
 {
     let mut at = first;

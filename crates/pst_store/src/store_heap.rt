@@ -107,8 +107,8 @@ impl<O: Order + Drop, N: FatNodes> HeapAt for StoreOf<O, N> {
         requires live { (state_in self.old).live at r }
         requires field { kind_in (state_in self.old).shape ((state_in self.old).heap at) ((state_in self.old).name r) field.0 ≡ Some Int }
         requires room { HasRoom (state_in self.old) }
-        ensures ok { OnOk result (ValueStored (state_in self.old) at ((state_in self.old).name r) field.0 n (state_in self.new) × WritesStay (state_in self.old) (state_in self.new)) }
-        ensures err { OnErr result (Unchanged (state_in self.old) (state_in self.new) ⊎ ValueStored (state_in self.old) at ((state_in self.old).name r) field.0 n (state_in self.new)) }
+        ensures ok { let s = state_in self.old in let t = state_in self.new in OnOk result (ValueStored s at (s.name r) field.0 n t × WritesStay s t) }
+        ensures err { let s = state_in self.old in let t = state_in self.new in OnErr result (Unchanged s t ⊎ ValueStored s at (s.name r) field.0 n t) }
         ensures rested { OnOk result (queue_in self.new ≡ []) }
         ensures held { OnOk result (IfSome self.new HoldsRoots) }
         ensures stamps { Stamps 2 self.old self.new }
