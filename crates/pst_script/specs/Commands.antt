@@ -7,6 +7,7 @@ use Rattle.pst_script.specs.Words.{words}
 use Rattle.pst_script.specs.Numerals.{is_numeral, number_of, argument_of, fits_32_bits, fits_64_bits, fits_charges}
 use Rattle.pst_base.specs.Words.{is_name}
 use Rattle.pst_script.specs.declared.call.Called.{Called}
+use Rattle.pst_script.specs.declared.call.CallWords.{CallWords}
 use Rattle.pst_script.specs.declared.command.Call.{Call}
 use Rattle.pst_script.specs.declared.command.Command.{Command}
 use Rattle.pst_script.specs.declared.command.Command.TheVariants.{Run, Query, OpenRun, OpenEmpty, CallRun, StepRun, CloseRun, DropRun, Budget, Versions, Stats}
@@ -164,11 +165,11 @@ IsReadAs taken what (Err Memory) = IsOkAnd what taken
 
 -- ---- the parts of a call
 
--- the words are these, and what they have to be by their form
-pub record IsCallOf (number procedure : List ℕ) (arguments words : List (List ℕ)) : Type 0 where
-  pub numeral : is_numeral number ≡ true
-  pub written : is_some (arguments_of arguments) ≡ true
-  pub called : called_of words ≡ with_both (make_called procedure) (number_of number) (arguments_of arguments)
+-- the words are those of a call, which are what they have to be by their form
+pub record IsCallOf (call : CallWords) (all : List (List ℕ)) : Type 0 where
+  pub numeral : is_numeral call.number.now ≡ true
+  pub written : is_some (arguments_of (words call.arguments.now)) ≡ true
+  pub called : called_of all ≡ with_both (make_called call.procedure.now) (number_of call.number.now) (arguments_of (words call.arguments.now))
 
 -- all numbers have 64 bits, if there are any
 abbrev pub all_fit : Option (List ℤ) → Bool

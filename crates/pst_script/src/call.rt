@@ -95,7 +95,7 @@ fn read_arguments(alloc: Global, rest: &[u8]) -> Result<Numbers, AllocError>
 
 /// The words of a call. None where one of them has not the form.
 fn split_call(rest: &[u8]) -> Option<CallWords<'_>>
-    ensures { MatchOption result (called_of (words rest.now) ≡ None) (λ call. IsCallOf call.number.now call.procedure.now (words call.arguments.now) (words rest.now)) }
+    ensures { MatchOption result (called_of (words rest.now) ≡ None) (λ call. IsCallOf call (words rest.now)) }
 {
     let (number, behind) = split_word(rest)?;
     let (procedure, arguments) = split_word(behind)?;
