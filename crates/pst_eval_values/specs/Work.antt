@@ -1,10 +1,13 @@
 -- What the state of a run means, and where a run may go on.
 use Rattle.std.specs.Prelude.{◌≡◌, ◌^◌, ℕ, ◌+◌, ◌<◌, List}
+use Rattle.pst_base.specs.declared.names.Name.{Name}
+use Rattle.pst_base.specs.declared.names.TypeNo.{TypeNo}
 use Rattle.pst_base.specs.declared.shape.TypeShape.{TypeShape}
 use Rattle.pst_base.specs.Heap.{OrdinaryHeap}
+use Rattle.pst_program.specs.declared.meaning.Value.{Value}
 use Rattle.pst_program.specs.Value.{Env}
 use Rattle.pst_program.specs.Sound.{NamesAreFree}
-use Rattle.pst_program.specs.Meaning.{World, Ending, Normal, Returned, Trapped, Spent}
+use Rattle.pst_program.specs.Meaning.{World, Ending, Normal, Returned, Trapped, Spent, write, write_pointer}
 use Rattle.pst_eval_values.specs.declared.tally.Tally.{Tally}
 use Rattle.pst_eval_values.specs.declared.tally.End.{End}
 use Rattle.pst_eval_values.specs.declared.tally.End.TheVariants.{Normal as EndNormal, Return, Trap, Spent as EndSpent}
@@ -19,6 +22,18 @@ ending_of EndNormal env w = Normal env w
 ending_of (Return v) env w = Returned v w
 ending_of (Trap t line) env w = Trapped t line w
 ending_of (EndSpent line) env w = Spent line w
+
+-- an end, with the locals, the heap and the tally that are left
+abbrev pub ending_with : End → Env → OrdinaryHeap → Tally → Ending
+ending_with end env h t = ending_of end env (world_of h t)
+
+-- how a write of a field of a record ends
+abbrev pub write_end : Name → (slot : ℕ) → Value → (line : ℕ) → Env → OrdinaryHeap → Tally → Ending
+write_end name slot v line env h t = write h.shape name slot v line env (world_of h t)
+
+-- how a write of a field of pointers to a type ends
+abbrev pub pointer_write_end : TypeNo → Name → (slot : ℕ) → Value → (line : ℕ) → Env → OrdinaryHeap → Tally → Ending
+pointer_write_end ty name slot v line env h t = write_pointer h.shape ty name slot v line env (world_of h t)
 
 -- the counts have room for so many charges more
 pub record HasRoom (charges : ℕ) (t : Tally) : Type 0 where

@@ -2,9 +2,8 @@
 
 ghost use Rattle.std.specs.Prelude.{◌≡◌, ◌+◌, ◌-◌, ◌^◌, neg_ℤ, not, min, slice_index_or};
 ghost use Rattle.pst_base.specs.Heap.{kind_in};
-ghost use Rattle.pst_program.specs.Value.{Gives, number_of, truth_of, same_value, operate, decides, binary, and_then, content, load, limited as limited_to, object_of, index_of, load_element, value as value_of};
-ghost use Rattle.pst_program.specs.View.{expr_of};
-ghost use Rattle.pst_eval_values.specs.Answers.{answer_of, given_of, element_answer};
+ghost use Rattle.pst_program.specs.Value.{Gives, number_of, truth_of, same_value, operate, decides, binary, and_then, content, load, limited as limited_to, object_of, index_of, load_element};
+ghost use Rattle.pst_eval_values.specs.Answers.{answer_of, evaluated, given_of, element_answer};
 
 use pst_base::{Kind, Name, Op, ROOT, SlotNo, TrapKind};
 use pst_heap::PlainHeap;
@@ -15,7 +14,7 @@ use pst_program::{Typed, Value};
 #[cycle(value)]
 #[inline(always)]
 pub fn value(e: &Typed, env: &[Value], heap: &PlainHeap) -> Result<Value, TrapKind>
-    ensures { answer_of result ≡ value_of heap.now.shape (expr_of e.now) env.now heap.now.heap }
+    ensures { answer_of result ≡ evaluated e.now env.now heap.now }
 {
     match e {
         Typed::Number(n) => Ok(Value::Number(*n)),
@@ -36,7 +35,7 @@ pub fn value(e: &Typed, env: &[Value], heap: &PlainHeap) -> Result<Value, TrapKi
 #[cycle(value)]
 #[inline(never)]
 fn by_parts(e: &Typed, env: &[Value], heap: &PlainHeap) -> Result<Value, TrapKind>
-    ensures { answer_of result ≡ value_of heap.now.shape (expr_of e.now) env.now heap.now.heap }
+    ensures { answer_of result ≡ evaluated e.now env.now heap.now }
 {
     match e {
         Typed::Number(n) => Ok(Value::Number(*n)),
@@ -62,7 +61,7 @@ fn by_parts(e: &Typed, env: &[Value], heap: &PlainHeap) -> Result<Value, TrapKin
 #[cycle(value)]
 #[inline(never)]
 fn loaded(object: &Typed, field: SlotNo, env: &[Value], heap: &PlainHeap) -> Result<Value, TrapKind>
-    ensures { answer_of result ≡ and_then (value_of heap.now.shape (expr_of object.now) env.now heap.now.heap) (load heap.now.shape heap.now.heap field.0) }
+    ensures { answer_of result ≡ and_then (evaluated object.now env.now heap.now) (load heap.now.shape heap.now.heap field.0) }
 {
     let object = value(object, env, heap)?;
     load(heap, object, field)
@@ -79,7 +78,7 @@ fn element(
     env: &[Value],
     heap: &PlainHeap,
 ) -> Result<Value, TrapKind>
-    ensures { answer_of result ≡ element_answer heap.now.shape (expr_of object.now) field.0 elements (expr_of index.now) env.now heap.now.heap }
+    ensures { answer_of result ≡ element_answer object.now field.0 elements index.now env.now heap.now }
 {
     let object = object_of(value(object, env, heap)?)?;
     let index = value(index, env, heap)?;
@@ -90,7 +89,7 @@ fn element(
 #[cycle(value)]
 #[inline(never)]
 fn negated(operand: &Typed, env: &[Value], heap: &PlainHeap) -> Result<Value, TrapKind>
-    ensures { answer_of result ≡ and_then (value_of heap.now.shape (expr_of operand.now) env.now heap.now.heap) (λ v. limited_to (neg_ℤ (number_of v))) }
+    ensures { answer_of result ≡ and_then (evaluated operand.now env.now heap.now) (λ v. limited_to (neg_ℤ (number_of v))) }
 {
     limited(number(value(operand, env, heap)?).checked_neg())
 }
@@ -99,7 +98,7 @@ fn negated(operand: &Typed, env: &[Value], heap: &PlainHeap) -> Result<Value, Tr
 #[cycle(value)]
 #[inline(never)]
 fn denied(operand: &Typed, env: &[Value], heap: &PlainHeap) -> Result<Value, TrapKind>
-    ensures { answer_of result ≡ and_then (value_of heap.now.shape (expr_of operand.now) env.now heap.now.heap) (λ v. Gives (Value.Truth (not (truth_of v)))) }
+    ensures { answer_of result ≡ and_then (evaluated operand.now env.now heap.now) (λ v. Gives (Value.Truth (not (truth_of v)))) }
 {
     let v = value(operand, env, heap)?;
     Ok(Value::Truth(!truth(v)))
@@ -115,7 +114,7 @@ fn combined(
     env: &[Value],
     heap: &PlainHeap,
 ) -> Result<Value, TrapKind>
-    ensures { answer_of result ≡ binary op (value_of heap.now.shape (expr_of left.now) env.now heap.now.heap) (value_of heap.now.shape (expr_of right.now) env.now heap.now.heap) }
+    ensures { answer_of result ≡ binary op (evaluated left.now env.now heap.now) (evaluated right.now env.now heap.now) }
 {
     let v = value(left, env, heap)?;
     if decides(op, v) {

@@ -1,12 +1,11 @@
 //! Writes of fields.
 
-ghost use Rattle.std.specs.Prelude.{◌≡◌, ◌+◌, [], List};
+ghost use Rattle.std.specs.Prelude.{◌≡◌, ◌+◌};
 ghost use Rattle.pst_base.specs.declared.names.Kind.TheVariants.{Pointer};
 ghost use Rattle.pst_base.specs.declared.names.TypeNo.{TypeNo};
 ghost use Rattle.pst_base.specs.Heap.{kind_in};
-ghost use Rattle.pst_program.specs.declared.meaning.Value.{Value};
-ghost use Rattle.pst_program.specs.Meaning.{write, write_pointer};
-ghost use Rattle.pst_eval_values.specs.Work.{ending_of, world_of, IsAtWork, IsCharged};
+ghost use Rattle.pst_program.specs.Value.{Env};
+ghost use Rattle.pst_eval_values.specs.Work.{ending_with, write_end, pointer_write_end, IsAtWork, IsCharged};
 
 use crate::tally::{End, Tally};
 use crate::values::number;
@@ -24,7 +23,7 @@ pub fn write(
     tally: &mut Tally,
 ) -> End
     requires ready { IsCharged heap.old.shape heap.old tally.old }
-    ensures meaning { (env : List Value) → ending_of result env (world_of heap.new tally.new) ≡ write heap.old.shape name slot.0 v line env (world_of heap.old tally.old) }
+    ensures meaning { (env : Env) → ending_with result env heap.new tally.new ≡ write_end name slot.0 v line env heap.old tally.old }
     ensures ready { IsAtWork heap.old.shape heap.new tally.new }
     ensures same_charges { tally.new.charges ≡ tally.old.charges }
 {
@@ -51,7 +50,7 @@ fn write_pointer(
 ) -> End
     requires ready { IsCharged heap.old.shape heap.old tally.old }
     requires kind { kind_in heap.old.shape heap.old.heap name slot.0 ≡ Some (Pointer ty) }
-    ensures meaning { (env : List Value) → ending_of result env (world_of heap.new tally.new) ≡ write_pointer heap.old.shape ty name slot.0 v line env (world_of heap.old tally.old) }
+    ensures meaning { (env : Env) → ending_with result env heap.new tally.new ≡ pointer_write_end ty name slot.0 v line env heap.old tally.old }
     ensures ready { IsAtWork heap.old.shape heap.new tally.new }
     ensures same_charges { tally.new.charges ≡ tally.old.charges }
 {
