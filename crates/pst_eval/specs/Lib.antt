@@ -1,3 +1,3 @@
-pub mod Ends
 pub mod Flows
+pub mod Ends
 pub mod Runs

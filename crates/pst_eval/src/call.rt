@@ -1,8 +1,9 @@
 //! The parts of a call that run no statement.
 
-ghost use Rattle.std.specs.Prelude.{◌≡◌, MatchOption, None, Some, slice_get};
+ghost use Rattle.std.specs.Prelude.{◌≡◌, MatchOption, None, Some};
 ghost use Rattle.pst_program.specs.Meaning.{World, after_call};
 ghost use Rattle.pst_eval_values.specs.Work.{ending_of};
+ghost use Rattle.pst_eval.specs.Ends.{procedure_in};
 
 use crate::steps::set_at;
 use pst_eval_values::End;
@@ -10,7 +11,7 @@ use pst_program::{Program, TypedProc, Value};
 
 /// The procedure with a number.
 pub fn procedure_at(program: &Program, procedure: u16) -> Option<&TypedProc>
-    ensures { MatchOption result (slice_get program.now.procedures.items.items procedure ≡ None) (λ p. slice_get program.now.procedures.items.items procedure ≡ Some p.now) }
+    ensures { MatchOption result (procedure_in program.now procedure ≡ None) (λ p. procedure_in program.now procedure ≡ Some p.now) }
 {
     program.procedures.items.get(procedure as usize)
 }

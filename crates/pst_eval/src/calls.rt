@@ -2,10 +2,9 @@
 
 ghost use Rattle.std.specs.Prelude.{◌≡◌, [], map, IfOk, OnOk};
 ghost use Rattle.pst_program.specs.Meaning.{World, Ending};
-ghost use Rattle.pst_program.specs.Outcome.{calls_of, in_order, next_call, one_call, task_call};
-ghost use Rattle.pst_program.specs.View.{routines_of};
-ghost use Rattle.pst_eval_values.specs.Work.{ending_of, world_of, IsAtWork};
-ghost use Rattle.pst_eval.specs.Ends.{last_or};
+ghost use Rattle.pst_program.specs.Outcome.{next_call};
+ghost use Rattle.pst_eval_values.specs.Work.{ending_of, ending_with, IsAtWork};
+ghost use Rattle.pst_eval.specs.Ends.{last_or, all_calls_end, one_call_end};
 
 use crate::run::run_body;
 use crate::work::Work;
@@ -27,7 +26,7 @@ pub fn run_calls(
     work: &mut Work,
 ) -> Result<End, NoMemory>
     requires at_work { IsAtWork program.now.shape heap.old work.old.tally }
-    ensures meaning { IfOk result (λ end. ending_of end [] (world_of heap.new work.new.tally) ≡ in_order (one_call (routines_of program.now)) (calls_of calls.now) (world_of heap.old work.old.tally)) }
+    ensures meaning { IfOk result (λ end. ending_with end [] heap.new work.new.tally ≡ all_calls_end program.now calls.now heap.old work.old) }
     ensures at_work { OnOk result (IsAtWork program.now.shape heap.new work.new.tally) }
 {
     for call in calls {
@@ -59,7 +58,7 @@ fn run_one(
     work: &mut Work,
 ) -> Result<End, NoMemory>
     requires at_work { IsAtWork program.now.shape heap.old work.old.tally }
-    ensures meaning { IfOk result (λ end. ending_of end [] (world_of heap.new work.new.tally) ≡ one_call (routines_of program.now) (task_call call.now) (world_of heap.old work.old.tally)) }
+    ensures meaning { IfOk result (λ end. ending_with end [] heap.new work.new.tally ≡ one_call_end program.now call.now heap.old work.old) }
     ensures at_work { OnOk result (IsAtWork program.now.shape heap.new work.new.tally) }
 {
     let values = numbers(alloc, call.arguments.as_slice())?;

@@ -7,9 +7,9 @@ ghost use Rattle.std.specs.Prelude.{◌≡◌, ◌≢◌, ◌≤◌, ℕ, [], If
 ghost use Rattle.pst_program.specs.declared.block.TypedBlock.{size-TypedBlock};
 ghost use Rattle.pst_program.specs.declared.block.TypedStatement.{size-TypedStatement};
 ghost use Rattle.pst_program.specs.Meaning.{after_call};
-ghost use Rattle.pst_eval_values.specs.Work.{ending_of, world_of, IsAtWork};
-ghost use Rattle.pst_eval.specs.Ends.{deepest, calls_in, block_end, statement_end, called_end, loop_end, body_end};
-ghost use Rattle.pst_eval.specs.Flows.{end_of};
+ghost use Rattle.pst_eval_values.specs.Work.{IsAtWork};
+ghost use Rattle.pst_eval.specs.Ends.{deepest, block_end, statement_end, called_end, loop_end, call_end, body_end};
+ghost use Rattle.pst_eval.specs.Flows.{Leaves, noted_end};
 
 use crate::call::{after, procedure_at};
 use crate::work::{Flow, Work, carry_out, choose};
@@ -32,7 +32,7 @@ fn run_block(
 ) -> Result<Flow, NoMemory>
     requires within { size-TypedBlock block.now ≤ deepest program.now.procedures.items.items }
     requires ready { IsAtWork program.now.shape heap.old work.old.tally }
-    ensures meaning { IfOk result (λ flow. ending_of (end_of flow work.new.end) env.new.items (world_of heap.new work.new.tally) ≡ block_end program.now deep block.now env.old.items heap.old work.old.tally) }
+    ensures meaning { Leaves result env.new.items heap.new work.new (block_end program.now deep block.now env.old.items heap.old work.old) }
     ensures over { IfOk result (λ flow. flow ≡ Flow.Over → work.new.end ≢ End.Normal) }
     ensures ready { OnOk result (IsAtWork program.now.shape heap.new work.new.tally) }
     ensures fewer { OnOk result (work.new.tally.charges ≤ work.old.tally.charges) }
@@ -60,7 +60,7 @@ fn run_statement(
 ) -> Result<Flow, NoMemory>
     requires within { size-TypedStatement statement.now ≤ deepest program.now.procedures.items.items }
     requires ready { IsAtWork program.now.shape heap.old work.old.tally }
-    ensures meaning { IfOk result (λ flow. ending_of (end_of flow work.new.end) env.new.items (world_of heap.new work.new.tally) ≡ statement_end program.now deep statement.now env.old.items heap.old work.old.tally) }
+    ensures meaning { Leaves result env.new.items heap.new work.new (statement_end program.now deep statement.now env.old.items heap.old work.old) }
     ensures over { IfOk result (λ flow. flow ≡ Flow.Over → work.new.end ≢ End.Normal) }
     ensures ready { OnOk result (IsAtWork program.now.shape heap.new work.new.tally) }
     ensures fewer { OnOk result (work.new.tally.charges ≤ work.old.tally.charges) }
@@ -120,7 +120,7 @@ fn run_called(
     work: &mut Work,
 ) -> Result<Flow, NoMemory>
     requires ready { IsAtWork program.now.shape heap.old work.old.tally }
-    ensures meaning { IfOk result (λ flow. ending_of (end_of flow work.new.end) env.new.items (world_of heap.new work.new.tally) ≡ called_end program.now deep procedure list.now line into env.old.items heap.old work.old.tally) }
+    ensures meaning { Leaves result env.new.items heap.new work.new (called_end program.now deep procedure list.now line into env.old.items heap.old work.old) }
     ensures over { IfOk result (λ flow. flow ≡ Flow.Over → work.new.end ≢ End.Normal) }
     ensures ready { OnOk result (IsAtWork program.now.shape heap.new work.new.tally) }
     ensures fewer { OnOk result (work.new.tally.charges ≤ work.old.tally.charges) }
@@ -154,7 +154,7 @@ fn run_while(
 ) -> Result<Flow, NoMemory>
     requires within { size-TypedBlock body.now ≤ deepest program.now.procedures.items.items }
     requires ready { IsAtWork program.now.shape heap.old work.old.tally }
-    ensures meaning { IfOk result (λ flow. ending_of (end_of flow work.new.end) env.new.items (world_of heap.new work.new.tally) ≡ loop_end program.now deep e.now body.now line env.old.items heap.old work.old.tally) }
+    ensures meaning { Leaves result env.new.items heap.new work.new (loop_end program.now deep e.now body.now line env.old.items heap.old work.old) }
     ensures over { IfOk result (λ flow. flow ≡ Flow.Over → work.new.end ≢ End.Normal) }
     ensures ready { OnOk result (IsAtWork program.now.shape heap.new work.new.tally) }
     ensures fewer { OnOk result (work.new.tally.charges ≤ work.old.tally.charges) }
@@ -185,7 +185,7 @@ fn run_call(
     work: &mut Work,
 ) -> Result<(), NoMemory>
     requires ready { IsAtWork program.now.shape heap.old work.old.tally }
-    ensures meaning { OnOk result (ending_of work.new.end [] (world_of heap.new work.new.tally) ≡ calls_in program.now deep procedure values.items line (world_of heap.old work.old.tally)) }
+    ensures meaning { OnOk result (noted_end heap.new work.new ≡ call_end program.now deep procedure values.items line heap.old work.old) }
     ensures ready { OnOk result (IsAtWork program.now.shape heap.new work.new.tally) }
     ensures fewer { OnOk result (work.new.tally.charges ≤ work.old.tally.charges) }
 {
@@ -208,7 +208,7 @@ pub fn run_body(
     work: &mut Work,
 ) -> Result<(), NoMemory>
     requires ready { IsAtWork program.now.shape heap.old work.old.tally }
-    ensures meaning { OnOk result (ending_of work.new.end [] (world_of heap.new work.new.tally) ≡ body_end program.now deep procedure values.items heap.old work.old.tally) }
+    ensures meaning { OnOk result (noted_end heap.new work.new ≡ body_end program.now deep procedure values.items heap.old work.old) }
     ensures ready { OnOk result (IsAtWork program.now.shape heap.new work.new.tally) }
     ensures fewer { OnOk result (work.new.tally.charges ≤ work.old.tally.charges) }
 {

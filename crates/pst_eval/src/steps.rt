@@ -1,12 +1,10 @@
 //! The statements that hold no other statement.
 
-ghost use Rattle.std.specs.Prelude.{◌≡◌, ◌+◌, ◌≤◌, ◌<◌, List, IfOk, OnOk, slice_set};
-ghost use Rattle.std.specs.Option.{option_map};
-ghost use Rattle.pst_program.specs.declared.meaning.Value.{Value};
-ghost use Rattle.pst_program.specs.Meaning.{World, Ending, Calls, set_local, set_root, store_field, make, print_value, return_value, is_target};
-ghost use Rattle.pst_program.specs.View.{expr_of, action_of};
-ghost use Rattle.pst_eval_values.specs.Work.{ending_of, world_of, IsAtWork, IsCharged};
-ghost use Rattle.pst_eval.specs.Ends.{step_end, element_store_end, element_written, indexed_written, IsSimple};
+ghost use Rattle.std.specs.Prelude.{◌≡◌, ◌+◌, ◌≤◌, ◌<◌, IfOk, OnOk, slice_set};
+ghost use Rattle.pst_program.specs.Meaning.{is_target};
+ghost use Rattle.pst_program.specs.View.{action_of};
+ghost use Rattle.pst_eval_values.specs.Work.{ending_with, IsAtWork, IsCharged};
+ghost use Rattle.pst_eval.specs.Ends.{IsSimple, IsStepEnd, local_end, root_end, store_end, element_store_end, element_write_end, indexed_write_end, make_end, print_end, return_end};
 
 use pst_base::{Name, NoMemory, ROOT, SlotNo, TrapKind, TypeNo, TypeShape};
 use pst_eval_values::{End, Tally, element_slot, index_of, number, value, write};
@@ -23,7 +21,7 @@ pub fn step(
 ) -> Result<End, NoMemory>
     requires simple { IsSimple (action_of form.now) }
     requires ready { IsAtWork heap.old.shape heap.old tally.old }
-    ensures meaning { IfOk result (λ end. (calls : Calls) → ending_of end env.new.items (world_of heap.new tally.new) ≡ step_end calls form.now line env.old.items heap.old tally.old) }
+    ensures meaning { IfOk result (λ end. IsStepEnd form.now line env.old.items heap.old tally.old (ending_with end env.new.items heap.new tally.new)) }
     ensures ready { OnOk result (IsAtWork heap.old.shape heap.new tally.new) }
     ensures fewer { OnOk result (tally.new.charges ≤ tally.old.charges) }
 {
@@ -62,7 +60,7 @@ fn set_local(
     tally: &mut Tally,
 ) -> End
     requires ready { IsAtWork heap.now.shape heap.now tally.old }
-    ensures meaning { ending_of result env.new.items (world_of heap.now tally.new) ≡ set_local heap.now.shape x (expr_of e.now) line env.old.items (world_of heap.now tally.old) }
+    ensures meaning { ending_with result env.new.items heap.now tally.new ≡ local_end x e.now line env.old.items heap.now tally.old }
     ensures ready { IsAtWork heap.now.shape heap.now tally.new }
     ensures fewer { tally.new.charges ≤ tally.old.charges }
 {
@@ -97,7 +95,7 @@ fn set_root(
     tally: &mut Tally,
 ) -> End
     requires ready { IsAtWork heap.old.shape heap.old tally.old }
-    ensures meaning { ending_of result env.now (world_of heap.new tally.new) ≡ set_root heap.old.shape slot.0 (expr_of e.now) line env.now (world_of heap.old tally.old) }
+    ensures meaning { ending_with result env.now heap.new tally.new ≡ root_end slot.0 e.now line env.now heap.old tally.old }
     ensures ready { IsAtWork heap.old.shape heap.new tally.new }
     ensures fewer { tally.new.charges ≤ tally.old.charges }
 {
@@ -121,7 +119,7 @@ fn store_field(
     tally: &mut Tally,
 ) -> End
     requires ready { IsAtWork heap.old.shape heap.old tally.old }
-    ensures meaning { ending_of result env.now (world_of heap.new tally.new) ≡ store_field heap.old.shape (expr_of object.now) slot.0 (expr_of e.now) line env.now (world_of heap.old tally.old) }
+    ensures meaning { ending_with result env.now heap.new tally.new ≡ store_end object.now slot.0 e.now line env.now heap.old tally.old }
     ensures ready { IsAtWork heap.old.shape heap.new tally.new }
     ensures fewer { tally.new.charges ≤ tally.old.charges }
 {
@@ -151,7 +149,7 @@ fn store_element(
     tally: &mut Tally,
 ) -> End
     requires ready { IsAtWork heap.old.shape heap.old tally.old }
-    ensures meaning { ending_of result env.now (world_of heap.new tally.new) ≡ element_store_end object.now slot.0 elements index.now e.now line env.now heap.old tally.old }
+    ensures meaning { ending_with result env.now heap.new tally.new ≡ element_store_end object.now slot.0 elements index.now e.now line env.now heap.old tally.old }
     ensures ready { IsAtWork heap.old.shape heap.new tally.new }
     ensures fewer { tally.new.charges ≤ tally.old.charges }
 {
@@ -180,7 +178,7 @@ fn write_indexed(
     tally: &mut Tally,
 ) -> End
     requires ready { IsCharged heap.old.shape heap.old tally.old }
-    ensures meaning { ending_of result env.now (world_of heap.new tally.new) ≡ indexed_written heap.old.shape name slot.0 elements (expr_of index.now) (expr_of e.now) line env.now (world_of heap.old tally.old) }
+    ensures meaning { ending_with result env.now heap.new tally.new ≡ indexed_write_end name slot.0 elements index.now e.now line env.now heap.old tally.old }
     ensures ready { IsAtWork heap.old.shape heap.new tally.new }
     ensures same_charges { tally.new.charges ≡ tally.old.charges }
 {
@@ -205,7 +203,7 @@ fn write_element(
     tally: &mut Tally,
 ) -> End
     requires ready { IsCharged heap.old.shape heap.old tally.old }
-    ensures meaning { ending_of result env.now (world_of heap.new tally.new) ≡ element_written heap.old.shape name slot.0 index (expr_of e.now) line env.now (world_of heap.old tally.old) }
+    ensures meaning { ending_with result env.now heap.new tally.new ≡ element_write_end name slot.0 index e.now line env.now heap.old tally.old }
     ensures ready { IsAtWork heap.old.shape heap.new tally.new }
     ensures same_charges { tally.new.charges ≡ tally.old.charges }
 {
@@ -229,7 +227,7 @@ fn make(
     tally: &mut Tally,
 ) -> Result<End, NoMemory>
     requires ready { IsAtWork heap.old.shape heap.old tally.old }
-    ensures meaning { IfOk result (λ end. ending_of end env.new.items (world_of heap.new tally.new) ≡ make heap.old.shape x ty line env.old.items (world_of heap.old tally.old)) }
+    ensures meaning { IfOk result (λ end. ending_with end env.new.items heap.new tally.new ≡ make_end x ty line env.old.items heap.old tally.old) }
     ensures ready { OnOk result (IsAtWork heap.old.shape heap.new tally.new) }
     ensures fewer { OnOk result (tally.new.charges ≤ tally.old.charges) }
 {
@@ -263,7 +261,7 @@ fn print(
     tally: &mut Tally,
 ) -> Result<End, NoMemory>
     requires ready { IsAtWork heap.now.shape heap.now tally.old }
-    ensures meaning { IfOk result (λ end. ending_of end env.now (world_of heap.now tally.new) ≡ print_value heap.now.shape (expr_of e.now) line env.now (world_of heap.now tally.old)) }
+    ensures meaning { IfOk result (λ end. ending_with end env.now heap.now tally.new ≡ print_end e.now line env.now heap.now tally.old) }
     ensures ready { OnOk result (IsAtWork heap.now.shape heap.now tally.new) }
     ensures fewer { OnOk result (tally.new.charges ≤ tally.old.charges) }
 {
@@ -291,7 +289,7 @@ fn give_back(
     tally: &mut Tally,
 ) -> End
     requires ready { IsAtWork heap.now.shape heap.now tally.old }
-    ensures meaning { ending_of result env.now (world_of heap.now tally.new) ≡ return_value heap.now.shape (option_map expr_of e.now) line env.now (world_of heap.now tally.old) }
+    ensures meaning { ending_with result env.now heap.now tally.new ≡ return_end e.now line env.now heap.now tally.old }
     ensures ready { IsAtWork heap.now.shape heap.now tally.new }
     ensures fewer { tally.new.charges ≤ tally.old.charges }
 {

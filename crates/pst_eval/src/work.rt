@@ -4,11 +4,10 @@
 //! for here stands in no frame of theirs: an end is noted in the [`Work`], and they are told only whether to go on.
 
 ghost use Rattle.std.specs.Prelude.{◌≡◌, ◌≢◌, ◌<◌, ◌≤◌, IfOk, IfSome, OnOk};
-ghost use Rattle.pst_program.specs.Meaning.{Calls};
-ghost use Rattle.pst_program.specs.View.{expr_of, action_of};
-ghost use Rattle.pst_eval_values.specs.Work.{ending_of, world_of, IsAtWork};
-ghost use Rattle.pst_eval.specs.Ends.{Chooses, step_end, IsSimple};
-ghost use Rattle.pst_eval.specs.Flows.{end_of, choice_of};
+ghost use Rattle.pst_program.specs.View.{action_of};
+ghost use Rattle.pst_eval_values.specs.Work.{IsAtWork};
+ghost use Rattle.pst_eval.specs.Ends.{Chooses, IsStepEnd, IsSimple};
+ghost use Rattle.pst_eval.specs.Flows.{end_of, flow_end};
 
 use crate::steps::step;
 use pst_base::NoMemory;
@@ -58,7 +57,7 @@ pub fn carry_out(
 ) -> Result<Flow, NoMemory>
     requires simple { IsSimple (action_of form.now) }
     requires ready { IsAtWork heap.old.shape heap.old work.old.tally }
-    ensures meaning { IfOk result (λ flow. (calls : Calls) → ending_of (end_of flow work.new.end) env.new.items (world_of heap.new work.new.tally) ≡ step_end calls form.now line env.old.items heap.old work.old.tally) }
+    ensures meaning { IfOk result (λ flow. IsStepEnd form.now line env.old.items heap.old work.old.tally (flow_end flow env.new.items heap.new work.new)) }
     ensures over { IfOk result (λ flow. flow ≡ Flow.Over → work.new.end ≢ End.Normal) }
     ensures ready { OnOk result (IsAtWork heap.old.shape heap.new work.new.tally) }
     ensures fewer { OnOk result (work.new.tally.charges ≤ work.old.tally.charges) }
@@ -77,7 +76,7 @@ pub fn choose(
     work: &mut Work,
 ) -> Option<bool>
     requires ready { IsAtWork heap.now.shape heap.now work.old.tally }
-    ensures meaning { Chooses heap.now.shape (expr_of e.now) line env.now (world_of heap.now work.old.tally) (choice_of result work.new.end) (world_of heap.now work.new.tally) }
+    ensures meaning { Chooses e.now line env.now heap.now work.old result work.new }
     ensures over { result ≡ None → work.new.end ≢ End.Normal }
     ensures ready { IsAtWork heap.now.shape heap.now work.new.tally }
     ensures fewer { IfSome result (λ _. work.new.tally.charges < work.old.tally.charges) }
