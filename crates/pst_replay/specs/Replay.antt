@@ -1,8 +1,10 @@
 -- What the calls of a replayer come to.
 use Rattle.std.specs.Prelude.{◌≡◌, ◌<◌, ◌≤◌, ℕ, ◌+◌, ◌-◌, List, [], ◌∷◌, Option, Some, None, length, map, zero, suc, slice_get, count_by}
 use Rattle.pst_base.specs.declared.names.RunNo.{RunNo}
+use Rattle.pst_base.specs.declared.names.VersionNo.{VersionNo}
 use Rattle.pst_base.specs.declared.shape.TypeShape.{TypeShape}
 use Rattle.pst_program.specs.declared.program.Program.{Program}
+use Rattle.pst_program.specs.declared.meaning.Ended.{Ended}
 use Rattle.pst_program.specs.Outcome.{Outcome, TaskCall, calls_of}
 use Rattle.pst_program.specs.View.{routines_of}
 use Rattle.pst_script.specs.declared.command.Command.{Command}
@@ -10,8 +12,9 @@ use Rattle.pst_script.specs.declared.command.Command.TheVariants as command
 use Rattle.pst_script.specs.declared.reply.Reply.{Reply}
 use Rattle.pst_history.specs.declared.history.Descent.{Descent}
 use Rattle.pst_history.specs.declared.history.Run.{Run}
+use Rattle.pst_history.specs.declared.history.Since.{Since}
 use Rattle.pst_history.specs.Meaning.{Meaning}
-use Rattle.pst_history.specs.History.{History, opening, since, is_open, run_at, outcome_of, stepped, reply, after}
+use Rattle.pst_history.specs.History.{History, opening, since, is_open, run_at, outcome_of, stepped, reply, after, refusal, answered, changed, with_version}
 use Rattle.pst_history.specs.Sound.{IsSoundHistory}
 use Rattle.pst_history.specs.Direct.{direct_call, meaning_of}
 use Rattle.pst_history.specs.Since.{history_for}
@@ -59,6 +62,26 @@ open_after n command.Stats = n
 pub record Answers (m : Meaning) (old : History) (c : Command) (r : Reply) (new : History) : Type 0 where
   pub reply : r ≡ reply m old c
   pub after : new ≡ after m old c
+
+-- a command is answered for a program, and what is kept then is the history after it
+abbrev pub AnswersFor : Program → (old : NumberedHistory) → Command → Reply → (new : NumberedHistory) → Type 0
+AnswersFor program old c r new = Answers (meaning_of program) (kept_for program old) c r (kept_for program new)
+
+-- a command is not refused
+abbrev pub Accepts : Program → NumberedHistory → Command → Type 0
+Accepts program k c = refusal (meaning_of program) (kept_for program k) c ≡ None
+
+-- the reply to a command that is not refused
+abbrev pub reply_for : Program → NumberedHistory → Command → Reply
+reply_for program k c = answered (meaning_of program) (kept_for program k) c
+
+-- the history after it
+abbrev pub history_after : Program → NumberedHistory → Command → History
+history_after program k c = changed (meaning_of program) (kept_for program k) c
+
+-- a version more, where the run with a number ended so that it makes one on this parent, and nothing else
+abbrev pub Finishes : (run : ℕ) → (parent : VersionNo) → Ended → (old new : Since) → Type 0
+Finishes run parent ended old new = (shape : List TypeShape) → since (opening shape) new ≡ with_version (since (opening shape) old) run parent ended
 
 -- what is told of an outcome: all but its heap
 pub record IsEnd (o : Outcome) (e : Told) : Type 0 where

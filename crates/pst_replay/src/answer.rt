@@ -1,16 +1,16 @@
 //! The answers to commands that are not refused.
 
-ghost use Rattle.std.specs.Prelude.{◌≡◌, ◌^◌, IfOk, OnOk, IsSome, None, Some};
+ghost use Rattle.std.specs.Prelude.{◌≡◌, ◌^◌, IfOk, OnOk, IsSome, Some};
 ghost use Rattle.pst_program.specs.View.{routines_of};
 ghost use Rattle.pst_program.specs.Typed.{IsTyped};
 ghost use Rattle.pst_program.specs.Sound.{CountsWithin};
 ghost use Rattle.pst_script.specs.declared.command.Command.TheVariants as command;
 ghost use Rattle.pst_history.specs.declared.history.Run.{Run};
 ghost use Rattle.pst_base.specs.Counts.{counts_plus};
-ghost use Rattle.pst_history.specs.History.{refusal, run_at, run_counts, counts_of, queried, answered, changed};
+ghost use Rattle.pst_history.specs.History.{run_at, run_counts, counts_of, queried};
 ghost use Rattle.pst_history.specs.Sound.{IsSoundHistory};
 ghost use Rattle.pst_history.specs.Direct.{meaning_of};
-ghost use Rattle.pst_replay.specs.Replay.{IsNumbered, kept_for};
+ghost use Rattle.pst_replay.specs.Replay.{IsNumbered, kept_for, Accepts, reply_for, history_after};
 
 use crate::history::NumberedHistory;
 use crate::path::{outcome_under, worked};
@@ -48,8 +48,8 @@ fn query(
     requires typed { IsTyped (routines_of program.now) }
     requires sound { IsSoundHistory (meaning_of program.now) (kept_for program.now history.now) }
     requires numbered { IsNumbered program.now history.now }
-    requires accepted { refusal (meaning_of program.now) (kept_for program.now history.now) (command.Query call.now) ≡ None }
-    ensures { IfOk result (λ r. r ≡ answered (meaning_of program.now) (kept_for program.now history.now) (command.Query call.now)) }
+    requires accepted { Accepts program.now history.now (command.Query call.now) }
+    ensures { IfOk result (λ r. r ≡ reply_for program.now history.now (command.Query call.now)) }
 {
     let calls = one_call(alloc, call)?;
     let by_number = numbered_calls(alloc, program, &calls)?;
@@ -127,9 +127,9 @@ pub(crate) fn answer(
     requires typed { IsTyped (routines_of program.now) }
     requires sound { IsSoundHistory (meaning_of program.now) (kept_for program.now history.old) }
     requires numbered { IsNumbered program.now history.old }
-    requires accepted { refusal (meaning_of program.now) (kept_for program.now history.old) command.now ≡ None }
-    ensures reply { IfOk result (λ r. r ≡ answered (meaning_of program.now) (kept_for program.now history.old) command.now) }
-    ensures changed { OnOk result (kept_for program.now history.new ≡ changed (meaning_of program.now) (kept_for program.now history.old) command.now) }
+    requires accepted { Accepts program.now history.old command.now }
+    ensures reply { IfOk result (λ r. r ≡ reply_for program.now history.old command.now) }
+    ensures changed { OnOk result (kept_for program.now history.new ≡ history_after program.now history.old command.now) }
     ensures numbered { OnOk result (IsNumbered program.now history.new) }
 {
     match command {

@@ -8,10 +8,8 @@ ghost use Rattle.pst_program.specs.Typed.{IsTyped};
 ghost use Rattle.pst_script.specs.declared.reply.Reply.TheVariants as answer;
 ghost use Rattle.pst_script.specs.declared.reply.Refusal.{Refusal};
 ghost use Rattle.pst_script.specs.Commands.{in_range};
-ghost use Rattle.pst_history.specs.History.{History, begun, opening, refusal, changed, is_open};
-ghost use Rattle.pst_history.specs.Meaning.{Meaning};
-ghost use Rattle.pst_history.specs.Direct.{meaning_of};
-ghost use Rattle.pst_replay.specs.Replay.{Answers, MayApply, kept, kept_for, open_after};
+ghost use Rattle.pst_history.specs.History.{begun, opening};
+ghost use Rattle.pst_replay.specs.Replay.{AnswersFor, MayApply, kept, open_after};
 ghost use Rattle.pst_history.specs.declared.history.TheConstants.{RUNS};
 
 use crate::answer::answer;
@@ -77,7 +75,7 @@ impl Replayer {
         requires typed { IsTyped (routines_of program.now) }
         requires may { self.old.failed ≡ false → MayApply program.now self.old }
         ensures ok { IfOk result (λ r. (self.old.failed ≡ false) × (self.new.failed ≡ false)) }
-        ensures answers { IfOk result (λ r. Answers (meaning_of program.now) (kept_for program.now self.old.history) command.now r (kept_for program.now self.new.history)) }
+        ensures answers { IfOk result (λ r. AnswersFor program.now self.old.history command.now r self.new.history) }
         ensures refused { IfOk result (λ r. (why : Refusal) → r ≡ answer.Refused why → self.new ≡ self.old) }
         ensures may { IfOk result (λ r. in_range command.now ≡ true → MayApply program.now self.new) }
         ensures err { OnErr result (self.new.failed ≡ true) }

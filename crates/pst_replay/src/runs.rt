@@ -1,16 +1,15 @@
 //! Runs: a call more, more charges, an end, and all at once.
 
-ghost use Rattle.std.specs.Prelude.{◌≡◌, ◌+◌, ◌≤◌, IfOk, OnOk, IsSome, IsTrue, List, None, length};
+ghost use Rattle.std.specs.Prelude.{◌≡◌, ◌+◌, ◌≤◌, IfOk, OnOk, IsSome, IsTrue, length};
 ghost use Rattle.pst_script.specs.declared.command.Command.TheVariants as command;
 ghost use Rattle.pst_script.specs.declared.reply.Reply.TheVariants as answer;
-ghost use Rattle.pst_base.specs.declared.shape.TypeShape.{TypeShape};
 ghost use Rattle.pst_program.specs.View.{routines_of};
 ghost use Rattle.pst_program.specs.Typed.{IsTyped};
-ghost use Rattle.pst_history.specs.History.{opening, refusal, run_at, since, is_open_run, step_reply, close_reply, closed, ended, with_run, with_version, granted_more, called_more, answered, changed};
+ghost use Rattle.pst_history.specs.History.{run_at, is_open_run, ended};
 ghost use Rattle.pst_history.specs.Sound.{IsSoundHistory};
 ghost use Rattle.pst_history.specs.Direct.{meaning_of};
 ghost use Rattle.pst_history.specs.Since.{Opens};
-ghost use Rattle.pst_replay.specs.Replay.{IsNumbered, TellsProgress, kept_for};
+ghost use Rattle.pst_replay.specs.Replay.{IsNumbered, TellsProgress, kept_for, Accepts, reply_for, history_after, Finishes};
 ghost use Rattle.pst_history.specs.declared.history.TheConstants.{RUNS};
 
 use crate::history::NumberedHistory;
@@ -75,9 +74,9 @@ pub(crate) fn step(
     requires typed { IsTyped (routines_of program.now) }
     requires sound { IsSoundHistory (meaning_of program.now) (kept_for program.now history.old) }
     requires numbered { IsNumbered program.now history.old }
-    requires accepted { refusal (meaning_of program.now) (kept_for program.now history.old) (command.StepRun number charges) ≡ None }
-    ensures reply { IfOk result (λ r. r ≡ answered (meaning_of program.now) (kept_for program.now history.old) (command.StepRun number charges)) }
-    ensures changed { OnOk result (kept_for program.now history.new ≡ changed (meaning_of program.now) (kept_for program.now history.old) (command.StepRun number charges)) }
+    requires accepted { Accepts program.now history.old (command.StepRun number charges) }
+    ensures reply { IfOk result (λ r. r ≡ reply_for program.now history.old (command.StepRun number charges)) }
+    ensures changed { OnOk result (kept_for program.now history.new ≡ history_after program.now history.old (command.StepRun number charges)) }
     ensures numbered { OnOk result (IsNumbered program.now history.new) }
 {
     grant(&mut history.since, number, charges);
@@ -96,9 +95,9 @@ pub(crate) fn call(
     requires typed { IsTyped (routines_of program.now) }
     requires sound { IsSoundHistory (meaning_of program.now) (kept_for program.now history.old) }
     requires numbered { IsNumbered program.now history.old }
-    requires accepted { refusal (meaning_of program.now) (kept_for program.now history.old) (command.CallRun number procedure.now arguments.now) ≡ None }
-    ensures reply { IfOk result (λ r. r ≡ answered (meaning_of program.now) (kept_for program.now history.old) (command.CallRun number procedure.now arguments.now)) }
-    ensures changed { OnOk result (kept_for program.now history.new ≡ changed (meaning_of program.now) (kept_for program.now history.old) (command.CallRun number procedure.now arguments.now)) }
+    requires accepted { Accepts program.now history.old (command.CallRun number procedure.now arguments.now) }
+    ensures reply { IfOk result (λ r. r ≡ reply_for program.now history.old (command.CallRun number procedure.now arguments.now)) }
+    ensures changed { OnOk result (kept_for program.now history.new ≡ history_after program.now history.old (command.CallRun number procedure.now arguments.now)) }
     ensures numbered { OnOk result (IsNumbered program.now history.new) }
 {
     history.add(program, number, named_call(procedure, arguments)?)?;
@@ -114,7 +113,7 @@ fn finish(
 ) -> Result<Reply, NoMemory>
     requires { length history.old.versions ≤ RUNS }
     ensures reply { IfOk result (λ r. r ≡ ended (1 + length history.old.versions) outcome.printed outcome.ended) }
-    ensures version { OnOk result ((shape : List TypeShape) → since (opening shape) history.new ≡ with_version (since (opening shape) history.old) number.0 parent outcome.ended) }
+    ensures version { OnOk result (Finishes number.0 parent outcome.ended history.old history.new) }
 {
     match outcome.ended {
         Ended::Done => {
@@ -145,8 +144,8 @@ pub(crate) fn close(
     requires sound { IsSoundHistory (meaning_of program.now) (kept_for program.now history.old) }
     requires numbered { IsNumbered program.now history.old }
     requires open { IsTrue (is_open_run (run_at (kept_for program.now history.old) number.0)) }
-    ensures reply { IfOk result (λ r. r ≡ close_reply (meaning_of program.now) (kept_for program.now history.old) number (run_at (kept_for program.now history.old) number.0)) }
-    ensures closed { OnOk result (kept_for program.now history.new ≡ closed (meaning_of program.now) (kept_for program.now history.old) number.0) }
+    ensures reply { IfOk result (λ r. r ≡ reply_for program.now history.old (command.CloseRun number)) }
+    ensures closed { OnOk result (kept_for program.now history.new ≡ history_after program.now history.old (command.CloseRun number)) }
     ensures numbered { OnOk result (IsNumbered program.now history.new) }
 {
     shut(&mut history.since, number);
@@ -165,9 +164,9 @@ pub(crate) fn run(
     requires typed { IsTyped (routines_of program.now) }
     requires sound { IsSoundHistory (meaning_of program.now) (kept_for program.now history.old) }
     requires numbered { IsNumbered program.now history.old }
-    requires accepted { refusal (meaning_of program.now) (kept_for program.now history.old) (command.Run call.now) ≡ None }
-    ensures reply { IfOk result (λ r. r ≡ answered (meaning_of program.now) (kept_for program.now history.old) (command.Run call.now)) }
-    ensures changed { OnOk result (kept_for program.now history.new ≡ changed (meaning_of program.now) (kept_for program.now history.old) (command.Run call.now)) }
+    requires accepted { Accepts program.now history.old (command.Run call.now) }
+    ensures reply { IfOk result (λ r. r ≡ reply_for program.now history.old (command.Run call.now)) }
+    ensures changed { OnOk result (kept_for program.now history.new ≡ history_after program.now history.old (command.Run call.now)) }
     ensures numbered { OnOk result (IsNumbered program.now history.new) }
 {
     let number = next_number(&history.since);
