@@ -134,7 +134,7 @@ abbrev pub CarriesRest : {A T U S : Type 0} → Rules → (stands : A → T → 
     → (session' : A) → (held' : T) → Result U Stop → (left : S → Option (List ℕ)) → LinesState → S → LinesState → S → Type 0
 CarriesRest rules stands leaves breaks session held session' held' result left lines source lines' source' =
     OnEachHistory stands session held (λ m h.
-      Carries (script_of rules m) h (stands session' held' m) (leaves m held') (breaks m held') result lines.input (left source) lines'.input (left source'))
+    Carries (script_of rules m) h (stands session' held' m) (leaves m held') (breaks m held') result lines.input (left source) lines'.input (left source'))
 
 -- Carrying out the lines of a script stopped, or there was no room for the program or for the answer behind the last line: what
 -- is held is untouched, or is left so after these lines, or broken so in the last of them.

@@ -84,7 +84,7 @@ abbrev pub AnswersRest : {A T U S K : Type 0} → Rules → (stands : A → T �
     → Result U Stop → (left : S → Option (List ℕ)) → LinesState → S → LinesState → S → (taken : K → Option (List ℕ)) → (old new : K) → Type 0
 AnswersRest rules stands leaves breaks session held held' result left lines source lines' source' taken old new =
     OnEachHistory stands session held (λ m h.
-      HasTaken taken old new (Answers (script_of rules m) h (leaves m held') (breaks m held') result lines.input (left source) lines'.input (left source')))
+    HasTaken taken old new (Answers (script_of rules m) h (leaves m held') (breaks m held') result lines.input (left source) lines'.input (left source')))
 
 -- ---- the lines of a text, of which nothing is read
 
