@@ -1,10 +1,10 @@
 //! The top call.
 
-ghost use Rattle.std.specs.Prelude.{◌≡◌, ◌↔◌, ◌≤◌, Some, None, IfSome, false};
+ghost use Rattle.std.specs.Prelude.{◌≡◌, ◌↔◌, ◌≤◌, Some, None, false};
 ghost use Rattle.pst_io.specs.Causes.{Rose};
 ghost use Rattle.pst_io.specs.Lines.{not_begun};
 ghost use Rattle.pst_cli_words.specs.declared.job.Job.{Job};
-ghost use Rattle.pst_cli_words.specs.Jobs.{task_in, OnJob, OnBench, OnQuestion, OnPack, OnResume, OnRepack};
+ghost use Rattle.pst_cli_words.specs.Jobs.{task_in, OnBench, OnQuestion, OnPack, OnResume, OnRepack};
 ghost use Rattle.pst_cli_asking.specs.Asking.{AskRow};
 ghost use Rattle.pst_cli_pack.specs.Packing.{PackRow};
 ghost use Rattle.pst_cli_resume.specs.Resuming.{ResumeRow, resumed_in};
@@ -12,8 +12,8 @@ ghost use Rattle.pst_cli_repack.specs.Repacking.{RepackRow};
 ghost use Rattle.pst_cli_bench.specs.Bench.{BenchRow, bench_lines};
 ghost use Rattle.pst_samples.specs.declared.TheConstants.{RING};
 ghost use Rattle.pst_line.specs.Store.{IsEmpty};
-ghost use Rattle.pst_cli_serving.specs.Rows.{HasRow, Row, NoFault, IsServable, IsComplete};
-ghost use Rattle.pst_cli_serving.specs.Held.{kept_in};
+ghost use Rattle.pst_cli_serving.specs.Rows.{HasRow, Row, ServesJob, UnlessFailed, Completes};
+ghost use Rattle.pst_cli_serving.specs.Held.{run_in};
 ghost use Rattle.pst_cli.specs.Endings.{works_over_store, MayEnd};
 ghost use Rattle.pst_cli.specs.Held.{both_in};
 ghost use Rattle.pst_cli_scripts.specs.Sessions.{HasTaken};
@@ -78,16 +78,16 @@ pub fn persist<S: Source, K: Sink, O: Walked + Drop, N: Listed, L: LineCalls>(
     requires empty_line { IsEmpty (L.stored line.old) }
 
     // What a job has read and written, and what each store is left in, where the source tells its bytes.
-    ensures table { OnJob words.now (λ job. HasRow S.left source.old source.new K.taken sink.old sink.new (Row result (both_in L.state L.stored store.old store.new line.old line.new job) job)) }
+    ensures table { ServesJob words.now S.left source.old source.new K.taken sink.old sink.new result (both_in L.state L.stored store.old store.new line.old line.new) }
 
     // The bench reads nothing. What it has written, and what the store is left in.
     ensures bench { OnBench words.now (λ number. (source.new ≡ source.old) × HasTaken K.taken sink.old sink.new (BenchRow result RING.now (bench_lines number) store.old store.new)) }
 
     // What a question has read and written, and what the store is left in: as after `run`, and the answer about it.
-    ensures asked { OnQuestion words.now (λ question path. HasRow S.left source.old source.new K.taken sink.old sink.new (AskRow result (kept_in store.old store.new Job.Run) question path)) }
+    ensures asked { OnQuestion words.now (λ asked path. HasRow S.left source.old source.new K.taken sink.old sink.new (AskRow result (run_in store.old store.new) asked path)) }
 
     // What packing has read and written, and what the store is left in: as after `run`, and its image.
-    ensures packed { OnPack words.now (HasRow S.left source.old source.new K.taken sink.old sink.new (PackRow result (kept_in store.old store.new Job.Run) store.new)) }
+    ensures packed { OnPack words.now (HasRow S.left source.old source.new K.taken sink.old sink.new (PackRow result (run_in store.old store.new) store.new)) }
 
     // What resuming has read and written, and what the store is left in: that of the image, after the script behind it.
     ensures resumed { OnResume words.now (HasRow S.left source.old source.new K.taken sink.old sink.new (ResumeRow result (resumed_in store.old store.new))) }
@@ -104,8 +104,8 @@ pub fn persist<S: Source, K: Sink, O: Walked + Drop, N: Listed, L: LineCalls>(
     ensures read { result ≡ Status.ReadFault → Rose (S.faults source.old) (S.faults source.new) }
     ensures write { result ≡ Status.WriteFault → Rose (K.faults sink.old) (K.faults sink.new) }
     ensures usage { (result ≡ Status.Usage) ↔ (task_in words.now ≡ None) }
-    ensures complete { IfSome (S.left source.old) (λ input. IsServable (task_in words.now) input → NoFault S.faults source.old source.new → NoFault K.faults sink.old sink.new → IsComplete result) }
-    ensures answered { NoFault S.faults source.old source.new → NoFault K.faults sink.old sink.new → MayEnd (task_in words.now) result }
+    ensures complete { Completes S.left S.faults source.old source.new K.faults sink.old sink.new (task_in words.now) result }
+    ensures answered { UnlessFailed S.faults source.old source.new K.faults sink.old sink.new (MayEnd (task_in words.now) result) }
     ensures later { (S.faults source.old ≤ S.faults source.new) × (K.faults sink.old ≤ K.faults sink.new) }
 
     // Nothing is read or written.

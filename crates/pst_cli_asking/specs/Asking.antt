@@ -10,7 +10,7 @@ use Rattle.pst_program.specs.declared.program.Program.{Program}
 use Rattle.pst_typing.specs.View.{program_of}
 use Rattle.pst_history.specs.Meaning.{Meaning}
 use Rattle.pst_history.specs.History.{History}
-use Rattle.pst_history.specs.Direct.{direct}
+use Rattle.pst_history.specs.Direct.{direct, meaning_of}
 use Rattle.pst_store_meaning.specs.Store.{Stored}
 use Rattle.pst_cli_words.specs.declared.job.Job.TheVariants.{Run}
 use Rattle.pst_cli_words.specs.declared.job.Question.{Question}
@@ -26,10 +26,11 @@ use Rattle.pst_cli_scripts.specs.Input.{CutInput, cut, cut_of}
 use Rattle.pst_cli_scripts.specs.Pieces.{Answering, state_after, BreaksIn, IsAll, IsPartOf}
 use Rattle.pst_front.specs.Verdict.{Verdict, fault_text}
 use Rattle.pst_cli_scripts.specs.Script.{Rules, by_tree, script_of}
+use Rattle.pst_cli_scripts.specs.Sessions.{OnEachHistory}
 use Rattle.pst_cli_scripts.specs.Kept.{Kept, history_after}
 use Rattle.pst_front.specs.Pages.{routines_in}
 use Rattle.pst_cli_scripts.specs.Reading.{GivesPast, IsNear}
-use Rattle.pst_cli_serving.specs.Held.{kept_in}
+use Rattle.pst_cli_serving.specs.Held.{run_in}
 use Rattle.pst_cli_questions.specs.Telling.{Tells}
 
 -- ---- what is held and written, by the verdict on the program
@@ -127,12 +128,13 @@ abbrev pub Carries : {A T : Type 0} → Answering A → A → (stands leaves bre
 Carries m h stands leaves breaks (Ok done) a left b left' = (lines : List (List ℕ)) × GivesAll a left b left' lines × stands (state_after m h lines)
 Carries m h stands leaves breaks (Err s) a left b left' = (lines : List (List ℕ)) × StopsCarrying m h leaves breaks s a left b left' lines
 
--- so it is on a history of a program for a session with these rules and for what it holds then, and for a reader of lines and its
--- source, as they were and are
-abbrev pub CarriesScript : {A T U S : Type 0} → Rules → (stands : A → T → Meaning → History → Type 0) → (leaves breaks : Meaning → T → History → Type 0) → (session : A) → (held : T) → Result U Stop
-    → (left : S → Option (List ℕ)) → LinesState → S → LinesState → S → Meaning → History → Type 0
-CarriesScript rules stands leaves breaks session held result left lines source lines' source' m h =
-    Carries (script_of rules m) h (stands session held m) (leaves m held) (breaks m held) result lines.input (left source) lines'.input (left source')
+-- so it is on each history that a session with these rules and what it holds stand for, as they were and are, and for a reader of lines
+-- and its source, as they were and are
+abbrev pub CarriesRest : {A T U S : Type 0} → Rules → (stands : A → T → Meaning → History → Type 0) → (leaves breaks : Meaning → T → History → Type 0) → (session : A) → (held : T)
+    → (session' : A) → (held' : T) → Result U Stop → (left : S → Option (List ℕ)) → LinesState → S → LinesState → S → Type 0
+CarriesRest rules stands leaves breaks session held session' held' result left lines source lines' source' =
+    OnEachHistory stands session held (λ m h.
+    Carries (script_of rules m) h (stands session' held' m) (leaves m held') (breaks m held') result lines.input (left source) lines'.input (left source'))
 
 -- Carrying out the lines of a script stopped, or there was no room for the program or for the answer behind the last line: what
 -- is held is untouched, or is left so after these lines, or broken so in the last of them.
@@ -151,6 +153,12 @@ abbrev pub Finds : Kept → Program → Meaning → Question → (path : List �
 Finds k program m question path (Ok text) a left b left' =
     (lines : List (List ℕ)) × GivesAll a left b left' lines × k.leaves m lines × Tells program m (history_after by_tree m lines) question path text
 Finds k program m question path (Err s) a left b left' = StopsAsking k.untouched (k.leaves m) (k.breaks m) s a left b left'
+
+-- so it is for the store, as it was and is, and for a reader of lines and its source
+abbrev pub FindsInScript : {S : Type 0} → (old new : Option Stored) → Program → Question → (path : List ℕ) → Result (List ℕ) Stop
+    → (left : S → Option (List ℕ)) → LinesState → S → LinesState → S → Type 0
+FindsInScript old new program question path result left lines source lines' source' =
+    Finds (run_in old new) program (meaning_of program) question path result lines.input (left source) lines'.input (left source')
 
 -- a text is that of a program whose script stopped so, or it lacked room for its program or the line of its fault
 abbrev pub StopsText : Kept → List ℕ → Stop → InputState → Option (List ℕ) → InputState → Option (List ℕ) → Type 0
@@ -177,4 +185,4 @@ Asks status k question path a left b left' text out =
 -- so it is for the store, as it was and is, and for a reader of lines and its source
 abbrev pub AsksScript : {S : Type 0} → Status → (old new : Option Stored) → Question → (path : List ℕ) → (left : S → Option (List ℕ)) → LinesState → S → LinesState → S → (text out : List ℕ) → Type 0
 AsksScript status old new question path left lines source lines' source' text out =
-    Asks status (kept_in old new Run) question path lines.input (left source) lines'.input (left source') text out
+    Asks status (run_in old new) question path lines.input (left source) lines'.input (left source') text out

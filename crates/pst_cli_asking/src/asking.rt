@@ -1,18 +1,16 @@
 //! The script is carried out without its replies, and then the answer is written.
 
 ghost use Rattle.std.specs.Prelude.{◌≡◌, ◌≤◌, ◌+◌, ◌<◌, ◌^◌, None, Err, length};
-ghost use Rattle.pst_cli_words.specs.declared.job.Job.{Job};
 ghost use Rattle.pst_io.specs.Causes.{Rose};
 ghost use Rattle.pst_io.specs.Input.{bytes_read};
 ghost use Rattle.pst_io.specs.Lines.{IsOpen};
 ghost use Rattle.pst_program.specs.View.{routines_of};
 ghost use Rattle.pst_program.specs.Typed.{IsTyped};
-ghost use Rattle.pst_history.specs.Direct.{meaning_of};
 ghost use Rattle.pst_cli_serving.specs.Rows.{HasRow};
-ghost use Rattle.pst_cli_asking.specs.Asking.{CarriesScript, Finds, AsksScript, AskRow, Carries};
-ghost use Rattle.pst_cli_scripts.specs.Sessions.{HasTaken, StandForSome, OnEachHistory};
+ghost use Rattle.pst_cli_asking.specs.Asking.{CarriesRest, FindsInScript, AsksScript, AskRow};
+ghost use Rattle.pst_cli_scripts.specs.Sessions.{HasTaken, StandForSome};
 ghost use Rattle.pst_cli_scripts.specs.Reading.{IsNear};
-ghost use Rattle.pst_cli_serving.specs.Held.{kept_in};
+ghost use Rattle.pst_cli_serving.specs.Held.{run_in};
 
 use pst_base::Text;
 use pst_cli_questions::tell;
@@ -42,7 +40,7 @@ pub fn carry_script<X: Session, S: Source>(
     requires stands { StandForSome X.stands session.old held.old }
     requires open { IsOpen lines.old (S.left source.old) }
     requires near { IsNear lines.old.input }
-    ensures carried { OnEachHistory X.stands session.old held.old (CarriesScript X.rules X.stands X.leaves X.breaks session.new held.new result S.left lines.old source.old lines.new source.new) }
+    ensures carried { CarriesRest X.rules X.stands X.leaves X.breaks session.old held.old session.new held.new result S.left lines.old source.old lines.new source.new }
     ensures about { X.about session.new ≡ X.about session.old }
     ensures within { bytes_read lines.new.input ≤ MOST_INPUT }
     ensures later { S.faults source.old ≤ S.faults source.new }
@@ -78,7 +76,7 @@ fn answer_to<S: Source, O: Order + Drop, N: FatNodes>(
     requires open { IsOpen lines.old (S.left source.old) }
     requires near { IsNear lines.old.input }
     requires within_old { bytes_read lines.old.input ≤ MOST_INPUT }
-    ensures found { Finds (kept_in store.old store.new Job.Run) program (meaning_of program) question path.now result lines.old.input (S.left source.old) lines.new.input (S.left source.new) }
+    ensures found { FindsInScript store.old store.new program question path.now result S.left lines.old source.old lines.new source.new }
     ensures within { bytes_read lines.new.input ≤ MOST_INPUT }
     ensures later { S.faults source.old ≤ S.faults source.new }
     ensures read { result ≡ Err Stop.Read → Rose (S.faults source.old) (S.faults source.new) }
@@ -149,7 +147,7 @@ pub fn ask<S: Source, K: Sink, O: Order + Drop, N: FatNodes>(
     store: &mut StoreOf<O, N>,
 ) -> Status
     requires empty { store.old ≡ None }
-    ensures asked { HasRow S.left source.old source.new K.taken sink.old sink.new (AskRow result (kept_in store.old store.new Job.Run) question path.now) }
+    ensures asked { HasRow S.left source.old source.new K.taken sink.old sink.new (AskRow result (run_in store.old store.new) question path.now) }
     ensures read { result ≡ Status.ReadFault → Rose (S.faults source.old) (S.faults source.new) }
     ensures write { result ≡ Status.WriteFault → Rose (K.faults sink.old) (K.faults sink.new) }
     ensures not_usage { result ≡ Status.Usage → ⊥ }

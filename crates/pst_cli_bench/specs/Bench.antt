@@ -15,7 +15,7 @@ use Rattle.pst_store_meaning.specs.Store.{Stored}
 use Rattle.pst_store.specs.Whole.{nodes_in}
 use Rattle.pst_cli_words.specs.declared.status.Status.{Status}
 use Rattle.pst_cli_words.specs.declared.status.Status.TheVariants.{Done, ReadFault, WriteFault, Usage, Refused, TooLong, Memory}
-use Rattle.pst_cli_scripts.specs.Pieces.{AfterSome, IsPartOf}
+use Rattle.pst_cli_scripts.specs.Pieces.{AfterSome, IsPartOf, state_after}
 use Rattle.pst_cli_scripts.specs.Script.{Rules, by_tree, answer_of, next_of, script_of}
 use Rattle.pst_cli_scripts.specs.Kept.{first_history, history_after}
 use Rattle.pst_front.specs.Verdict.{Verdict, Accepted, Refused as IsRefusedBy, fault_text}
@@ -44,6 +44,10 @@ abbrev pub printed_by : Option Reply → List ℤ
 printed_by None = []
 printed_by (Some r) = printed_in r
 
+-- in the reply to a line
+abbrev pub printed_at : Rules → List ℕ → Meaning → History → List ℤ
+printed_at rules line m h = printed_by (answer_of rules m h (reading line))
+
 -- in the replies to lines, from a history on
 abbrev pub printed_from : Rules → Meaning → History → List (List ℕ) → List ℤ
 printed_from rules m h [] = []
@@ -65,6 +69,16 @@ abbrev pub summary_of : Meaning → List (List ℕ) → Option Stored → List �
 summary_of m lines store =
     let h = history_after by_tree m lines in
     summary (version_count h) (text_of (reply m h Stats)) (length (nodes_in store)) (fold ◌+ℤ◌ (pos 0) (printed_from by_tree m (first_history by_tree m) lines))
+
+-- ---- what a session comes to
+
+-- the history after lines
+abbrev pub after_lines : Rules → List (List ℕ) → Meaning → History → History
+after_lines rules lines m h = state_after (script_of rules m) h lines
+
+-- after want of memory, what is held is that of the history after some first ones of the lines
+abbrev pub BreaksAfterSome : {T : Type 0} → Rules → (breaks : Meaning → T → History → Type 0) → (held : T) → List (List ℕ) → Meaning → History → Type 0
+BreaksAfterSome rules breaks held lines m h = AfterSome (script_of rules m) h (breaks m held) lines
 
 -- ---- the table, for the lines of the script, the store that was handed in and the one that is left
 

@@ -5,17 +5,15 @@ ghost use Rattle.pst_io.specs.Causes.{Rose};
 ghost use Rattle.pst_io.specs.Text.{lines_of};
 ghost use Rattle.pst_program.specs.View.{routines_of};
 ghost use Rattle.pst_program.specs.Typed.{IsTyped};
-ghost use Rattle.pst_script.specs.Commands.{reading};
 ghost use Rattle.pst_script.specs.Texts.{text_of};
 ghost use Rattle.pst_script.specs.declared.reply.Reply.TheVariants as answer;
 ghost use Rattle.pst_history.specs.Direct.{meaning_of};
 ghost use Rattle.pst_store.specs.Whole.{nodes_in, state_in};
-ghost use Rattle.pst_cli_bench.specs.Bench.{printed_in, printed_by, printed_from, summary, bench_lines, summary_of, IsBrokenAfterSome, BenchRow};
+ghost use Rattle.pst_cli_bench.specs.Bench.{printed_in, printed_at, printed_from, after_lines, BreaksAfterSome, summary, bench_lines, summary_of, IsBrokenAfterSome, BenchRow};
 ghost use Rattle.pst_cli_scripts.specs.Kept.{history_after};
 ghost use Rattle.pst_cli_sessions.specs.Storing.{IsLeft};
-ghost use Rattle.pst_cli_scripts.specs.Pieces.{state_after, AfterSome};
-ghost use Rattle.pst_cli_scripts.specs.Script.{by_tree, answer_of, next_of, script_of};
-ghost use Rattle.pst_cli_scripts.specs.Sessions.{HasTaken, StandForSome, OnEachHistory};
+ghost use Rattle.pst_cli_scripts.specs.Script.{by_tree, after_line};
+ghost use Rattle.pst_cli_scripts.specs.Sessions.{HasTaken, StandForSome, OnEachHistory, BreaksBetween};
 
 use pst_base::{NoMemory, Text};
 use pst_bench::bench_script;
@@ -78,9 +76,9 @@ fn sum_line<X: Session>(
     sum: i64,
 ) -> Result<i64, NoMemory>
     requires { StandForSome X.stands session.old held.old }
-    ensures sum { IfOk result (λ all. OnEachHistory X.stands session.old held.old (λ m h. all ≡ fold ◌+ℤ◌ sum (printed_by (answer_of X.rules m h (reading line.now))))) }
-    ensures stands { OnOk result (OnEachHistory X.stands session.old held.old (λ m h. X.stands session.new held.new m (next_of X.rules m h (reading line.now)))) }
-    ensures breaks { OnErr result (OnEachHistory X.stands session.old held.old (λ m h. X.breaks m held.new h ⊎ X.breaks m held.new (next_of X.rules m h (reading line.now)))) }
+    ensures sum { IfOk result (λ all. OnEachHistory X.stands session.old held.old (λ m h. all ≡ fold ◌+ℤ◌ sum (printed_at X.rules line.now m h))) }
+    ensures stands { OnOk result (OnEachHistory X.stands session.old held.old (λ m h. X.stands session.new held.new m (after_line X.rules line.now m h))) }
+    ensures breaks { OnErr result (OnEachHistory X.stands session.old held.old (BreaksBetween X.breaks held.new (after_line X.rules line.now))) }
 {
     let reply = reply_to(alloc, session, held, line)?;
     session.known(held);
@@ -99,8 +97,8 @@ fn sum_lines<X: Session>(
 ) -> Result<i64, NoMemory>
     requires { StandForSome X.stands session.old held.old }
     ensures sum { IfOk result (λ sum. OnEachHistory X.stands session.old held.old (λ m h. sum ≡ fold ◌+ℤ◌ (pos 0) (printed_from X.rules m h (lines_of text.now)))) }
-    ensures stands { OnOk result (OnEachHistory X.stands session.old held.old (λ m h. X.stands session.new held.new m (state_after (script_of X.rules m) h (lines_of text.now)))) }
-    ensures breaks { OnErr result (OnEachHistory X.stands session.old held.old (λ m h. AfterSome (script_of X.rules m) h (X.breaks m held.new) (lines_of text.now))) }
+    ensures stands { OnOk result (OnEachHistory X.stands session.old held.old (λ m h. X.stands session.new held.new m (after_lines X.rules (lines_of text.now) m h))) }
+    ensures breaks { OnErr result (OnEachHistory X.stands session.old held.old (BreaksAfterSome X.rules X.breaks held.new (lines_of text.now))) }
 {
     let mut sum = 0;
     let mut rest = text;
@@ -121,7 +119,7 @@ fn summary_text<O: Order + Drop, N: FatNodes>(
     store: &StoreOf<O, N>,
     sum: i64,
 ) -> Result<Text, NoMemory>
-    ensures { IfOk result (λ text. text ≡ summary (length (state_in store.now).versions) (text_of (answer.StatsAre (state_in store.now).counts)) (length (nodes_in store.now)) sum) }
+    ensures { let s = state_in store.now in IfOk result (λ text. text ≡ summary (length s.versions) (text_of (answer.StatsAre s.counts)) (length (nodes_in store.now)) sum) }
 {
     let versions = store.count();
     let nodes = store.nodes();

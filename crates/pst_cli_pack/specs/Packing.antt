@@ -17,7 +17,7 @@ use Rattle.pst_cli_scripts.specs.Script.{by_tree}
 use Rattle.pst_cli_scripts.specs.Kept.{Kept, history_after}
 use Rattle.pst_front.specs.Pages.{routines_in}
 use Rattle.pst_front.specs.Verdict.{Verdict, Accepted, Refused}
-use Rattle.pst_cli_serving.specs.Held.{kept_in}
+use Rattle.pst_cli_serving.specs.Held.{run_in}
 use Rattle.pst_cli_asking.specs.Asking.{GivesAll, StopsAsking, OverRow, Over}
 use Rattle.pst_image_form.specs.Bytes.{Fits, image_bytes}
 use Rattle.pst_image_rules.specs.Rules.{IsJudged}
@@ -60,8 +60,14 @@ Images k store m text (Ok image) a left b left' =
     (lines : List (List ℕ)) × GivesAll a left b left' lines × k.leaves m lines × IsImage store text m.shape (history_after by_tree m lines) image
 Images k store m text (Err s) a left b left' = StopsAsking k.untouched (k.leaves m) (k.breaks m) s a left b left'
 
+-- so it is for the store, as it was and is, and for a reader of lines and its source
+abbrev pub ImagesScript : {S : Type 0} → (old new : Option Stored) → Meaning → (text : List ℕ) → Result (List ℕ) Stop
+    → (left : S → Option (List ℕ)) → LinesState → S → LinesState → S → Type 0
+ImagesScript old new m text result left lines source lines' source' =
+    Images (run_in old new) new m text result lines.input (left source) lines'.input (left source')
+
 -- what comes of the text of a program, for the store, as it was and is, and for a reader of lines and its source
 abbrev pub PacksScript : {S : Type 0} → Status → (old new : Option Stored) → (left : S → Option (List ℕ)) → LinesState → S → LinesState → S → (text out : List ℕ) → Type 0
 PacksScript status old new left lines source lines' source' text out =
-    let k = kept_in old new Run in
+    let k = run_in old new in
     Over status k (PacksWhole k new) (PacksInPart k new) lines.input (left source) lines'.input (left source') text out

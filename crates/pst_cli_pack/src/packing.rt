@@ -1,7 +1,6 @@
 //! The script is carried out without its replies, and then the image of the store is written.
 
 ghost use Rattle.std.specs.Prelude.{◌≡◌, ◌≤◌, ◌+◌, ◌<◌, ◌^◌, IfOk, None, Err, length};
-ghost use Rattle.pst_cli_words.specs.declared.job.Job.{Job};
 ghost use Rattle.pst_io.specs.Causes.{Rose};
 ghost use Rattle.pst_io.specs.Input.{bytes_read};
 ghost use Rattle.pst_io.specs.Lines.{IsOpen};
@@ -12,9 +11,9 @@ ghost use Rattle.pst_history.specs.Direct.{meaning_of};
 ghost use Rattle.pst_cli_serving.specs.Rows.{HasRow};
 ghost use Rattle.pst_cli_scripts.specs.Sessions.{HasTaken, OnEachHistory, StandForSome};
 ghost use Rattle.pst_cli_scripts.specs.Reading.{IsNear};
-ghost use Rattle.pst_cli_serving.specs.Held.{kept_in};
+ghost use Rattle.pst_cli_serving.specs.Held.{run_in};
 ghost use Rattle.pst_store.specs.Whole.{state_in};
-ghost use Rattle.pst_cli_pack.specs.Packing.{Images, IsImage, PacksScript, PackRow};
+ghost use Rattle.pst_cli_pack.specs.Packing.{ImagesScript, IsImage, PacksScript, PackRow};
 
 use pst_base::{NoMemory, Text};
 use pst_cli_asking::carry_script;
@@ -63,7 +62,7 @@ fn image_of<S: Source, O: Walked + Drop, N: Listed>(
     requires open { IsOpen lines.old (S.left source.old) }
     requires near { IsNear lines.old.input }
     requires within_old { bytes_read lines.old.input ≤ MOST_INPUT }
-    ensures found { Images (kept_in store.old store.new Job.Run) store.new (meaning_of program) text.now result lines.old.input (S.left source.old) lines.new.input (S.left source.new) }
+    ensures found { ImagesScript store.old store.new (meaning_of program) text.now result S.left lines.old source.old lines.new source.new }
     ensures within { bytes_read lines.new.input ≤ MOST_INPUT }
     ensures later { S.faults source.old ≤ S.faults source.new }
     ensures read { result ≡ Err Stop.Read → Rose (S.faults source.old) (S.faults source.new) }
@@ -130,7 +129,7 @@ pub fn pack_input<S: Source, K: Sink, O: Walked + Drop, N: Listed>(
     store: &mut StoreOf<O, N>,
 ) -> Status
     requires empty { store.old ≡ None }
-    ensures packed { HasRow S.left source.old source.new K.taken sink.old sink.new (PackRow result (kept_in store.old store.new Job.Run) store.new) }
+    ensures packed { HasRow S.left source.old source.new K.taken sink.old sink.new (PackRow result (run_in store.old store.new) store.new) }
     ensures read { result ≡ Status.ReadFault → Rose (S.faults source.old) (S.faults source.new) }
     ensures write { result ≡ Status.WriteFault → Rose (K.faults sink.old) (K.faults sink.new) }
     ensures not_usage { result ≡ Status.Usage → ⊥ }

@@ -42,7 +42,7 @@ fn dump_of<H: VersionedHeap>(
     version: VersionNo,
 ) -> Result<Text, NoMemory>
     requires shape { (H.state heap.now).shape ≡ program.now.shape }
-    ensures { IfOk result (WhereThere (H.state heap.now) version (IsDump program.now.names (heap_from (H.state heap.now).heap (slice_get (H.state heap.now).versions version.0)))) }
+    ensures { let s = H.state heap.now in IfOk result (WhereThere s version (IsDump program.now.names (heap_from s.heap (slice_get s.versions version.0)))) }
 {
     heap.known_versions();
     match heap.place_of(version) {

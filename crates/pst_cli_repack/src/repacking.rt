@@ -1,6 +1,6 @@
 //! An image is taken, the script behind it is carried out, and the image of what is left is written.
 
-ghost use Rattle.std.specs.Prelude.{◌≡◌, ◌≤◌, ◌^◌, [], IfOk, IsSomeAnd, MatchResult, None, true, false};
+ghost use Rattle.std.specs.Prelude.{◌≡◌, ◌≤◌, ◌^◌, [], IfOk, MatchResult, None, true, false};
 ghost use Rattle.pst_io.specs.Causes.{Rose};
 ghost use Rattle.pst_io.specs.Text.{lines_of};
 ghost use Rattle.pst_program.specs.Sound.{CountsWithin};
@@ -9,9 +9,7 @@ ghost use Rattle.pst_program.specs.Typed.{IsTyped};
 ghost use Rattle.pst_store.specs.Whole.{queue_in};
 ghost use Rattle.pst_cli_scripts.specs.Sessions.{HasTaken, StandForSome, OnEachHistory};
 ghost use Rattle.pst_cli_serving.specs.Rows.{HasRow};
-ghost use Rattle.pst_image_form.specs.declared.parts.ImageParts.{ImageParts};
-ghost use Rattle.pst_image_store.specs.Made.{IsRebuilt};
-ghost use Rattle.pst_image_unpack.specs.Unpacked.{Tells};
+ghost use Rattle.pst_image_unpack.specs.Unpacked.{IsTaken};
 ghost use Rattle.pst_cli_resume.specs.Resuming.{resumed_in};
 ghost use Rattle.pst_cli_repack.specs.Repacking.{CarriesLines, RepackComes, RepackRow};
 ghost use Rattle.pst_cli_repack.specs.Left.{Lacks, Leaves, LeavesImage};
@@ -111,7 +109,7 @@ fn left_behind<O: Walked + Drop, N: Listed>(
     bytes: &[u8],
     store: &mut StoreOf<O, N>,
 ) -> Result<Left, NoMemory>
-    requires taken { (p : ImageParts) × Tells unpacked.program unpacked.text unpacked.next_run unpacked.budget unpacked.length bytes.now p × IsSomeAnd unpacked.store (IsRebuilt unpacked.program.shape p) }
+    requires taken { IsTaken unpacked.program unpacked.text unpacked.store unpacked.next_run unpacked.budget unpacked.length bytes.now }
     requires typed { IsTyped (routines_of unpacked.program) }
     requires rested { queue_in unpacked.store ≡ [] }
     ensures left { MatchResult result (λ left. Leaves (resumed_in store.old store.new) store.new left bytes.now) (λ _. Lacks (resumed_in store.old store.new) bytes.now) }
@@ -145,7 +143,7 @@ fn go_on<K: Sink, O: Walked + Drop, N: Listed>(
     sink: &mut K,
     store: &mut StoreOf<O, N>,
 ) -> Status
-    requires taken { (p : ImageParts) × Tells unpacked.program unpacked.text unpacked.next_run unpacked.budget unpacked.length bytes.now p × IsSomeAnd unpacked.store (IsRebuilt unpacked.program.shape p) }
+    requires taken { IsTaken unpacked.program unpacked.text unpacked.store unpacked.next_run unpacked.budget unpacked.length bytes.now }
     requires typed { IsTyped (routines_of unpacked.program) }
     requires rested { queue_in unpacked.store ≡ [] }
     ensures repacked { HasTaken K.taken sink.old sink.new (RepackComes store.new result (resumed_in store.old store.new) bytes.now) }

@@ -1,13 +1,11 @@
 //! An image is taken, and the script behind it is answered.
 
-ghost use Rattle.std.specs.Prelude.{◌≡◌, ◌≤◌, [], None, IfOk, IsSomeAnd, string_bytes};
+ghost use Rattle.std.specs.Prelude.{◌≡◌, ◌≤◌, [], None, IfOk, string_bytes};
 ghost use Rattle.pst_io.specs.Causes.{Rose};
 ghost use Rattle.pst_program.specs.View.{routines_of};
 ghost use Rattle.pst_program.specs.Typed.{IsTyped};
 ghost use Rattle.pst_store.specs.Whole.{queue_in};
-ghost use Rattle.pst_image_store.specs.Made.{IsRebuilt};
-ghost use Rattle.pst_image_unpack.specs.Unpacked.{Tells};
-ghost use Rattle.pst_image_form.specs.declared.parts.ImageParts.{ImageParts};
+ghost use Rattle.pst_image_unpack.specs.Unpacked.{IsTaken};
 ghost use Rattle.pst_cli_scripts.specs.Sessions.{HasTaken};
 ghost use Rattle.pst_cli_serving.specs.Rows.{HasRow};
 ghost use Rattle.pst_cli_resume.specs.Resuming.{Refuses, Resumes, ResumeRow, refusal_text, resumed_in};
@@ -58,7 +56,7 @@ fn go_on<K: Sink, O: Walked + Drop, N: Listed>(
     sink: &mut K,
     store: &mut StoreOf<O, N>,
 ) -> Status
-    requires taken { (p : ImageParts) × Tells unpacked.program unpacked.text unpacked.next_run unpacked.budget unpacked.length bytes.now p × IsSomeAnd unpacked.store (IsRebuilt unpacked.program.shape p) }
+    requires taken { IsTaken unpacked.program unpacked.text unpacked.store unpacked.next_run unpacked.budget unpacked.length bytes.now }
     requires typed { IsTyped (routines_of unpacked.program) }
     requires rested { queue_in unpacked.store ≡ [] }
     ensures resumed { HasTaken K.taken sink.old sink.new (Resumes result (resumed_in store.old store.new) bytes.now) }

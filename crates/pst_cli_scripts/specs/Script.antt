@@ -48,3 +48,10 @@ next_of rules m h (Err fault) = h
 -- the lines of a script, each answered on the history so far
 abbrev pub script_of : Rules → Meaning → Answering History
 script_of rules m = record { reply = λ h line. reply_of rules m h (reading line); next = λ h line. next_of rules m h (reading line) }
+
+-- the reply to a line, if it has one, and the history after it
+abbrev pub line_reply : Rules → List ℕ → Meaning → History → Option (List ℕ)
+line_reply rules line m h = (script_of rules m).reply h line
+
+abbrev pub after_line : Rules → List ℕ → Meaning → History → History
+after_line rules line m h = (script_of rules m).next h line

@@ -25,6 +25,10 @@ StandForSome stands session held = (m : Meaning) × (h : History) × stands sess
 abbrev pub OnEachHistory : {S T : Type 0} → (S → T → Meaning → History → Type 0) → S → T → (Meaning → History → Type 0) → Type 0
 OnEachHistory stands session held Holds = (m : Meaning) (h : History) → stands session held m h → Holds m h
 
+-- after want of memory between a history and the next one, what is held is that of the one or of the other
+abbrev pub BreaksBetween : {T : Type 0} → (breaks : Meaning → T → History → Type 0) → (held : T) → (next : Meaning → History → History) → Meaning → History → Type 0
+BreaksBetween breaks held next m h = breaks m held h ⊎ breaks m held (next m h)
+
 -- what was written of the reply to a line where it stopped
 abbrev pub StopsAtReply : Stop → Option (List ℕ) → List ℕ → Type 0
 StopsAtReply stop.Write reply out = (piece : List ℕ) × (reply ≡ Some piece) × IsPartOf piece out
@@ -49,6 +53,10 @@ HeldAtReply m leaves breaks stop.Memory a line = breaks a ⊎ breaks (m.next a l
 HeldAtReply m leaves breaks stop.Read a line = ⊥
 HeldAtReply m leaves breaks stop.TooLong a line = ⊥
 
+-- so it is on a history of a program for a session with these rules
+abbrev pub HeldAtLine : {T : Type 0} → Rules → (leaves breaks : Meaning → T → History → Type 0) → (held : T) → Stop → List ℕ → Meaning → History → Type 0
+HeldAtLine rules leaves breaks held s line m h = HeldAtReply (script_of rules m) (leaves m held) (breaks m held) s h line
+
 -- Where answering the lines of a script stopped, which were handed out, what was written, and what is held: all replies where
 -- it stopped at a read, and elsewhere none or a part of the reply to the last line, with less than one read held beyond that line.
 abbrev pub StopsAnswering : {A : Type 0} → Answering A → A → (leaves breaks : A → Type 0) → Stop → InputState → Option (List ℕ) → InputState → Option (List ℕ)
@@ -70,12 +78,13 @@ Answers m h leaves breaks (Ok done) a left b left' out =
     (lines : List (List ℕ)) × Gives a left b left' lines × IsOver b × IsAtEnd left' × IsAll (pieces_from m h lines) out × leaves (state_after m h lines)
 Answers m h leaves breaks (Err s) a left b left' out = (lines : List (List ℕ)) × StopsAnswering m h leaves breaks s a left b left' lines out
 
--- so it is on a history of a program for a session with these rules and for what it holds then; for a reader of lines and its
--- source, as they were and are; and for a sink, as it was and is
-abbrev pub AnswersScript : {T U S K : Type 0} → Rules → (leaves breaks : Meaning → T → History → Type 0) → (held : T) → Result U Stop
-    → (left : S → Option (List ℕ)) → LinesState → S → LinesState → S → (taken : K → Option (List ℕ)) → (old new : K) → Meaning → History → Type 0
-AnswersScript rules leaves breaks held result left lines source lines' source' taken old new m h =
-    HasTaken taken old new (Answers (script_of rules m) h (leaves m held) (breaks m held) result lines.input (left source) lines'.input (left source'))
+-- so it is on each history that a session with these rules stands for, as it was, and for what it holds, as it was and is; for a reader
+-- of lines and its source, as they were and are; and for a sink, as it was and is
+abbrev pub AnswersRest : {A T U S K : Type 0} → Rules → (stands : A → T → Meaning → History → Type 0) → (leaves breaks : Meaning → T → History → Type 0) → (session : A) → (held held' : T)
+    → Result U Stop → (left : S → Option (List ℕ)) → LinesState → S → LinesState → S → (taken : K → Option (List ℕ)) → (old new : K) → Type 0
+AnswersRest rules stands leaves breaks session held held' result left lines source lines' source' taken old new =
+    OnEachHistory stands session held (λ m h.
+    HasTaken taken old new (Answers (script_of rules m) h (leaves m held') (breaks m held') result lines.input (left source) lines'.input (left source')))
 
 -- ---- the lines of a text, of which nothing is read
 

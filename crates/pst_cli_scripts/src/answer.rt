@@ -1,12 +1,12 @@
 //! The reply to a line of a script.
 
-ghost use Rattle.std.specs.Prelude.{◌≡◌, ◌≤◌, ◌⊎◌, Some, IfOk, IfErr, OnOk, OnErr, MatchResult};
+ghost use Rattle.std.specs.Prelude.{◌≡◌, ◌≤◌, Some, IfOk, IfErr, OnOk, OnErr, MatchResult};
 ghost use Rattle.std.specs.Option.{option_map};
 ghost use Rattle.pst_io.specs.Causes.{Rose};
 ghost use Rattle.pst_script.specs.Commands.{reading};
 ghost use Rattle.pst_script.specs.Texts.{text_of};
-ghost use Rattle.pst_cli_scripts.specs.Script.{script_of, answer_of, next_of};
-ghost use Rattle.pst_cli_scripts.specs.Sessions.{HasTaken, StandForSome, OnEachHistory, StopsAtReply, HeldAtReply, IsSaid, made_piece};
+ghost use Rattle.pst_cli_scripts.specs.Script.{answer_of, line_reply, after_line};
+ghost use Rattle.pst_cli_scripts.specs.Sessions.{HasTaken, StandForSome, OnEachHistory, BreaksBetween, StopsAtReply, HeldAtLine, IsSaid, made_piece};
 
 use crate::session::Session;
 use crate::stop::Stop;
@@ -37,8 +37,8 @@ pub fn reply_to<X: Session>(
     requires { StandForSome X.stands session.old held.old }
     ensures about { X.about session.new ≡ X.about session.old }
     ensures reply { IfOk result (λ reply. OnEachHistory X.stands session.old held.old (λ m h. reply ≡ answer_of X.rules m h (reading line.now))) }
-    ensures stands { OnOk result (OnEachHistory X.stands session.old held.old (λ m h. X.stands session.new held.new m (next_of X.rules m h (reading line.now)))) }
-    ensures breaks { OnErr result (OnEachHistory X.stands session.old held.old (λ m h. X.breaks m held.new h ⊎ X.breaks m held.new (next_of X.rules m h (reading line.now)))) }
+    ensures stands { OnOk result (OnEachHistory X.stands session.old held.old (λ m h. X.stands session.new held.new m (after_line X.rules line.now m h))) }
+    ensures breaks { OnErr result (OnEachHistory X.stands session.old held.old (BreaksBetween X.breaks held.new (after_line X.rules line.now))) }
 {
     match read_line(alloc, line) {
         Ok(None) => Ok(None),
@@ -75,9 +75,9 @@ fn put_piece<X: Session>(
     text: &mut Vec<u8>,
 ) -> Result<bool, NoMemory>
     requires { StandForSome X.stands session.old held.old }
-    ensures piece { IfOk result (λ there. OnEachHistory X.stands session.old held.old (λ m h. made_piece there text.new.items ≡ (script_of X.rules m).reply h line.now)) }
-    ensures stands { OnOk result (OnEachHistory X.stands session.old held.old (λ m h. X.stands session.new held.new m ((script_of X.rules m).next h line.now))) }
-    ensures breaks { OnErr result (OnEachHistory X.stands session.old held.old (λ m h. X.breaks m held.new h ⊎ X.breaks m held.new ((script_of X.rules m).next h line.now))) }
+    ensures piece { IfOk result (λ there. OnEachHistory X.stands session.old held.old (λ m h. made_piece there text.new.items ≡ line_reply X.rules line.now m h)) }
+    ensures stands { OnOk result (OnEachHistory X.stands session.old held.old (λ m h. X.stands session.new held.new m (after_line X.rules line.now m h))) }
+    ensures breaks { OnErr result (OnEachHistory X.stands session.old held.old (BreaksBetween X.breaks held.new (after_line X.rules line.now))) }
 {
     let reply = reply_to(alloc, session, held, line)?;
     session.known(held);
@@ -94,9 +94,9 @@ pub(crate) fn answer_line<X: Session, K: Sink>(
     text: &mut Vec<u8>,
 ) -> Result<(), Stop>
     requires { StandForSome X.stands session.old held.old }
-    ensures answered { OnEachHistory X.stands session.old held.old (λ m h. HasTaken K.taken sink.old sink.new (IsSaid result ((script_of X.rules m).reply h line.now))) }
-    ensures stands { OnOk result (OnEachHistory X.stands session.old held.old (λ m h. X.stands session.new held.new m ((script_of X.rules m).next h line.now))) }
-    ensures held { IfErr result (λ stop. OnEachHistory X.stands session.old held.old (λ m h. HeldAtReply (script_of X.rules m) (X.leaves m held.new) (X.breaks m held.new) stop h line.now)) }
+    ensures answered { OnEachHistory X.stands session.old held.old (λ m h. HasTaken K.taken sink.old sink.new (IsSaid result (line_reply X.rules line.now m h))) }
+    ensures stands { OnOk result (OnEachHistory X.stands session.old held.old (λ m h. X.stands session.new held.new m (after_line X.rules line.now m h))) }
+    ensures held { IfErr result (λ stop. OnEachHistory X.stands session.old held.old (HeldAtLine X.rules X.leaves X.breaks held.new stop line.now)) }
     ensures later { K.faults sink.old ≤ K.faults sink.new }
     ensures write { result ≡ Err Stop.Write → Rose (K.faults sink.old) (K.faults sink.new) }
 {

@@ -4,7 +4,7 @@ ghost use Rattle.std.specs.Prelude.{◌≡◌, ◌≤◌, Err};
 ghost use Rattle.pst_io.specs.Causes.{Rose};
 ghost use Rattle.pst_io.specs.Input.{bytes_read};
 ghost use Rattle.pst_io.specs.Lines.{IsOpen};
-ghost use Rattle.pst_cli_scripts.specs.Sessions.{Answers, StandForSome, OnEachHistory, AnswersScript};
+ghost use Rattle.pst_cli_scripts.specs.Sessions.{StandForSome, AnswersRest};
 ghost use Rattle.pst_cli_scripts.specs.Reading.{IsNear};
 
 use crate::answer::answer_line;
@@ -26,7 +26,7 @@ pub fn answer_script<X: Session, S: Source, K: Sink>(
     requires open { IsOpen lines.old (S.left source.old) }
     requires near { IsNear lines.old.input }
 
-    ensures answered { OnEachHistory X.stands session.old held.old (AnswersScript X.rules X.leaves X.breaks held.new result S.left lines.old source.old lines.new source.new K.taken sink.old sink.new) }
+    ensures answered { AnswersRest X.rules X.stands X.leaves X.breaks session.old held.old held.new result S.left lines.old source.old lines.new source.new K.taken sink.old sink.new }
     ensures within { bytes_read lines.new.input ≤ MOST_INPUT }
 
     ensures later { S.faults source.old ≤ S.faults source.new }

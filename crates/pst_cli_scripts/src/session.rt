@@ -1,6 +1,6 @@
 //! What answers the commands of a script.
 
-ghost use Rattle.std.specs.Prelude.{◌≡◌, ◌⊎◌, true, IfOk, OnOk, OnErr};
+ghost use Rattle.std.specs.Prelude.{◌≡◌, true, IfOk, OnOk, OnErr};
 ghost use Rattle.pst_program.specs.declared.program.Program.{Program};
 ghost use Rattle.pst_program.specs.View.{routines_of};
 ghost use Rattle.pst_program.specs.Typed.{IsTyped};
@@ -10,7 +10,7 @@ ghost use Rattle.pst_history.specs.History.{History};
 ghost use Rattle.pst_history.specs.Direct.{meaning_of};
 ghost use Rattle.pst_cli_scripts.specs.Script.{Rules};
 ghost use Rattle.pst_cli_scripts.specs.Kept.{first_history};
-ghost use Rattle.pst_cli_scripts.specs.Sessions.{StandForSome};
+ghost use Rattle.pst_cli_scripts.specs.Sessions.{StandForSome, OnEachHistory, BreaksBetween};
 
 use pst_base::NoMemory;
 use pst_program::Program;
@@ -70,7 +70,7 @@ pub trait Session: Drop {
         requires stands { StandForSome stands self.old held.old }
         requires range { in_range command.now ≡ true }
         ensures about { about self.new ≡ about self.old }
-        ensures answer { IfOk result (λ r. (m : Meaning) (h : History) → stands self.old held.old m h → r ≡ rules.reply m h command.now) }
-        ensures stands { OnOk result ((m : Meaning) (h : History) → stands self.old held.old m h → stands self.new held.new m (rules.after m h command.now)) }
-        ensures breaks { OnErr result ((m : Meaning) (h : History) → stands self.old held.old m h → breaks m held.new h ⊎ breaks m held.new (rules.after m h command.now)) };
+        ensures answer { IfOk result (λ r. OnEachHistory stands self.old held.old (λ m h. r ≡ rules.reply m h command.now)) }
+        ensures stands { OnOk result (OnEachHistory stands self.old held.old (λ m h. stands self.new held.new m (rules.after m h command.now))) }
+        ensures breaks { OnErr result (OnEachHistory stands self.old held.old (BreaksBetween breaks held.new (λ m h. rules.after m h command.now))) };
 }

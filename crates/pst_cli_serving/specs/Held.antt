@@ -14,3 +14,7 @@ kept_in old new Replay = still (new ≡ old)
 kept_in old new Line = still (new ≡ old)
 kept_in old new Check = still (new ≡ old)
 kept_in old new Code = still (new ≡ old)
+
+-- what `run` leaves it in
+abbrev pub run_in : (old new : Option Stored) → Kept
+run_in old new = kept_in old new Run

@@ -1,5 +1,6 @@
 -- The table of statuses: what was read of the input, what was written, and what is held in the end.
-use Rattle.std.specs.Prelude.{◌≡◌, ℕ, ◌+◌, ◌<◌, ◌≤◌, ◌⊎◌, min, List, [], ◌++◌, length, take, drop, Option, Some, None, IfSome, IsSome}
+use Rattle.std.specs.Prelude.{◌≡◌, ℕ, ◌+◌, ◌<◌, ◌≤◌, ◌⊎◌, min, List, [], ◌++◌, length, take, drop, Option, Some, None, IfSome, IsSome, String}
+use Rattle.std.specs.declared.alloc.Global.{Global}
 use Rattle.pst_io.specs.declared.room.TheConstants.{MOST_INPUT, MOST_READ}
 use Rattle.pst_io.specs.Causes.{Rose}
 use Rattle.pst_io.specs.Text.{whole_lines}
@@ -7,6 +8,7 @@ use Rattle.pst_cli_words.specs.declared.job.Job.{Job}
 use Rattle.pst_cli_words.specs.declared.job.Job.TheVariants.{Run, Replay, Line, Check, Code}
 use Rattle.pst_cli_words.specs.declared.job.Task.{Task}
 use Rattle.pst_cli_words.specs.declared.job.Task.TheVariants.{Input, Bench, Ask, Pack, Resume, Repack}
+use Rattle.pst_cli_words.specs.Jobs.{OnJob}
 use Rattle.pst_front.specs.declared.page.Page.{Page}
 use Rattle.pst_front.specs.declared.page.Page.TheVariants.{Canonical, Listing}
 use Rattle.pst_cli_words.specs.declared.status.Status.{Status}
@@ -124,9 +126,18 @@ Row Usage k job input left out = ⊥
 abbrev pub HasRow : {S K : Type 0} → (left : S → Option (List ℕ)) → (source source' : S) → (taken : K → Option (List ℕ)) → (sink sink' : K) → (row : List ℕ → Option (List ℕ) → List ℕ → Type 0) → Type 0
 HasRow left source source' taken sink sink' row = IfSome (left source) (λ input. HasTaken taken sink sink' (row input (left source')))
 
+-- where the words ask for a job, its row holds, by what each job leaves
+abbrev pub ServesJob : {S K : Type 0} → List (String Global) → (left : S → Option (List ℕ)) → (source source' : S) → (taken : K → Option (List ℕ)) → (sink sink' : K) → Status → (Job → Kept) → Type 0
+ServesJob words left source source' taken sink sink' status kept =
+    OnJob words (λ job. HasRow left source source' taken sink sink' (Row status (kept job) job))
+
 -- the count of faults of a source or sink did not rise
 abbrev pub NoFault : {T : Type 0} → (faults : T → ℕ) → (old new : T) → Type 0
 NoFault faults old new = Rose (faults old) (faults new) → ⊥
+
+-- this holds where neither the source nor the sink failed
+abbrev pub UnlessFailed : {S K : Type 0} → (of_source : S → ℕ) → (source source' : S) → (of_sink : K → ℕ) → (sink sink' : K) → Type 0 → Type 0
+UnlessFailed of_source source source' of_sink sink sink' Holds = NoFault of_source source source' → NoFault of_sink sink sink' → Holds
 
 -- how a call ends in which neither the source nor the sink failed, and the input was not too long
 abbrev pub IsComplete : Status → Type 0
@@ -148,3 +159,8 @@ IsServable (Some (Ask question)) input = IsWithin Run input
 IsServable (Some Pack) input = IsWithin Run input
 IsServable (Some Resume) input = length input ≤ MOST_INPUT
 IsServable (Some Repack) input = length input ≤ MOST_INPUT
+
+-- where the source tells its bytes, a call that needs no more of them than may be read is complete, unless the source or the sink failed
+abbrev pub Completes : {S K : Type 0} → (left : S → Option (List ℕ)) → (of_source : S → ℕ) → (source source' : S) → (of_sink : K → ℕ) → (sink sink' : K) → Option Task → Status → Type 0
+Completes left of_source source source' of_sink sink sink' task status =
+    IfSome (left source) (λ input. IsServable task input → UnlessFailed of_source source source' of_sink sink sink' (IsComplete status))

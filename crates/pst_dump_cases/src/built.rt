@@ -37,28 +37,21 @@ pub(crate) const ROOT: Reference = Reference {
 /// Why a test comes to no answer.
 #[derive(Clone, Copy, Debug, PartialEq, Eq)]
 pub(crate) enum Trouble {
-    /// The shape is not valid.
-    Shape,
     /// What a call needs does not hold.
     Misfit,
-    /// A record is held too often.
-    InDegree,
-    /// Memory ran out.
-    Memory,
+    /// The heap refused a call.
+    Refused(StoreFault),
 }
 
 impl From<NoMemory> for Trouble {
     fn from(_error: NoMemory) -> Trouble {
-        Trouble::Memory
+        Trouble::Refused(StoreFault::Memory)
     }
 }
 
 impl From<StoreFault> for Trouble {
     fn from(fault: StoreFault) -> Trouble {
-        match fault {
-            StoreFault::InDegree => Trouble::InDegree,
-            StoreFault::Memory => Trouble::Memory,
-        }
+        Trouble::Refused(fault)
     }
 }
 
@@ -93,7 +86,7 @@ fn shape(alloc: Global) -> Result<Shape, NoMemory> {
 fn start(alloc: Global) -> Result<Forest, Trouble> {
     let shape = shape(alloc)?;
     if !shape.is_valid() {
-        return Err(Trouble::Shape);
+        return Err(Trouble::Misfit);
     }
     Ok(Forest::start(alloc, &shape)?)
 }

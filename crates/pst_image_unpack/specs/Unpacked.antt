@@ -1,5 +1,5 @@
 -- When bytes begin with an image that keeps all rules, and which rule fails first where they don't.
-use Rattle.std.specs.Prelude.{◌≡◌, ℕ, ◌<◌, ◌⊎◌, List, length, None}
+use Rattle.std.specs.Prelude.{◌≡◌, ℕ, ◌<◌, ◌⊎◌, List, length, Option, None, IsSomeAnd}
 use Rattle.pst_base.specs.declared.names.RunNo.{RunNo}
 use Rattle.pst_program.specs.declared.program.Program.{Program}
 use Rattle.pst_typing.specs.View.{program_of}
@@ -12,6 +12,8 @@ use Rattle.pst_image_form.specs.Bytes.{HasForm}
 use Rattle.pst_image_rules.specs.declared.rule.Rule.{Rule}
 use Rattle.pst_image_rules.specs.declared.rule.Rule.TheVariants.{Form, Text, Ranges, Versions, Nodes, Chains, Pointers, Entries, Capacity, Bound}
 use Rattle.pst_image_rules.specs.Rules.{IsJudged, IsFirstFailed}
+use Rattle.pst_store_meaning.specs.Store.{Stored}
+use Rattle.pst_image_store.specs.Made.{IsRebuilt}
 
 -- the text of an accepted program in its canonical form, of fewer than 4,294,967,295 bytes
 pub record IsOwnText (text : List ℕ) (named : NamedProgram) : Type 0 where
@@ -32,6 +34,11 @@ pub record Tells (program : Program) (text : List ℕ) (next_run : RunNo) (budge
   pub text_is : text ≡ p.text
   pub next_run_is : next_run ≡ p.next_run
   pub budget_is : budget ≡ p.budget
+
+-- so they do, and the store is the one that the image tells of
+abbrev pub IsTaken : Program → (text : List ℕ) → Option Stored → RunNo → (budget len : ℕ) → (bytes : List ℕ) → Type 0
+IsTaken program text store next_run budget len bytes =
+    (p : ImageParts) × Tells program text next_run budget len bytes p × IsSomeAnd store (IsRebuilt program.shape p)
 
 -- the text of these parts is its own, and this is the first rule that fails
 pub record FailsLater (p : ImageParts) (rule : Rule) : Type 0 where

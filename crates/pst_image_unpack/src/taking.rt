@@ -1,6 +1,6 @@
 //! Images taken.
 
-ghost use Rattle.std.specs.Prelude.{◌≡◌, ℕ, ◌<◌, ◌^◌, [], Err, IfOk, IfSome, IsSomeAnd, MatchOption, None, length, true, false};
+ghost use Rattle.std.specs.Prelude.{◌≡◌, ◌<◌, ◌^◌, [], Err, IfOk, IfSome, MatchOption, None, length, true, false};
 ghost use Rattle.pst_store.specs.Whole.{queue_in};
 ghost use Rattle.pst_program.specs.View.{routines_of};
 ghost use Rattle.pst_program.specs.Typed.{IsTyped};
@@ -10,9 +10,8 @@ ghost use Rattle.pst_image_form.specs.declared.parts.ImageParts.{ImageParts};
 ghost use Rattle.pst_image_form.specs.Bytes.{HasForm};
 ghost use Rattle.pst_image_rules.specs.declared.rule.Rule.{Rule};
 ghost use Rattle.pst_image_rules.specs.Rules.{IsJudged};
-ghost use Rattle.pst_image_store.specs.Made.{IsRebuilt};
 ghost use Rattle.pst_image_unpack.specs.declared.fault.ImageFault.TheVariants.{Bad};
-ghost use Rattle.pst_image_unpack.specs.Unpacked.{IsOwnText, IsAccepted, Tells, FailsIn, FailsFirst};
+ghost use Rattle.pst_image_unpack.specs.Unpacked.{IsOwnText, IsTaken, FailsIn, FailsFirst};
 
 use crate::fault::ImageFault;
 use pst_base::{NoMemory, RunNo, Text};
@@ -108,7 +107,7 @@ pub fn unpack<O: Walked + Drop, N: Listed>(
     alloc: Global,
     bytes: &[u8],
 ) -> Result<Unpacked<O, N>, ImageFault>
-    ensures taken { IfOk result (λ u. (p : ImageParts) × Tells u.program u.text u.next_run u.budget u.length bytes.now p × IsSomeAnd u.store (IsRebuilt u.program.shape p)) }
+    ensures taken { IfOk result (λ u. IsTaken u.program u.text u.store u.next_run u.budget u.length bytes.now) }
     ensures typed { IfOk result (λ u. IsTyped (routines_of u.program)) }
     ensures rested { IfOk result (λ u. queue_in u.store ≡ []) }
     ensures bad { (rule : Rule) → result ≡ Err (Bad rule) → FailsFirst bytes.now rule }
