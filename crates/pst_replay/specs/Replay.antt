@@ -76,8 +76,8 @@ abbrev pub reply_for : Program → NumberedHistory → Command → Reply
 reply_for program k c = answered (meaning_of program) (kept_for program k) c
 
 -- the history after it
-abbrev pub history_after : Program → NumberedHistory → Command → History
-history_after program k c = changed (meaning_of program) (kept_for program k) c
+abbrev pub changed_for : Program → NumberedHistory → Command → History
+changed_for program k c = changed (meaning_of program) (kept_for program k) c
 
 -- a version more, where the run with a number ended so that it makes one on this parent, and nothing else
 abbrev pub Finishes : (run : ℕ) → (parent : VersionNo) → Ended → (old new : Since) → Type 0

@@ -10,7 +10,7 @@ ghost use Rattle.pst_base.specs.Counts.{counts_plus};
 ghost use Rattle.pst_history.specs.History.{run_at, run_counts, counts_of, queried};
 ghost use Rattle.pst_history.specs.Sound.{IsSoundHistory};
 ghost use Rattle.pst_history.specs.Direct.{meaning_of};
-ghost use Rattle.pst_replay.specs.Replay.{IsNumbered, kept_for, Accepts, reply_for, history_after};
+ghost use Rattle.pst_replay.specs.Replay.{IsNumbered, kept_for, Accepts, reply_for, changed_for};
 
 use crate::history::NumberedHistory;
 use crate::path::{outcome_under, worked};
@@ -129,7 +129,7 @@ pub(crate) fn answer(
     requires numbered { IsNumbered program.now history.old }
     requires accepted { Accepts program.now history.old command.now }
     ensures reply { IfOk result (λ r. r ≡ reply_for program.now history.old command.now) }
-    ensures changed { OnOk result (kept_for program.now history.new ≡ history_after program.now history.old command.now) }
+    ensures changed { OnOk result (kept_for program.now history.new ≡ changed_for program.now history.old command.now) }
     ensures numbered { OnOk result (IsNumbered program.now history.new) }
 {
     match command {

@@ -9,7 +9,7 @@ ghost use Rattle.pst_history.specs.History.{run_at, is_open_run, ended};
 ghost use Rattle.pst_history.specs.Sound.{IsSoundHistory};
 ghost use Rattle.pst_history.specs.Direct.{meaning_of};
 ghost use Rattle.pst_history.specs.Since.{Opens};
-ghost use Rattle.pst_replay.specs.Replay.{IsNumbered, TellsProgress, kept_for, Accepts, reply_for, history_after, Finishes};
+ghost use Rattle.pst_replay.specs.Replay.{IsNumbered, TellsProgress, kept_for, Accepts, reply_for, changed_for, Finishes};
 ghost use Rattle.pst_history.specs.declared.history.TheConstants.{RUNS};
 
 use crate::history::NumberedHistory;
@@ -76,7 +76,7 @@ pub(crate) fn step(
     requires numbered { IsNumbered program.now history.old }
     requires accepted { Accepts program.now history.old (command.StepRun number charges) }
     ensures reply { IfOk result (λ r. r ≡ reply_for program.now history.old (command.StepRun number charges)) }
-    ensures changed { OnOk result (kept_for program.now history.new ≡ history_after program.now history.old (command.StepRun number charges)) }
+    ensures changed { OnOk result (kept_for program.now history.new ≡ changed_for program.now history.old (command.StepRun number charges)) }
     ensures numbered { OnOk result (IsNumbered program.now history.new) }
 {
     grant(&mut history.since, number, charges);
@@ -97,7 +97,7 @@ pub(crate) fn call(
     requires numbered { IsNumbered program.now history.old }
     requires accepted { Accepts program.now history.old (command.CallRun number procedure.now arguments.now) }
     ensures reply { IfOk result (λ r. r ≡ reply_for program.now history.old (command.CallRun number procedure.now arguments.now)) }
-    ensures changed { OnOk result (kept_for program.now history.new ≡ history_after program.now history.old (command.CallRun number procedure.now arguments.now)) }
+    ensures changed { OnOk result (kept_for program.now history.new ≡ changed_for program.now history.old (command.CallRun number procedure.now arguments.now)) }
     ensures numbered { OnOk result (IsNumbered program.now history.new) }
 {
     history.add(program, number, named_call(procedure, arguments)?)?;
@@ -145,7 +145,7 @@ pub(crate) fn close(
     requires numbered { IsNumbered program.now history.old }
     requires open { IsTrue (is_open_run (run_at (kept_for program.now history.old) number.0)) }
     ensures reply { IfOk result (λ r. r ≡ reply_for program.now history.old (command.CloseRun number)) }
-    ensures closed { OnOk result (kept_for program.now history.new ≡ history_after program.now history.old (command.CloseRun number)) }
+    ensures closed { OnOk result (kept_for program.now history.new ≡ changed_for program.now history.old (command.CloseRun number)) }
     ensures numbered { OnOk result (IsNumbered program.now history.new) }
 {
     shut(&mut history.since, number);
@@ -166,7 +166,7 @@ pub(crate) fn run(
     requires numbered { IsNumbered program.now history.old }
     requires accepted { Accepts program.now history.old (command.Run call.now) }
     ensures reply { IfOk result (λ r. r ≡ reply_for program.now history.old (command.Run call.now)) }
-    ensures changed { OnOk result (kept_for program.now history.new ≡ history_after program.now history.old (command.Run call.now)) }
+    ensures changed { OnOk result (kept_for program.now history.new ≡ changed_for program.now history.old (command.Run call.now)) }
     ensures numbered { OnOk result (IsNumbered program.now history.new) }
 {
     let number = next_number(&history.since);
