@@ -1,13 +1,12 @@
 //! The code of blocks, and of the statements that hold some. A nested block is made as a list of its own, since the jumps
 //! around it say where it ends.
 
-ghost use Rattle.std.specs.Prelude.{◌≡◌, ◌+◌, ◌++◌, length, IfOk, OnOk};
+ghost use Rattle.std.specs.Prelude.{◌≡◌, ◌+◌, length, IfOk, OnOk};
 ghost use Rattle.pst_program.specs.Syntax.{If, Either, While};
 ghost use Rattle.pst_program.specs.View.{expr_of, action_of, actions_of};
-ghost use Rattle.pst_translation.specs.Code.{block_code};
-ghost use Rattle.pst_translation.specs.Needs.{temp_of};
 ghost use Rattle.pst_codegen_registers.specs.Ready.{HasNoted, IsTest, IsReady, AreReady};
-ghost use Rattle.pst_codegen_statements.specs.Made.{code_by};
+ghost use Rattle.pst_codegen_expressions.specs.Emitted.{Emits};
+ghost use Rattle.pst_codegen_statements.specs.Made.{code_by, block_by};
 
 use pst_base::NoMemory;
 use pst_code::{Instr, Reg};
@@ -38,7 +37,7 @@ pub fn emit_block(
     at: u32,
 ) -> Result<Vec<Instr>, NoMemory>
     requires { AreReady layout.now.shape.now (HasNoted layout.now.table) (actions_of block.now) }
-    ensures { IfOk result (λ code. code.items ≡ block_code layout.now.shape.now (temp_of layout.now.locals layout.now.table) (actions_of block.now) at) }
+    ensures { IfOk result (λ code. code.items ≡ block_by layout.now (actions_of block.now) at) }
 {
     let mut code = Vec::new(alloc);
     for statement in &block.items {
@@ -58,7 +57,7 @@ fn emit_statement(
     at: u32,
 ) -> Result<(), NoMemory>
     requires { IsReady layout.now.shape.now (HasNoted layout.now.table) (action_of statement.now.form) }
-    ensures { OnOk result (code.new.items ≡ code.old.items ++ code_by layout.now (action_of statement.now.form) statement.now.line at) }
+    ensures { OnOk result (Emits code.old code.new (code_by layout.now (action_of statement.now.form) statement.now.line at)) }
 {
     let line = statement.line;
     match &statement.form {
@@ -110,7 +109,7 @@ fn emit_if(
 ) -> Result<(), NoMemory>
     requires condition { IsTest layout.now.shape.now (HasNoted layout.now.table) (expr_of condition.now) }
     requires yes { AreReady layout.now.shape.now (HasNoted layout.now.table) (actions_of yes.now) }
-    ensures { OnOk result (code.new.items ≡ code.old.items ++ code_by layout.now (If (expr_of condition.now) (actions_of yes.now)) line at) }
+    ensures { OnOk result (Emits code.old code.new (code_by layout.now (If (expr_of condition.now) (actions_of yes.now)) line at)) }
 {
     let test = after(at, 1)?;
     let start = after(test, test_len(layout, condition)?)?;
@@ -134,7 +133,7 @@ fn emit_either(
     requires condition { IsTest layout.now.shape.now (HasNoted layout.now.table) (expr_of condition.now) }
     requires yes { AreReady layout.now.shape.now (HasNoted layout.now.table) (actions_of yes.now) }
     requires no { AreReady layout.now.shape.now (HasNoted layout.now.table) (actions_of no.now) }
-    ensures { OnOk result (code.new.items ≡ code.old.items ++ code_by layout.now (Either (expr_of condition.now) (actions_of yes.now) (actions_of no.now)) line at) }
+    ensures { OnOk result (Emits code.old code.new (code_by layout.now (Either (expr_of condition.now) (actions_of yes.now) (actions_of no.now)) line at)) }
 {
     let test = after(at, 1)?;
     let start = after(test, test_len(layout, condition)?)?;
@@ -160,7 +159,7 @@ fn emit_while(
 ) -> Result<(), NoMemory>
     requires condition { IsTest layout.now.shape.now (HasNoted layout.now.table) (expr_of condition.now) }
     requires body { AreReady layout.now.shape.now (HasNoted layout.now.table) (actions_of body.now) }
-    ensures { OnOk result (code.new.items ≡ code.old.items ++ code_by layout.now (While (expr_of condition.now) (actions_of body.now)) line at) }
+    ensures { OnOk result (Emits code.old code.new (code_by layout.now (While (expr_of condition.now) (actions_of body.now)) line at)) }
 {
     let test = after(at, 1)?;
     let start = after(test, test_len(layout, condition)?)?;

@@ -1,11 +1,11 @@
 //! The code of conditions. A condition is a jump to where it does not hold, or to where it holds, and no value is made.
 
-ghost use Rattle.std.specs.Prelude.{◌≡◌, ◌+◌, ◌++◌, true, length, IfOk, OnOk};
+ghost use Rattle.std.specs.Prelude.{◌≡◌, ◌+◌, true, length, IfOk, OnOk};
 ghost use Rattle.pst_program.specs.View.{expr_of};
-ghost use Rattle.pst_translation.specs.Code.{reg, arithmetic, opposite, jump_of, compare_code, test_size, test_code};
-ghost use Rattle.pst_translation.specs.Needs.{temp_of};
+ghost use Rattle.pst_translation.specs.Code.{reg, arithmetic, opposite, jump_of, compare_code};
 ghost use Rattle.pst_codegen_registers.specs.Ready.{HasNoted, IsOperand, IsTest};
-ghost use Rattle.pst_codegen_expressions.specs.Sizes.{expr_size, comparison_code};
+ghost use Rattle.pst_codegen_expressions.specs.Emitted.{Emits, comparison_code, condition_size, condition_code};
+ghost use Rattle.pst_codegen_expressions.specs.Sizes.{expr_size};
 
 use crate::expressions::{emit_expr, put};
 use crate::layout::Layout;
@@ -70,7 +70,7 @@ fn compare_len(op: Op) -> u32
 /// How many instructions a condition takes.
 #[tactic(auto, using(crate::proofs::Lengths::expr_length))]
 pub fn test_len(layout: &Layout<'_>, e: &Typed) -> Result<u32, NoMemory>
-    ensures { IfOk result (λ n. n ≡ test_size layout.now.shape.now (temp_of layout.now.locals layout.now.table) (expr_of e.now)) }
+    ensures { IfOk result (λ n. n ≡ condition_size layout.now (expr_of e.now)) }
 {
     match e {
         Typed::Parens(inner) | Typed::Not(inner) => test_len(layout, inner),
@@ -118,7 +118,7 @@ fn opposite(op: Op) -> Op
 
 /// Adds the jump of a comparison.
 fn put_jump(code: &mut Vec<Instr>, op: Op, a: Reg, b: Reg, to: u32) -> Result<(), NoMemory>
-    ensures { OnOk result (code.new.items ≡ code.old.items ++ jump_of op a b to) }
+    ensures { OnOk result (Emits code.old code.new (jump_of op a b to)) }
 {
     match op {
         Op::Equal => put(code, Instr::Jumpeq(a, b, to)),
@@ -140,7 +140,7 @@ fn emit_compare(
     b: Reg,
     to: u32,
 ) -> Result<(), NoMemory>
-    ensures { OnOk result (code.new.items ≡ code.old.items ++ compare_code op want a b to) }
+    ensures { OnOk result (Emits code.old code.new (compare_code op want a b to)) }
 {
     let op = if want { op } else { opposite(op) };
     put_jump(code, op, a, b, to)
@@ -158,7 +158,7 @@ fn emit_comparison(
 ) -> Result<(), NoMemory>
     requires left { IsOperand layout.now.shape.now (HasNoted layout.now.table) (expr_of left.now) 0 }
     requires right { IsOperand layout.now.shape.now (HasNoted layout.now.table) (expr_of right.now) 1 }
-    ensures { OnOk result (code.new.items ≡ code.old.items ++ comparison_code layout.now.shape.now (temp_of layout.now.locals layout.now.table) op (expr_of left.now) (expr_of right.now) want to) }
+    ensures { OnOk result (Emits code.old code.new (comparison_code layout.now op (expr_of left.now) (expr_of right.now) want to)) }
 {
     let a = emit_expr(code, layout, left, 0)?;
     let b = emit_expr(code, layout, right, 1)?;
@@ -176,7 +176,7 @@ pub fn emit_test(
     at: u32,
 ) -> Result<(), NoMemory>
     requires { IsTest layout.now.shape.now (HasNoted layout.now.table) (expr_of e.now) }
-    ensures { OnOk result (code.new.items ≡ code.old.items ++ test_code layout.now.shape.now (temp_of layout.now.locals layout.now.table) (expr_of e.now) want to at) }
+    ensures { OnOk result (Emits code.old code.new (condition_code layout.now (expr_of e.now) want to at)) }
 {
     match e {
         Typed::Parens(inner) => emit_test(code, layout, inner, want, to, at),

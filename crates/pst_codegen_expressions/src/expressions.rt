@@ -1,12 +1,13 @@
 //! The code of numbers and pointers.
 
-ghost use Rattle.std.specs.Prelude.{◌≡◌, [], ◌∷◌, ◌++◌, IfOk, OnOk};
+ghost use Rattle.std.specs.Prelude.{◌≡◌, [], ◌∷◌, IfOk, OnOk};
 ghost use Rattle.pst_base.specs.declared.names.Kind.TheVariants.{Int, Pointer};
+ghost use Rattle.pst_program.specs.Syntax.{Number, Null, Root};
 ghost use Rattle.pst_program.specs.Typed.{root_kind};
 ghost use Rattle.pst_program.specs.View.{expr_of};
-ghost use Rattle.pst_translation.specs.Code.{kind_or, register, arithmetic, expr_code};
-ghost use Rattle.pst_translation.specs.Needs.{temp_of};
+ghost use Rattle.pst_translation.specs.Code.{kind_or, arithmetic};
 ghost use Rattle.pst_codegen_registers.specs.Ready.{HasNoted, IsOperand};
+ghost use Rattle.pst_codegen_expressions.specs.Emitted.{Emits, temps_of, operand_code, operand_register};
 
 use crate::layout::Layout;
 use pst_base::{Kind, NoMemory, Op, SlotNo, TypeNo};
@@ -16,7 +17,7 @@ use pst_program::Typed;
 
 /// Adds an instruction.
 pub fn put(code: &mut Vec<Instr>, instr: Instr) -> Result<(), NoMemory>
-    ensures { OnOk result (code.new.items ≡ code.old.items ++ instr ∷ []) }
+    ensures { OnOk result (Emits code.old code.new (instr ∷ [])) }
 {
     code.push(instr)?;
     Ok(())
@@ -24,7 +25,7 @@ pub fn put(code: &mut Vec<Instr>, instr: Instr) -> Result<(), NoMemory>
 
 /// Adds an instruction that sets a register, which is the answer.
 fn set(code: &mut Vec<Instr>, register: Reg, instr: Instr) -> Result<Reg, NoMemory>
-    ensures code { OnOk result (code.new.items ≡ code.old.items ++ instr ∷ []) }
+    ensures code { OnOk result (Emits code.old code.new (instr ∷ [])) }
     ensures register { IfOk result (λ r. r ≡ register) }
 {
     code.push(instr)?;
@@ -39,8 +40,8 @@ pub fn emit_expr(
     level: u16,
 ) -> Result<Reg, NoMemory>
     requires { IsOperand layout.now.shape.now (HasNoted layout.now.table) (expr_of e.now) level }
-    ensures code { OnOk result (code.new.items ≡ code.old.items ++ expr_code layout.now.shape.now (temp_of layout.now.locals layout.now.table) (expr_of e.now) level) }
-    ensures register { IfOk result (λ r. r ≡ register layout.now.shape.now (temp_of layout.now.locals layout.now.table) (expr_of e.now) level) }
+    ensures code { OnOk result (Emits code.old code.new (operand_code layout.now (expr_of e.now) level)) }
+    ensures register { IfOk result (λ r. r ≡ operand_register layout.now (expr_of e.now) level) }
 {
     match e {
         Typed::Number(n) => emit_number(code, layout, *n, level),
@@ -89,8 +90,8 @@ fn emit_number(
     level: u16,
 ) -> Result<Reg, NoMemory>
     requires { HasNoted layout.now.table level Int }
-    ensures code { OnOk result (code.new.items ≡ code.old.items ++ Instr.Const (temp_of layout.now.locals layout.now.table level Int) n ∷ []) }
-    ensures register { IfOk result (λ r. r ≡ temp_of layout.now.locals layout.now.table level Int) }
+    ensures code { OnOk result (Emits code.old code.new (operand_code layout.now (Number n) level)) }
+    ensures register { IfOk result (λ r. r ≡ operand_register layout.now (Number n) level) }
 {
     let d = layout.temporary(level, Kind::Int);
     set(code, d, Instr::Const(d, n))
@@ -104,8 +105,8 @@ fn emit_null(
     level: u16,
 ) -> Result<Reg, NoMemory>
     requires { HasNoted layout.now.table level (Pointer ty) }
-    ensures code { OnOk result (code.new.items ≡ code.old.items ++ Instr.Null (temp_of layout.now.locals layout.now.table level (Pointer ty)) ∷ []) }
-    ensures register { IfOk result (λ r. r ≡ temp_of layout.now.locals layout.now.table level (Pointer ty)) }
+    ensures code { OnOk result (Emits code.old code.new (operand_code layout.now (Null ty) level)) }
+    ensures register { IfOk result (λ r. r ≡ operand_register layout.now (Null ty) level) }
 {
     let d = layout.temporary(level, Kind::Pointer(ty));
     set(code, d, Instr::Null(d))
@@ -119,8 +120,8 @@ fn emit_root(
     level: u16,
 ) -> Result<Reg, NoMemory>
     requires { HasNoted layout.now.table level (kind_or (root_kind layout.now.shape.now slot.0)) }
-    ensures code { OnOk result (code.new.items ≡ code.old.items ++ Instr.Root (temp_of layout.now.locals layout.now.table level (kind_or (root_kind layout.now.shape.now slot.0))) slot ∷ []) }
-    ensures register { IfOk result (λ r. r ≡ temp_of layout.now.locals layout.now.table level (kind_or (root_kind layout.now.shape.now slot.0))) }
+    ensures code { OnOk result (Emits code.old code.new (operand_code layout.now (Root slot.0) level)) }
+    ensures register { IfOk result (λ r. r ≡ operand_register layout.now (Root slot.0) level) }
 {
     let d = layout.temporary(level, root_kind(layout.shape, slot));
     set(code, d, Instr::Root(d, slot))
@@ -136,8 +137,8 @@ fn emit_load(
     kind: Kind,
 ) -> Result<Reg, NoMemory>
     requires { HasNoted layout.now.table level kind }
-    ensures code { OnOk result (code.new.items ≡ code.old.items ++ Instr.Load (temp_of layout.now.locals layout.now.table level kind) object slot ∷ []) }
-    ensures register { IfOk result (λ r. r ≡ temp_of layout.now.locals layout.now.table level kind) }
+    ensures code { OnOk result (Emits code.old code.new (Instr.Load (temps_of layout.now level kind) object slot ∷ [])) }
+    ensures register { IfOk result (λ r. r ≡ temps_of layout.now level kind) }
 {
     let d = layout.temporary(level, kind);
     set(code, d, Instr::Load(d, object, slot))
@@ -155,8 +156,8 @@ fn emit_loadx(
     kind: Kind,
 ) -> Result<Reg, NoMemory>
     requires { HasNoted layout.now.table level kind }
-    ensures code { OnOk result (code.new.items ≡ code.old.items ++ Instr.Loadx (temp_of layout.now.locals layout.now.table level kind) object slot elements index ∷ []) }
-    ensures register { IfOk result (λ r. r ≡ temp_of layout.now.locals layout.now.table level kind) }
+    ensures code { OnOk result (Emits code.old code.new (Instr.Loadx (temps_of layout.now level kind) object slot elements index ∷ [])) }
+    ensures register { IfOk result (λ r. r ≡ temps_of layout.now level kind) }
 {
     let d = layout.temporary(level, kind);
     set(code, d, Instr::Loadx(d, object, slot, elements, index))
@@ -170,8 +171,8 @@ fn emit_negation(
     level: u16,
 ) -> Result<Reg, NoMemory>
     requires { HasNoted layout.now.table level Int }
-    ensures code { OnOk result (code.new.items ≡ code.old.items ++ Instr.Neg (temp_of layout.now.locals layout.now.table level Int) a ∷ []) }
-    ensures register { IfOk result (λ r. r ≡ temp_of layout.now.locals layout.now.table level Int) }
+    ensures code { OnOk result (Emits code.old code.new (Instr.Neg (temps_of layout.now level Int) a ∷ [])) }
+    ensures register { IfOk result (λ r. r ≡ temps_of layout.now level Int) }
 {
     let d = layout.temporary(level, Kind::Int);
     set(code, d, Instr::Neg(d, a))
@@ -187,8 +188,8 @@ fn emit_arithmetic(
     level: u16,
 ) -> Result<Reg, NoMemory>
     requires { HasNoted layout.now.table level Int }
-    ensures code { OnOk result (code.new.items ≡ code.old.items ++ arithmetic op (temp_of layout.now.locals layout.now.table level Int) a b) }
-    ensures register { IfOk result (λ r. r ≡ temp_of layout.now.locals layout.now.table level Int) }
+    ensures code { OnOk result (Emits code.old code.new (arithmetic op (temps_of layout.now level Int) a b)) }
+    ensures register { IfOk result (λ r. r ≡ temps_of layout.now level Int) }
 {
     let d = layout.temporary(level, Kind::Int);
     match op {

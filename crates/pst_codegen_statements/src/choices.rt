@@ -1,8 +1,9 @@
 //! The code of choices and loops whose blocks are made.
 
-ghost use Rattle.std.specs.Prelude.{◌≡◌, ◌++◌, OnOk};
+ghost use Rattle.std.specs.Prelude.{OnOk};
 ghost use Rattle.pst_program.specs.View.{expr_of};
 ghost use Rattle.pst_codegen_registers.specs.Ready.{HasNoted, IsTest};
+ghost use Rattle.pst_codegen_expressions.specs.Emitted.{Emits};
 ghost use Rattle.pst_codegen_statements.specs.Made.{guarded_code, choice_code};
 
 use pst_base::NoMemory;
@@ -22,7 +23,7 @@ pub fn emit_guarded(
     to: u32,
 ) -> Result<(), NoMemory>
     requires { IsTest layout.now.shape.now (HasNoted layout.now.table) (expr_of condition.now) }
-    ensures { OnOk result (code.new.items ≡ code.old.items ++ guarded_code layout.now (expr_of condition.now) body.items line test to) }
+    ensures { OnOk result (Emits code.old code.new (guarded_code layout.now (expr_of condition.now) body.items line test to)) }
 {
     put(code, Instr::Charge(line))?;
     emit_test(code, layout, condition, false, to, test)?;
@@ -43,7 +44,7 @@ pub fn emit_choice(
     end: u32,
 ) -> Result<(), NoMemory>
     requires { IsTest layout.now.shape.now (HasNoted layout.now.table) (expr_of condition.now) }
-    ensures { OnOk result (code.new.items ≡ code.old.items ++ choice_code layout.now (expr_of condition.now) first.items other.items line test middle end) }
+    ensures { OnOk result (Emits code.old code.new (choice_code layout.now (expr_of condition.now) first.items other.items line test middle end)) }
 {
     emit_guarded(code, layout, condition, first, line, test, middle)?;
     put(code, Instr::Jump(end))?;

@@ -1,9 +1,9 @@
 //! The code that ends a procedure.
 
-ghost use Rattle.std.specs.Prelude.{◌≡◌, ◌++◌, OnOk};
+ghost use Rattle.std.specs.Prelude.{OnOk};
 ghost use Rattle.pst_translation.specs.Code.{end_code};
-ghost use Rattle.pst_translation.specs.Needs.{temp_of};
 ghost use Rattle.pst_codegen_registers.specs.Ready.{HasNoted, HasEnd};
+ghost use Rattle.pst_codegen_expressions.specs.Emitted.{Emits, temps_of};
 
 use pst_base::{Kind, NoMemory};
 use pst_code::Instr;
@@ -16,7 +16,7 @@ pub fn emit_end(
     kind: Option<Kind>,
 ) -> Result<(), NoMemory>
     requires { HasEnd (HasNoted layout.now.table) kind }
-    ensures { OnOk result (code.new.items ≡ code.old.items ++ end_code (temp_of layout.now.locals layout.now.table) kind) }
+    ensures { OnOk result (Emits code.old code.new (end_code (temps_of layout.now) kind)) }
 {
     match kind {
         None => put(code, Instr::Return(None)),

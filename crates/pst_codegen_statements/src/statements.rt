@@ -1,11 +1,12 @@
 //! The code of statements that hold no others.
 
-ghost use Rattle.std.specs.Prelude.{◌≡◌, ◌++◌, map, IfOk, OnOk};
+ghost use Rattle.std.specs.Prelude.{◌≡◌, map, IfOk, OnOk};
 ghost use Rattle.std.specs.Option.{option_map};
+ghost use Rattle.pst_program.specs.Syntax.{Set, SetRoot, Store, StoreIndexed, Call, Print, Return};
 ghost use Rattle.pst_program.specs.View.{expr_of};
-ghost use Rattle.pst_translation.specs.Code.{arguments_code, registers, set_code, set_root_code, store_code, store_element_code, call_code, print_code, return_code};
-ghost use Rattle.pst_codegen_statements.specs.Made.{temps_of};
 ghost use Rattle.pst_codegen_registers.specs.Ready.{HasNoted, IsOperand, AreArguments, IsResult};
+ghost use Rattle.pst_codegen_expressions.specs.Emitted.{Emits};
+ghost use Rattle.pst_codegen_statements.specs.Made.{EmitsOne, arguments_by, argument_registers};
 
 use pst_base::{NoMemory, ProcNo, SlotNo};
 use pst_code::{Instr, Reg, Regs};
@@ -22,7 +23,7 @@ pub fn emit_set(
     line: u32,
 ) -> Result<(), NoMemory>
     requires { IsOperand layout.now.shape.now (HasNoted layout.now.table) (expr_of e.now) 0 }
-    ensures { OnOk result (code.new.items ≡ code.old.items ++ set_code layout.now.shape.now (temps_of layout.now) local (expr_of e.now) line) }
+    ensures { OnOk result (EmitsOne layout.now code.old code.new (Set local (expr_of e.now)) line) }
 {
     put(code, Instr::Charge(line))?;
     let value = emit_expr(code, layout, e, 0)?;
@@ -38,7 +39,7 @@ pub fn emit_set_root(
     line: u32,
 ) -> Result<(), NoMemory>
     requires { IsOperand layout.now.shape.now (HasNoted layout.now.table) (expr_of e.now) 0 }
-    ensures { OnOk result (code.new.items ≡ code.old.items ++ set_root_code layout.now.shape.now (temps_of layout.now) slot.0 (expr_of e.now) line) }
+    ensures { OnOk result (EmitsOne layout.now code.old code.new (SetRoot slot.0 (expr_of e.now)) line) }
 {
     put(code, Instr::Charge(line))?;
     let value = emit_expr(code, layout, e, 0)?;
@@ -56,7 +57,7 @@ pub fn emit_store(
 ) -> Result<(), NoMemory>
     requires object { IsOperand layout.now.shape.now (HasNoted layout.now.table) (expr_of object.now) 0 }
     requires value { IsOperand layout.now.shape.now (HasNoted layout.now.table) (expr_of e.now) 1 }
-    ensures { OnOk result (code.new.items ≡ code.old.items ++ store_code layout.now.shape.now (temps_of layout.now) (expr_of object.now) slot.0 (expr_of e.now) line) }
+    ensures { OnOk result (EmitsOne layout.now code.old code.new (Store (expr_of object.now) slot.0 (expr_of e.now)) line) }
 {
     put(code, Instr::Charge(line))?;
     let object = emit_expr(code, layout, object, 0)?;
@@ -80,7 +81,7 @@ pub fn emit_store_element(
     requires object { IsOperand layout.now.shape.now (HasNoted layout.now.table) (expr_of object.now) 0 }
     requires index { IsOperand layout.now.shape.now (HasNoted layout.now.table) (expr_of index.now) 1 }
     requires value { IsOperand layout.now.shape.now (HasNoted layout.now.table) (expr_of e.now) 2 }
-    ensures { OnOk result (code.new.items ≡ code.old.items ++ store_element_code layout.now.shape.now (temps_of layout.now) (expr_of object.now) slot.0 elements (expr_of index.now) (expr_of e.now) line) }
+    ensures { OnOk result (EmitsOne layout.now code.old code.new (StoreIndexed (expr_of object.now) slot.0 elements (expr_of index.now) (expr_of e.now)) line) }
 {
     put(code, Instr::Charge(line))?;
     let object = emit_expr(code, layout, object, 0)?;
@@ -99,7 +100,7 @@ pub fn emit_print(
     line: u32,
 ) -> Result<(), NoMemory>
     requires { IsOperand layout.now.shape.now (HasNoted layout.now.table) (expr_of e.now) 0 }
-    ensures { OnOk result (code.new.items ≡ code.old.items ++ print_code layout.now.shape.now (temps_of layout.now) (expr_of e.now) line) }
+    ensures { OnOk result (EmitsOne layout.now code.old code.new (Print (expr_of e.now)) line) }
 {
     put(code, Instr::Charge(line))?;
     let value = emit_expr(code, layout, e, 0)?;
@@ -114,7 +115,7 @@ pub fn emit_return(
     line: u32,
 ) -> Result<(), NoMemory>
     requires { IsResult layout.now.shape.now (HasNoted layout.now.table) (option_map expr_of value.now) }
-    ensures { OnOk result (code.new.items ≡ code.old.items ++ return_code layout.now.shape.now (temps_of layout.now) (option_map expr_of value.now) line) }
+    ensures { OnOk result (EmitsOne layout.now code.old code.new (Return (option_map expr_of value.now)) line) }
 {
     put(code, Instr::Charge(line))?;
     match value {
@@ -134,8 +135,8 @@ fn emit_arguments(
     list: &[Typed],
 ) -> Result<Regs, NoMemory>
     requires { AreArguments layout.now.shape.now (HasNoted layout.now.table) (map expr_of list.now) 0 }
-    ensures code { OnOk result (code.new.items ≡ code.old.items ++ arguments_code layout.now.shape.now (temps_of layout.now) (map expr_of list.now) 0) }
-    ensures registers { IfOk result (λ rs. rs ≡ registers layout.now.shape.now (temps_of layout.now) (map expr_of list.now) 0) }
+    ensures code { OnOk result (Emits code.old code.new (arguments_by layout.now (map expr_of list.now))) }
+    ensures registers { IfOk result (λ rs. rs ≡ argument_registers layout.now (map expr_of list.now)) }
 {
     let mut values = Vec::with_capacity(alloc, list.len())?;
     let mut level = 0;
@@ -157,7 +158,7 @@ pub fn emit_call(
     line: u32,
 ) -> Result<(), NoMemory>
     requires { AreArguments layout.now.shape.now (HasNoted layout.now.table) (map expr_of arguments.now) 0 }
-    ensures { OnOk result (code.new.items ≡ code.old.items ++ call_code layout.now.shape.now (temps_of layout.now) local procedure.0 (map expr_of arguments.now) line) }
+    ensures { OnOk result (EmitsOne layout.now code.old code.new (Call local procedure.0 (map expr_of arguments.now)) line) }
 {
     put(code, Instr::Charge(line))?;
     let values = emit_arguments(alloc, code, layout, arguments.as_slice())?;

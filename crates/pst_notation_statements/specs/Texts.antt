@@ -80,3 +80,7 @@ abbrev mutual
   pub phrases_text : (indent : ℕ) → Phrases → List ℕ
   phrases_text d Empty = []
   phrases_text d (Then _ phrase rest) = phrase_text d phrase ++ phrases_text d rest
+
+-- a word with a condition, and the block that it guards, up to the closing brace
+abbrev pub guarded_text : (indent : ℕ) → (word : List ℕ) → Expr → Phrases → List ℕ
+guarded_text d word e b = line d (word ++ expr_text e ++ codes " {") ++ phrases_text (d + 2) b

@@ -2,6 +2,7 @@
 
 ghost use Rattle.std.specs.Prelude.{◌≡◌, ◌++◌, OnOk, codes};
 ghost use Rattle.std.specs.Fmt.{signed_decimal};
+ghost use Rattle.pst_tree.specs.Syntax as tree;
 ghost use Rattle.pst_tree.specs.View.{expr_of};
 ghost use Rattle.pst_notation_statements.specs.Texts.{op_text, expr_text};
 
@@ -80,7 +81,7 @@ pub fn put_expression(out: &mut Vec<u8>, e: &Expression) -> Result<(), NoMemory>
 /// Puts an expression in parentheses.
 #[cycle(expressions)]
 fn put_enclosed(out: &mut Vec<u8>, e: &Expression) -> Result<(), NoMemory>
-    ensures { OnOk result (out.new.items ≡ out.old.items ++ (codes "(" ++ expr_text (expr_of e.now) ++ codes ")")) }
+    ensures { OnOk result (out.new.items ≡ out.old.items ++ expr_text (tree.Parens (expr_of e.now))) }
 {
     out.extend_from_slice(b"(")?;
     put_expression(out, e)?;
@@ -90,7 +91,7 @@ fn put_enclosed(out: &mut Vec<u8>, e: &Expression) -> Result<(), NoMemory>
 /// Puts a field of an object.
 #[cycle(expressions)]
 fn put_field(out: &mut Vec<u8>, object: &Expression, name: &Text) -> Result<(), NoMemory>
-    ensures { OnOk result (out.new.items ≡ out.old.items ++ (expr_text (expr_of object.now) ++ codes "." ++ name.now)) }
+    ensures { OnOk result (out.new.items ≡ out.old.items ++ expr_text (tree.Field (expr_of object.now) name.now)) }
 {
     put_expression(out, object)?;
     put_field_name(out, name)
@@ -104,7 +105,7 @@ fn put_element(
     name: &Text,
     index: &Expression,
 ) -> Result<(), NoMemory>
-    ensures { OnOk result (out.new.items ≡ out.old.items ++ (expr_text (expr_of object.now) ++ codes "." ++ name.now ++ codes "(" ++ expr_text (expr_of index.now) ++ codes ")")) }
+    ensures { OnOk result (out.new.items ≡ out.old.items ++ expr_text (tree.Indexed (expr_of object.now) name.now (expr_of index.now))) }
 {
     put_field(out, object, name)?;
     put_enclosed(out, index)
@@ -127,7 +128,7 @@ fn put_binary(
     left: &Expression,
     right: &Expression,
 ) -> Result<(), NoMemory>
-    ensures { OnOk result (out.new.items ≡ out.old.items ++ (expr_text (expr_of left.now) ++ codes " " ++ op_text op ++ codes " " ++ expr_text (expr_of right.now))) }
+    ensures { OnOk result (out.new.items ≡ out.old.items ++ expr_text (tree.Binary op (expr_of left.now) (expr_of right.now))) }
 {
     put_expression(out, left)?;
     put_op(out, op)?;

@@ -3,8 +3,9 @@
 ghost use Rattle.std.specs.Prelude.{◌≡◌, ◌++◌, ◌+◌, OnOk, IfOk, replicate, map, codes};
 ghost use Rattle.std.specs.List.{flat_map};
 ghost use Rattle.std.specs.Option.{option_map};
+ghost use Rattle.pst_tree.specs.Syntax as tree;
 ghost use Rattle.pst_tree.specs.View.{expr_of, phrase_of, phrases_of};
-ghost use Rattle.pst_notation_statements.specs.Texts.{line, call_text, result_text, return_text, expr_text, phrase_text, phrases_text, listed, behind_comma};
+ghost use Rattle.pst_notation_statements.specs.Texts.{line, result_text, expr_text, phrase_text, phrases_text, guarded_text, listed, behind_comma};
 
 use crate::expressions::put_expression;
 use pst_base::{NoMemory, Text};
@@ -68,7 +69,7 @@ fn deeper(indent: usize) -> Result<usize, NoMemory>
 
 /// Puts the line of a new record.
 fn put_new(out: &mut Vec<u8>, indent: usize, name: &Text, ty: &Text) -> Result<(), NoMemory>
-    ensures { OnOk result (out.new.items ≡ out.old.items ++ line indent (name.now ++ codes " = new " ++ ty.now ++ codes ";")) }
+    ensures { OnOk result (out.new.items ≡ out.old.items ++ phrase_text indent (tree.New name.now ty.now)) }
 {
     put_indent(out, indent)?;
     out.extend_from_slice(name.as_slice())?;
@@ -98,7 +99,7 @@ fn put_call(
     procedure: &Text,
     list: &[Expression],
 ) -> Result<(), NoMemory>
-    ensures { OnOk result (out.new.items ≡ out.old.items ++ line indent (result_text local.now ++ call_text procedure.now (map expr_of list.now))) }
+    ensures { OnOk result (out.new.items ≡ out.old.items ++ phrase_text indent (tree.Call local.now procedure.now (map expr_of list.now))) }
 {
     put_indent(out, indent)?;
     put_result(out, local)?;
@@ -116,7 +117,7 @@ fn put_write(
     place: &Expression,
     value: &Expression,
 ) -> Result<(), NoMemory>
-    ensures { OnOk result (out.new.items ≡ out.old.items ++ line indent (expr_text (expr_of place.now) ++ codes " = " ++ expr_text (expr_of value.now) ++ codes ";")) }
+    ensures { OnOk result (out.new.items ≡ out.old.items ++ phrase_text indent (tree.Write (expr_of place.now) (expr_of value.now))) }
 {
     put_indent(out, indent)?;
     put_expression(out, place)?;
@@ -127,7 +128,7 @@ fn put_write(
 
 /// Puts the line of a print.
 fn put_print(out: &mut Vec<u8>, indent: usize, e: &Expression) -> Result<(), NoMemory>
-    ensures { OnOk result (out.new.items ≡ out.old.items ++ line indent (codes "print " ++ expr_text (expr_of e.now) ++ codes ";")) }
+    ensures { OnOk result (out.new.items ≡ out.old.items ++ phrase_text indent (tree.Print (expr_of e.now))) }
 {
     put_indent(out, indent)?;
     out.extend_from_slice(b"print ")?;
@@ -137,7 +138,7 @@ fn put_print(out: &mut Vec<u8>, indent: usize, e: &Expression) -> Result<(), NoM
 
 /// Puts the line of a return.
 fn put_return(out: &mut Vec<u8>, indent: usize, e: &Option<Expression>) -> Result<(), NoMemory>
-    ensures { OnOk result (out.new.items ≡ out.old.items ++ line indent (return_text (option_map expr_of e.now))) }
+    ensures { OnOk result (out.new.items ≡ out.old.items ++ phrase_text indent (tree.Return (option_map expr_of e.now))) }
 {
     match e {
         None => put_line(out, indent, b"return;"),
@@ -209,7 +210,7 @@ fn put_guarded(
     condition: &Expression,
     block: &Block,
 ) -> Result<(), NoMemory>
-    ensures { OnOk result (out.new.items ≡ out.old.items ++ (line indent (word.now ++ expr_text (expr_of condition.now) ++ codes " {") ++ phrases_text (indent + 2) (phrases_of block.now))) }
+    ensures { OnOk result (out.new.items ≡ out.old.items ++ guarded_text indent word.now (expr_of condition.now) (phrases_of block.now)) }
 {
     put_head(out, indent, word, condition)?;
     put_block(out, deeper(indent)?, block)

@@ -4,9 +4,9 @@ ghost use Rattle.std.specs.Prelude.{◌≡◌, ◌≤◌, ◌<◌, ◌++◌, [],
 ghost use Rattle.pst_tree.specs.View.{expr_of, phrase_of, phrases_of};
 ghost use Rattle.pst_grammar.specs.Reader.{within};
 ghost use Rattle.pst_grammar.specs.Reading.{read};
-ghost use Rattle.pst_grammar.specs.Statements.{ended as ending, arguments as listing, call as calling, made as making, set as setting, written as writing, assigned as assigning, returned as returning, braced as bracing, led as leading, inner, reading_statement, reading_block, starts_statement as starting, starts};
+ghost use Rattle.pst_grammar.specs.Statements.{ended as ending, arguments as listing, call as calling, made as making, set as setting, written as writing, assigned as assigning, returned as returning, braced as bracing, reading_statement, reading_block, starts_statement as starting, starts};
 ghost use Rattle.pst_parse_expressions.specs.View.{Gives, lexemes_of};
-ghost use Rattle.pst_parse_statements.specs.View.{exprs_of, stated_of, begins};
+ghost use Rattle.pst_parse_statements.specs.View.{exprs_of, stated_of, begins, reading_behind};
 
 use pst_base::Text;
 use pst_grammar::{Lead, Sign};
@@ -290,7 +290,7 @@ fn led<'a, 't>(
     height: u8,
     nesting: u8,
 ) -> Result<(Form, &'a [Atom<'t>]), Stop<'a, 't>>
-    ensures given { Gives phrase_of result (leading language (inner language height nesting) height nesting lead (lexemes_of tokens.now) (lexemes_of rest.now)) }
+    ensures given { Gives phrase_of result (reading_behind lead language height nesting tokens.now rest.now) }
     ensures shorter { IfOk result (λ x. length x.1.now < length rest.now) }
 {
     match lead {
@@ -339,7 +339,7 @@ fn repeated<'a, 't>(
     height: u8,
     nesting: u8,
 ) -> Result<(Form, &'a [Atom<'t>]), Stop<'a, 't>>
-    ensures given { Gives phrase_of result (leading language (inner language height nesting) height nesting Lead.While (lexemes_of tokens.now) (lexemes_of rest.now)) }
+    ensures given { Gives phrase_of result (reading_behind Lead.While language height nesting tokens.now rest.now) }
     ensures shorter { IfOk result (λ x. length x.1.now < length rest.now) }
 {
     let (condition, rest) = condition(alloc, language, tokens, rest, height, nesting)?;
@@ -358,7 +358,7 @@ fn choice<'a, 't>(
     height: u8,
     nesting: u8,
 ) -> Result<(Form, &'a [Atom<'t>]), Stop<'a, 't>>
-    ensures given { Gives phrase_of result (leading language (inner language height nesting) height nesting Lead.If (lexemes_of tokens.now) (lexemes_of rest.now)) }
+    ensures given { Gives phrase_of result (reading_behind Lead.If language height nesting tokens.now rest.now) }
     ensures shorter { IfOk result (λ x. length x.1.now < length rest.now) }
 {
     let (condition, rest) = condition(alloc, language, tokens, rest, height, nesting)?;

@@ -16,9 +16,9 @@ ghost use Rattle.pst_typing.specs.Names.{nothing_declared};
 ghost use Rattle.pst_typing.specs.View.{Answers};
 ghost use Rattle.pst_types_scope.specs.View.{members_of, scope_of};
 ghost use Rattle.pst_typing.specs.View.{program_of};
-ghost use Rattle.pst_types.specs.View.{draft_of};
+ghost use Rattle.pst_types.specs.View.{draft_of, Declares};
 ghost use Rattle.pst_types.specs.Added.{with_type};
-ghost use Rattle.pst_types.specs.Bodies.{with_body, with_bodies};
+ghost use Rattle.pst_types.specs.Bodies.{item_with, items_with};
 
 use pst_base::{MOST_LIMIT, Shape, Text, TypeShape};
 use pst_program::{Program, TypeEntry, TypeNames, TypedProc, TypedProcs};
@@ -98,7 +98,7 @@ fn judge_record(
     limit: i64,
     fields: &Fields,
 ) -> Result<(), TypeFault>
-    ensures { Answers (λ _. draft_of draft.new) result (declared (scope_of scope.now) (draft_of draft.old) (tree.Record line name.now limit (map tree_view.field_of fields.now))) }
+    ensures { Declares scope.now draft.old draft.new result (tree.Record line name.now limit (map tree_view.field_of fields.now)) }
 {
     let limit = match limit_of(limit) {
         None => return Err(TypeFault::Limit { line }),
@@ -116,7 +116,7 @@ fn judge_declaration<'t>(
     declaration: &'t Declaration,
     body: Block,
 ) -> Result<(), TypeFault>
-    ensures { Answers (λ _. draft_of draft.new) result (declared (scope_of scope.now) (draft_of draft.old) (with_body (tree_view.phrases_of body) (tree_view.item_of declaration.now))) }
+    ensures { Declares scope.now draft.old draft.new result (item_with body declaration.now) }
 {
     match declaration {
         Declaration::Record {
@@ -164,7 +164,7 @@ fn judge_all<'t>(
     bodies: Vec<Block>,
 ) -> Result<Draft, TypeFault>
     requires { length bodies.items ≡ length declarations.now }
-    ensures { let text = with_bodies (map tree_view.phrases_of bodies.items) (map tree_view.item_of declarations.entry.now) in Answers draft_of result (through (declared (scope_of scope.now)) (root_alone (scope_of scope.now)) text) }
+    ensures { let s = scope_of scope.now in Answers draft_of result (through (declared s) (root_alone s) (items_with bodies.items declarations.entry.now)) }
 {
     let mut draft = root_alone(alloc, scope)?;
     for (declaration, body) in declarations.iter().zip(bodies) {
@@ -175,7 +175,7 @@ fn judge_all<'t>(
 
 /// Takes the body out of a declaration and leaves an empty one. A record type and a root have no body, and give an empty one.
 fn take_body(alloc: Global, declaration: &mut Declaration) -> Block
-    ensures { with_body (tree_view.phrases_of result) (tree_view.item_of declaration.new) ≡ tree_view.item_of declaration.old }
+    ensures { item_with result declaration.new ≡ tree_view.item_of declaration.old }
 {
     let empty = Block {
         items: Vec::new(alloc),
@@ -189,7 +189,7 @@ fn take_body(alloc: Global, declaration: &mut Declaration) -> Block
 /// Takes the bodies out of the declarations, one of each, in order.
 fn take_bodies(alloc: Global, declarations: &mut [Declaration]) -> Result<Vec<Block>, AllocError>
     ensures each { IfOk result (λ bodies. length bodies.items ≡ length declarations.new) }
-    ensures whole { IfOk result (λ bodies. with_bodies (map tree_view.phrases_of bodies.items) (map tree_view.item_of declarations.new) ≡ map tree_view.item_of declarations.old) }
+    ensures whole { IfOk result (λ bodies. items_with bodies.items declarations.new ≡ map tree_view.item_of declarations.old) }
 {
     let mut bodies = Vec::new(alloc);
     for declaration in declarations.iter_mut() {
@@ -221,7 +221,7 @@ fn walk(
     bodies: Vec<Block>,
 ) -> Result<Program, TypeFault>
     requires { length bodies.items ≡ length declarations.now }
-    ensures answer { Answers program_of result (checked (with_bodies (map tree_view.phrases_of bodies.items) (map tree_view.item_of declarations.now))) }
+    ensures answer { Answers program_of result (checked (items_with bodies.items declarations.now)) }
     ensures language { IfOk result (λ p. p.language ≡ language) }
 {
     let scope = gather(alloc, declarations)?;

@@ -6,13 +6,12 @@ ghost use Rattle.pst_tree.specs.View.{expr_of};
 ghost use Rattle.pst_program.specs.View as typed_view;
 ghost use Rattle.pst_program.specs.Syntax as program;
 ghost use Rattle.pst_typing.specs.declared.fault.TypeFault.TheVariants as fault;
-ghost use Rattle.pst_typing.specs.Answers.{and_then, found};
+ghost use Rattle.pst_typing.specs.Answers.{found};
 ghost use Rattle.pst_typing.specs.Names.{variable};
-ghost use Rattle.pst_typing.specs.Expressions as expressions;
-ghost use Rattle.pst_typing.specs.Expressions.{same_sort, sort_of, null_of, in_parens, operand, object, plain_field, array_field, field_loaded, element_loaded, named_value, null_beside, operation, equality, combined, judged, fits, fitted, of_sort};
+ghost use Rattle.pst_typing.specs.Expressions.{same_sort, sort_of, null_of, in_parens, operand, object, plain_field, array_field, field_loaded, element_loaded, named_value, null_beside, operation, judged, fits, fitted, of_sort};
 ghost use Rattle.pst_typing.specs.View.{Answers};
 ghost use Rattle.pst_types_scope.specs.View.{kind_word, slot_seen, setting_of};
-ghost use Rattle.pst_types_expressions.specs.View.{sort_seen, judged_of, object_of, array_of};
+ghost use Rattle.pst_types_expressions.specs.View.{sort_seen, judged_of, object_of, array_of, binary_of, negated, inverted, equality_of, operator_of};
 
 use pst_base::{Op, SlotNo, TypeNo};
 use pst_program::Typed;
@@ -234,7 +233,7 @@ fn load_element<'t>(
 
 /// A number with its sign turned.
 fn negate<'t>(alloc: Global, line: u32, judged: Judged<'t>) -> Result<Judged<'t>, TypeFault>
-    ensures { Answers judged_of result (and_then (operand line expressions.Int (judged_of judged.entry)) (λ v. Ok (expressions.Known (program.Negate v) expressions.Int))) }
+    ensures { Answers judged_of result (negated line (judged_of judged.entry)) }
 {
     let value = operand(line, Sort::Int, judged)?;
     Ok(Judged::Known(Typed::Negate(Box::new(alloc, value)?), Sort::Int))
@@ -242,7 +241,7 @@ fn negate<'t>(alloc: Global, line: u32, judged: Judged<'t>) -> Result<Judged<'t>
 
 /// The other truth.
 fn invert<'t>(alloc: Global, line: u32, judged: Judged<'t>) -> Result<Judged<'t>, TypeFault>
-    ensures { Answers judged_of result (and_then (operand line expressions.Truth (judged_of judged.entry)) (λ v. Ok (expressions.Known (program.Not v) expressions.Truth))) }
+    ensures { Answers judged_of result (inverted line (judged_of judged.entry)) }
 {
     let value = operand(line, Sort::Truth, judged)?;
     Ok(Judged::Known(Typed::Not(Box::new(alloc, value)?), Sort::Truth))
@@ -308,7 +307,7 @@ fn equality<'t>(
     left: Judged<'t>,
     right: Judged<'t>,
 ) -> Result<Judged<'t>, TypeFault>
-    ensures { let w = written.entry in Answers judged_of result (equality (setting_of setting.now) line w.op (expr_of w.left.now) (expr_of w.right.now) (judged_of left.entry) (judged_of right.entry)) }
+    ensures { Answers judged_of result (equality_of (setting_of setting.now) line written.entry (judged_of left.entry) (judged_of right.entry)) }
 {
     match left {
         Judged::Bare => match right {
@@ -342,7 +341,7 @@ fn combine<'t>(
     left: Judged<'t>,
     right: Judged<'t>,
 ) -> Result<Judged<'t>, TypeFault>
-    ensures { let w = written.entry in Answers judged_of result (combined (setting_of setting.now) line w.op (expr_of w.left.now) (expr_of w.right.now) (judged_of left.entry) (judged_of right.entry)) }
+    ensures { Answers judged_of result (operator_of (setting_of setting.now) line written.entry (judged_of left.entry) (judged_of right.entry)) }
 {
     let sorts = match written.op {
         Op::Add | Op::Sub | Op::Mul | Op::Div | Op::Rem => (Sort::Int, Sort::Int),
@@ -394,7 +393,7 @@ fn judge_operator<'t>(
     line: u32,
     written: Written,
 ) -> Result<Judged<'t>, TypeFault>
-    ensures { Answers judged_of result (judged (setting_of setting.now) line (tree.Binary written.entry.op (expr_of written.entry.left.now) (expr_of written.entry.right.now))) }
+    ensures { Answers judged_of result (judged (setting_of setting.now) line (binary_of written.entry)) }
 {
     let left = judge(alloc, setting, line, written.left)?;
     let right = judge(alloc, setting, line, written.right)?;

@@ -3,10 +3,7 @@
 ghost use Rattle.std.specs.Prelude.{ℤ, map};
 ghost use Rattle.pst_tree.specs.Syntax as tree;
 ghost use Rattle.pst_tree.specs.View as tree_view;
-ghost use Rattle.pst_typing.specs.Declarations.{noted};
-ghost use Rattle.pst_typing.specs.View.{Answers};
-ghost use Rattle.pst_types_scope.specs.View.{scope_of};
-ghost use Rattle.pst_types_procedures.specs.View.{procedure_text_of};
+ghost use Rattle.pst_types_procedures.specs.View.{procedure_text_of, Notes};
 
 use crate::procedure::ProcedureHead;
 use pst_base::{MOST_ROOTS, ProcNo, Text, TypeNo};
@@ -23,7 +20,7 @@ fn note_record<'t>(
     name: &'t Text,
     fields: &'t Fields,
 ) -> Result<(), TypeFault>
-    ensures { (limit : ℤ) → Answers (λ _. scope_of scope.new) result (noted (scope_of scope.old) (tree.Record line name.now limit (map tree_view.field_of fields.now))) }
+    ensures { (limit : ℤ) → Notes scope.old scope.new result (tree.Record line name.now limit (map tree_view.field_of fields.now)) }
 {
     let count = scope.types.len();
     if count >= 64 {
@@ -46,7 +43,7 @@ fn note_root<'t>(
     name: &'t Text,
     kind: &'t TypeName,
 ) -> Result<(), TypeFault>
-    ensures { Answers (λ _. scope_of scope.new) result (noted (scope_of scope.old) (tree.Root line name.now (tree_view.type_word_of kind.now))) }
+    ensures { Notes scope.old scope.new result (tree.Root line name.now (tree_view.type_word_of kind.now)) }
 {
     if scope.roots.list.len() >= MOST_ROOTS {
         return Err(TypeFault::TooMany { line });
@@ -61,7 +58,7 @@ fn note_root<'t>(
 
 /// Notes a procedure, whatever its body is.
 fn note_procedure<'t>(scope: &mut Scope<'t>, head: &ProcedureHead<'t>) -> Result<(), TypeFault>
-    ensures { (body : tree.Phrases) → Answers (λ _. scope_of scope.new) result (noted (scope_of scope.old) (tree.Procedure (procedure_text_of head.now body))) }
+    ensures { (body : tree.Phrases) → Notes scope.old scope.new result (tree.Procedure (procedure_text_of head.now body)) }
 {
     let count = scope.procedures.len();
     if count >= 256 {
@@ -93,7 +90,7 @@ pub fn note<'t>(
     scope: &mut Scope<'t>,
     declaration: &'t Declaration,
 ) -> Result<(), TypeFault>
-    ensures { Answers (λ _. scope_of scope.new) result (noted (scope_of scope.old) (tree_view.item_of declaration.now)) }
+    ensures { Notes scope.old scope.new result (tree_view.item_of declaration.now) }
 {
     match declaration {
         Declaration::Record {

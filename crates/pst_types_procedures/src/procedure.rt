@@ -4,13 +4,13 @@ ghost use Rattle.std.specs.Prelude.{◌≡◌, ◌≤◌, Ok, Bool, OnOk, [], �
 ghost use Rattle.std.specs.Option.{option_map};
 ghost use Rattle.pst_tree.specs.Syntax.{Phrases};
 ghost use Rattle.pst_tree.specs.View as tree_view;
-ghost use Rattle.pst_program.specs.View as typed_view;
-ghost use Rattle.pst_typing.specs.Answers.{through};
+ghost use Rattle.pst_tree.specs.View.{phrases_of};
+ghost use Rattle.pst_program.specs.View.{procedure_of};
 ghost use Rattle.pst_typing.specs.Declarations.{variable, is_new, is_result_known, procedure};
 ghost use Rattle.pst_typing.specs.Names.{kind_of, is_named};
 ghost use Rattle.pst_typing.specs.View.{Answers};
-ghost use Rattle.pst_types_scope.specs.View.{kind_word, entries_of, local_of, scope_of, setting_of};
-ghost use Rattle.pst_types_procedures.specs.View.{procedure_text_of};
+ghost use Rattle.pst_types_scope.specs.View.{kind_word, local_of, scope_of, setting_of};
+ghost use Rattle.pst_types_procedures.specs.View.{procedure_text_of, variables_of, AddsVariables};
 ghost use Rattle.pst_types_procedures.specs.Parts.{counted, variables_in, procedure_in, by_parts};
 
 use indexmap::IndexMap;
@@ -37,7 +37,7 @@ pub struct ProcedureHead<'t> {
 /// Whether neither a parameter or local before nor a root has the name.
 #[tactic(auto, using(pst_types_scope::proofs::Lookups::look_ups))]
 fn is_new<'t>(scope: &Scope<'t>, variables: &IndexMap<&'t [u8], Variable<'t>>, name: &[u8]) -> bool
-    ensures { result ≡ is_new (scope_of scope.now) (entries_of local_of variables.now.entries) name.now }
+    ensures { result ≡ is_new (scope_of scope.now) (variables_of variables.now) name.now }
 {
     !variables.contains_key(name) && !scope.roots.has(name)
 }
@@ -49,8 +49,8 @@ fn insert<'t>(
     name: &'t [u8],
     variable: Variable<'t>,
 ) -> Result<(), AllocError>
-    requires { is_named name.now (entries_of local_of variables.old.entries) ≡ Bool.false }
-    ensures { OnOk result (entries_of local_of variables.new.entries ≡ entries_of local_of variables.old.entries ++ (name.now, local_of variable.entry) ∷ []) }
+    requires { is_named name.now (variables_of variables.old) ≡ Bool.false }
+    ensures { OnOk result (variables_of variables.new ≡ variables_of variables.old ++ (name.now, local_of variable.entry) ∷ []) }
 {
     variables.insert(name, variable)?;
     Ok(())
@@ -65,7 +65,7 @@ fn add_variable<'t>(
     local: &'t Local,
 ) -> Result<(), TypeFault>
     requires { most ≤ 72 }
-    ensures { Answers (λ _. entries_of local_of variables.new.entries) result (variable (scope_of scope.now) most (entries_of local_of variables.old.entries) (tree_view.local_of local.now)) }
+    ensures { Answers (λ _. variables_of variables.new) result (variable (scope_of scope.now) most (variables_of variables.old) (tree_view.local_of local.now)) }
 {
     let line = local.line;
     let count = variables.len();
@@ -93,7 +93,7 @@ fn add_variables<'t>(
     locals: &'t [Local],
 ) -> Result<(), TypeFault>
     requires { most ≤ 72 }
-    ensures { let es = entries_of local_of in Answers (λ _. es variables.new.entries) result (through (variable (scope_of scope.now) most) (es variables.old.entries) (map tree_view.local_of locals.now)) }
+    ensures { AddsVariables scope.now most variables.old variables.new result (map tree_view.local_of locals.now) }
 {
     for local in locals {
         add_variable(scope, most, variables, local)?;
@@ -107,7 +107,7 @@ fn kinds_of<'t>(
     scope: &Scope<'t>,
     variables: &IndexMap<&'t [u8], Variable<'t>>,
 ) -> Result<Kinds, TypeFault>
-    ensures { Answers (λ kinds. kinds) result (Ok (map (λ v. kind_of (scope_of scope.now) v.1.kind) (entries_of local_of variables.now.entries))) }
+    ensures { Answers (λ kinds. kinds) result (Ok (map (λ v. kind_of (scope_of scope.now) v.1.kind) (variables_of variables.now))) }
 {
     let mut items = Vec::new(alloc);
     for variable in variables.values().as_slice() {
@@ -143,7 +143,7 @@ fn declare<'t>(
     head: &ProcedureHead<'t>,
 ) -> Result<u8, TypeFault>
     requires { variables.old.entries ≡ [] }
-    ensures { (body : Phrases) → Answers (counted (entries_of local_of variables.new.entries)) result (variables_in (scope_of scope.now) (procedure_text_of head.now body)) }
+    ensures { (body : Phrases) → Answers (counted (variables_of variables.new)) result (variables_in (scope_of scope.now) (procedure_text_of head.now body)) }
 {
     add_variables(scope, 8, variables, head.parameters)?;
     let parameters = variables.len();
@@ -162,7 +162,7 @@ fn judge_in(
     head: &ProcedureHead,
     body: &Block,
 ) -> Result<TypedProc, TypeFault>
-    ensures { Answers typed_view.procedure_of result (procedure_in (setting_of setting.now) arguments (procedure_text_of head.now (tree_view.phrases_of body.now))) }
+    ensures { Answers procedure_of result (procedure_in (setting_of setting.now) arguments (procedure_text_of head.now (phrases_of body.now))) }
 {
     let body = judge_block(alloc, setting, body)?;
     Ok(TypedProc {
@@ -182,7 +182,7 @@ fn judge_parts<'t>(
     head: &ProcedureHead<'t>,
     body: &Block,
 ) -> Result<TypedProc, TypeFault>
-    ensures { Answers typed_view.procedure_of result (by_parts (scope_of scope.now) (procedure_text_of head.now (tree_view.phrases_of body.now))) }
+    ensures { Answers procedure_of result (by_parts (scope_of scope.now) (procedure_text_of head.now (phrases_of body.now))) }
 {
     let mut locals = IndexMap::new(alloc);
     let arguments = declare(scope, &mut locals, head)?;
@@ -207,7 +207,7 @@ pub fn judge_procedure<'t>(
     head: &ProcedureHead<'t>,
     body: Block,
 ) -> Result<TypedProc, TypeFault>
-    ensures { Answers typed_view.procedure_of result (procedure (scope_of scope.now) (procedure_text_of head.now (tree_view.phrases_of body))) }
+    ensures { Answers procedure_of result (procedure (scope_of scope.now) (procedure_text_of head.now (phrases_of body))) }
 {
     judge_parts(alloc, scope, head, &body)
 }

@@ -3,12 +3,13 @@
 ghost use Rattle.std.specs.Prelude.{◌≡◌, length, map};
 ghost use Rattle.std.specs.Option.{option_map};
 ghost use Rattle.pst_tree.specs.Syntax as tree;
-ghost use Rattle.pst_tree.specs.View as tree_view;
+ghost use Rattle.pst_tree.specs.View.{expr_of, local_of, phrase_of, phrases_of};
 ghost use Rattle.pst_program.specs.View as typed_view;
+ghost use Rattle.pst_program.specs.View.{action_of, actions_of};
 ghost use Rattle.pst_typing.specs.Answers.{found};
 ghost use Rattle.pst_typing.specs.declared.fault.TypeFault.TheVariants as fault;
 ghost use Rattle.pst_typing.specs.Names.{named};
-ghost use Rattle.pst_typing.specs.Statements.{assigned, stored, element_stored, written, made, arguments, received, called, returned, statement, block};
+ghost use Rattle.pst_typing.specs.Statements.{assigned, stored, element_stored, written, made, arguments, received, called, statement, block};
 ghost use Rattle.pst_typing.specs.View.{Answers};
 ghost use Rattle.pst_types_scope.specs.View.{kind_word, setting_of, variable_of, signature_of};
 
@@ -28,7 +29,7 @@ fn assign<'t>(
     target: Target<'t>,
     value: &Expression,
 ) -> Result<TypedForm, TypeFault>
-    ensures { Answers typed_view.action_of result (assigned (setting_of setting.now) line (variable_of target.entry) (tree_view.expr_of value.now)) }
+    ensures { Answers action_of result (assigned (setting_of setting.now) line (variable_of target.entry) (expr_of value.now)) }
 {
     match target {
         Target::Local(local) => Ok(TypedForm::Set {
@@ -56,7 +57,7 @@ fn store(
     name: &[u8],
     value: &Expression,
 ) -> Result<TypedForm, TypeFault>
-    ensures { Answers typed_view.action_of result (stored (setting_of setting.now) line (tree_view.expr_of object.now) name.now (tree_view.expr_of value.now)) }
+    ensures { Answers action_of result (stored (setting_of setting.now) line (expr_of object.now) name.now (expr_of value.now)) }
 {
     let object = as_object(line, judge(alloc, setting, line, object)?)?;
     let field = plain_field(setting, line, object.ty, name)?;
@@ -80,7 +81,7 @@ fn store_element(
     index: &Expression,
     value: &Expression,
 ) -> Result<TypedForm, TypeFault>
-    ensures { Answers typed_view.action_of result (element_stored (setting_of setting.now) line (tree_view.expr_of object.now) name.now (tree_view.expr_of index.now) (tree_view.expr_of value.now)) }
+    ensures { Answers action_of result (element_stored (setting_of setting.now) line (expr_of object.now) name.now (expr_of index.now) (expr_of value.now)) }
 {
     let object = as_object(line, judge(alloc, setting, line, object)?)?;
     let array = array_field(setting, line, object.ty, name)?;
@@ -105,7 +106,7 @@ fn write(
     to: &Expression,
     value: &Expression,
 ) -> Result<TypedForm, TypeFault>
-    ensures { Answers typed_view.action_of result (written (setting_of setting.now) line (tree_view.expr_of to.now) (tree_view.expr_of value.now)) }
+    ensures { Answers action_of result (written (setting_of setting.now) line (expr_of to.now) (expr_of value.now)) }
 {
     match to {
         Expression::Name(name) => match setting.variable(name.as_slice()) {
@@ -131,7 +132,7 @@ fn write(
 
 /// A new record.
 fn make(setting: &Setting, line: u32, name: &[u8], ty: &[u8]) -> Result<TypedForm, TypeFault>
-    ensures { Answers typed_view.action_of result (made (setting_of setting.now) line name.now ty.now) }
+    ensures { Answers action_of result (made (setting_of setting.now) line name.now ty.now) }
 {
     let local = match setting.local(name) {
         None => return Err(TypeFault::Unknown { line }),
@@ -162,7 +163,7 @@ fn pass(
     values: &[Expression],
 ) -> Result<TypedList, TypeFault>
     requires { length values.now ≡ length parameters.now }
-    ensures { Answers (map typed_view.expr_of) result (arguments (setting_of setting.now) line (map tree_view.local_of parameters.now) (map tree_view.expr_of values.now)) }
+    ensures { Answers (map typed_view.expr_of) result (arguments (setting_of setting.now) line (map local_of parameters.now) (map expr_of values.now)) }
 {
     let mut items = Vec::with_capacity(alloc, values.len())?;
     for (index, value) in values.iter().enumerate() {
@@ -203,7 +204,7 @@ fn call<'t>(
     name: &Option<Text>,
     values: &[Expression],
 ) -> Result<TypedForm, TypeFault>
-    ensures { Answers typed_view.action_of result (called (setting_of setting.now) line (signature_of signature.entry) name.now (map tree_view.expr_of values.now)) }
+    ensures { Answers action_of result (called (setting_of setting.now) line (signature_of signature.entry) name.now (map expr_of values.now)) }
 {
     if setting.query && !signature.query {
         return Err(TypeFault::QueryWrites { line });
@@ -227,7 +228,7 @@ fn give_back(
     line: u32,
     value: &Option<Expression>,
 ) -> Result<TypedForm, TypeFault>
-    ensures { Answers typed_view.action_of result (returned (setting_of setting.now) line (setting_of setting.now).result (option_map tree_view.expr_of value.now)) }
+    ensures { Answers action_of result (statement (setting_of setting.now) line (tree.Return (option_map expr_of value.now))) }
 {
     match value {
         None => match setting.result {
@@ -248,7 +249,7 @@ fn print(
     line: u32,
     value: &Expression,
 ) -> Result<TypedForm, TypeFault>
-    ensures { Answers typed_view.action_of result (statement (setting_of setting.now) line (tree.Print (tree_view.expr_of value.now))) }
+    ensures { Answers action_of result (statement (setting_of setting.now) line (tree.Print (expr_of value.now))) }
 {
     let value = of_sort(alloc, setting, line, Sort::Int, value)?;
     Ok(TypedForm::Print(value))
@@ -262,7 +263,7 @@ fn judge_form(
     line: u32,
     form: &Form,
 ) -> Result<TypedForm, TypeFault>
-    ensures { Answers typed_view.action_of result (statement (setting_of setting.now) line (tree_view.phrase_of form.now)) }
+    ensures { Answers action_of result (statement (setting_of setting.now) line (phrase_of form.now)) }
 {
     match form {
         Form::New { name, ty } => make(setting, line, name.as_slice(), ty.as_slice()),
@@ -302,7 +303,7 @@ pub fn judge_block(
     setting: &Setting,
     statements: &Block,
 ) -> Result<TypedBlock, TypeFault>
-    ensures { Answers typed_view.actions_of result (block (setting_of setting.now) (tree_view.phrases_of statements.now)) }
+    ensures { Answers actions_of result (block (setting_of setting.now) (phrases_of statements.now)) }
 {
     let mut items = Vec::with_capacity(alloc, statements.items.len())?;
     for statement in &statements.items {
