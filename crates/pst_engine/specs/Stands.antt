@@ -1,5 +1,5 @@
 -- What an engine and a heap stand for: a history, of which neither keeps anything but what is here.
--- Letters: m is the meaning of a program, h a history, s the state of the heap before and t after, r a reply, v a version.
+-- Letters: m is the meaning of a program, code is code with a meaning, h a history, s the state of the heap before and t after, r a reply, v a version.
 use Rattle.std.specs.Prelude.{◌≡◌, ◌≢◌, ℕ, ◌+◌, ◌<◌, ◌^◌, List, ℤ, [], ◌∷◌, map, drop, None, Some, IfSome, true, length, slice_get}
 use Rattle.pst_base.specs.declared.names.RunNo.{RunNo}
 use Rattle.pst_base.specs.declared.names.Name.{Name}
@@ -8,12 +8,12 @@ use Rattle.pst_base.specs.declared.names.VersionNo.{VersionNo}
 use Rattle.pst_program.specs.declared.meaning.Ended.{Ended}
 use Rattle.pst_program.specs.declared.meaning.Ended.TheVariants.{Done, Trapped, Stopped}
 use Rattle.pst_script.specs.declared.command.Command.{Command}
+use Rattle.pst_script.specs.declared.command.Command.TheVariants.{CallRun}
 use Rattle.pst_script.specs.declared.reply.Reply.{Reply}
 use Rattle.pst_script.specs.declared.reply.Reply.TheVariants as answer
 use Rattle.pst_base.specs.Heap.{initial_heap}
 use Rattle.pst_program.specs.Sound.{CountsWithin}
 use Rattle.pst_program.specs.Laws.{IsOlder}
-use Rattle.pst_code.specs.declared.procedure.Parts.{Parts}
 use Rattle.pst_versions.specs.declared.rows.VersionRow.{VersionRow}
 use Rattle.pst_places.specs.State.{IsFresh, State, IsOpenFork, Published}
 use Rattle.pst_script.specs.Commands.{in_range}
@@ -21,7 +21,8 @@ use Rattle.pst_history.specs.declared.history.Descent.{Descent}
 use Rattle.pst_history.specs.Meaning.{Meaning}
 use Rattle.pst_history.specs.History.{Opening, History, refusal, changed, answered, after, reply}
 use Rattle.pst_engine.specs.declared.engine.Engine.{Engine}
-use Rattle.pst_engine_runs.specs.Stands.{AreGivenForks, HoldsVersions, StandsFor, machine_runs}
+use Rattle.pst_engine_runs.specs.Coded.{MeantCode}
+use Rattle.pst_engine_runs.specs.Stands.{AreGivenForks, HoldsVersions, RunsStand}
 
 -- ---- the end of a run
 
@@ -38,43 +39,47 @@ pub record MayPublish {P R : Type 0} (s : State P R) (parent : VersionNo) (at : 
 
 -- ---- what an engine answers
 
--- an engine over code of this meaning with these parts, and a heap, stand for a history
-abbrev pub EngineStands : {H P R : Type 0} → Meaning → Parts → Engine H R P → State P R → History → Type 0
-EngineStands m parts engine s h = StandsFor m (machine_runs parts) engine.active.items.items engine.budget engine.next_run.0 s h
+-- an engine over this code, and a heap, stand for a history
+abbrev pub EngineStands : {H P R : Type 0} → MeantCode → Engine H R P → State P R → History → Type 0
+EngineStands code engine s h = RunsStand code engine.active.items.items engine.budget engine.next_run.0 s h
 
 -- they stand for a history that does not refuse the command
-pub record MayAnswer {H P R : Type 0} (m : Meaning) (parts : Parts) (engine : Engine H R P) (s : State P R) (command : Command) : Type 0 where
+pub record MayAnswer {H P R : Type 0} (code : MeantCode) (engine : Engine H R P) (s : State P R) (command : Command) : Type 0 where
   pub history : History
-  pub stands : EngineStands m parts engine s history
-  pub accepted : refusal m history command ≡ None
+  pub stands : EngineStands code engine s history
+  pub accepted : refusal code.meaning history command ≡ None
 
 -- the answer to a command is that of the history, and engine and heap stand for the history after it, if a line can give it
-pub record IsCarried {H P R : Type 0} (m : Meaning) (parts : Parts) (command : Command) (r : Reply) (new : Engine H R P) (t : State P R) (h : History) : Type 0 where
-  pub stands : in_range command ≡ true → EngineStands m parts new t (changed m h command)
-  pub reply : r ≡ answered m h command
+pub record IsCarried {H P R : Type 0} (code : MeantCode) (command : Command) (r : Reply) (new : Engine H R P) (t : State P R) (h : History) : Type 0 where
+  pub stands : in_range command ≡ true → EngineStands code new t (changed code.meaning h command)
+  pub reply : r ≡ answered code.meaning h command
 
 -- so for every history for which they stood and that does not refuse the command
-abbrev pub Carries : {H P R : Type 0} → Meaning → Parts → (old : Engine H R P) → (s : State P R) → Command → Reply → (new : Engine H R P) → (t : State P R) → Type 0
-Carries m parts old s command r new t = (h : History) → EngineStands m parts old s h → refusal m h command ≡ None → IsCarried m parts command r new t h
+abbrev pub Carries : {H P R : Type 0} → MeantCode → (old : Engine H R P) → (s : State P R) → Command → (new : Engine H R P) → (t : State P R) → Reply → Type 0
+Carries code old s command new t r = (h : History) → EngineStands code old s h → refusal code.meaning h command ≡ None → IsCarried code command r new t h
+
+-- so of a call that an open run is given
+abbrev pub CarriesCall : {H P R : Type 0} → MeantCode → (old : Engine H R P) → (s : State P R) → RunNo → (procedure : List ℕ) → (arguments : List ℤ) → (new : Engine H R P) → (t : State P R) → Reply → Type 0
+CarriesCall code old s run procedure arguments new t r = Carries code old s (CallRun run procedure arguments) new t r
 
 -- the answer to a command is the reply, and engine and heap stand for the history after it, if a line can give it
-pub record IsAnswered {H P R : Type 0} (m : Meaning) (parts : Parts) (command : Command) (r : Reply) (new : Engine H R P) (t : State P R) (h : History) : Type 0 where
-  pub stands : in_range command ≡ true → EngineStands m parts new t (after m h command)
-  pub reply : r ≡ reply m h command
+pub record IsAnswered {H P R : Type 0} (code : MeantCode) (command : Command) (r : Reply) (new : Engine H R P) (t : State P R) (h : History) : Type 0 where
+  pub stands : in_range command ≡ true → EngineStands code new t (after code.meaning h command)
+  pub reply : r ≡ reply code.meaning h command
 
 -- so for every history for which they stood
-abbrev pub Answers : {H P R : Type 0} → Meaning → Parts → (old : Engine H R P) → (s : State P R) → Command → Reply → (new : Engine H R P) → (t : State P R) → Type 0
-Answers m parts old s command r new t = (h : History) → EngineStands m parts old s h → IsAnswered m parts command r new t h
+abbrev pub Answers : {H P R : Type 0} → MeantCode → (old : Engine H R P) → (s : State P R) → Command → Reply → (new : Engine H R P) → (t : State P R) → Type 0
+Answers code old s command r new t = (h : History) → EngineStands code old s h → IsAnswered code command r new t h
 
 -- they stand for some history
-pub record MayApply {H P R : Type 0} (m : Meaning) (parts : Parts) (engine : Engine H R P) (s : State P R) : Type 0 where
+pub record MayApply {H P R : Type 0} (code : MeantCode) (engine : Engine H R P) (s : State P R) : Type 0 where
   pub history : History
-  pub stands : EngineStands m parts engine s history
+  pub stands : EngineStands code engine s history
 
 -- after want of memory the heap's versions are those of each history before, and each keeps its row and so its place
-pub record Wants {H P R : Type 0} (m : Meaning) (parts : Parts) (old : Engine H R P) (s t : State P R) : Type 0 where
+pub record Wants {H P R : Type 0} (code : MeantCode) (old : Engine H R P) (s t : State P R) : Type 0 where
   pub rows : t.versions ≡ s.versions
-  pub holds : (h : History) → EngineStands m parts old s h → HoldsVersions m t h
+  pub holds : (h : History) → EngineStands code old s h → HoldsVersions code.meaning t h
 
 -- ---- how an engine and a heap begin
 

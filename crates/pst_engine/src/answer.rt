@@ -31,8 +31,8 @@ pub(crate) fn answer<H: VersionedHeap, C: Meant>(
     engine: &mut Engine<H>,
     command: &Command,
 ) -> Result<Reply, NoMemory>
-    requires { MayAnswer (C.meaning code.now) (C.parts code.now) engine.old (H.state heap.old) command.now }
-    ensures ok { IfOk result (λ r. Carries (C.meaning code.now) (C.parts code.now) engine.old (H.state heap.old) command.now r engine.new (H.state heap.new)) }
+    requires { MayAnswer (C.meant code.now) engine.old (H.state heap.old) command.now }
+    ensures ok { IfOk result (Carries (C.meant code.now) engine.old (H.state heap.old) command.now engine.new (H.state heap.new)) }
     ensures err { OnErr result (VersionsStay (H.state heap.old) (H.state heap.new)) }
     ensures same_failed { engine.new.failed ≡ engine.old.failed }
 {

@@ -48,8 +48,8 @@ pub(crate) fn close<H: VersionedHeap, C: Meant>(
 ) -> Result<Reply, NoMemory>
     requires at { at < length active.old.items }
     requires run { IsRunAt active.old.items at run }
-    requires stands { StandForSome (C.meaning code.now) (C.parts code.now) active.old.items (H.state heap.old) }
-    ensures ok { IfOk result (λ r. Closes (C.meaning code.now) (C.parts code.now) active.old.items (H.state heap.old) run r active.new.items (H.state heap.new)) }
+    requires stands { StandForSome (C.meant code.now) active.old.items (H.state heap.old) }
+    ensures ok { IfOk result (λ r. Closes (C.meant code.now) active.old.items (H.state heap.old) run r active.new.items (H.state heap.new)) }
     ensures err { OnErr result (VersionsStay (H.state heap.old) (H.state heap.new)) }
 {
     heap.known();

@@ -70,13 +70,13 @@ impl<H: VersionedHeap> Engine<H> {
         heap: &mut H,
         command: &Command,
     ) -> Result<Reply, NoMemory>
-        requires { self.old.failed ≡ false → MayApply (C.meaning code.now) (C.parts code.now) self.old (H.state heap.old) }
+        requires { self.old.failed ≡ false → MayApply (C.meant code.now) self.old (H.state heap.old) }
         ensures ok { IfOk result (λ r. (self.old.failed ≡ false) × (self.new.failed ≡ false)) }
-        ensures answers { IfOk result (λ r. Answers (C.meaning code.now) (C.parts code.now) self.old (H.state heap.old) command.now r self.new (H.state heap.new)) }
+        ensures answers { IfOk result (λ r. Answers (C.meant code.now) self.old (H.state heap.old) command.now r self.new (H.state heap.new)) }
         ensures refused { IfOk result (λ r. (why : Refusal) → r ≡ answer.Refused why → (self.new ≡ self.old) × (heap.new ≡ heap.old)) }
-        ensures may { IfOk result (λ r. in_range command.now ≡ true → MayApply (C.meaning code.now) (C.parts code.now) self.new (H.state heap.new)) }
+        ensures may { IfOk result (λ r. in_range command.now ≡ true → MayApply (C.meant code.now) self.new (H.state heap.new)) }
         ensures err { OnErr result (self.new.failed ≡ true) }
-        ensures wants { OnErr result (Wants (C.meaning code.now) (C.parts code.now) self.old (H.state heap.old) (H.state heap.new)) }
+        ensures wants { OnErr result (Wants (C.meant code.now) self.old (H.state heap.old) (H.state heap.new)) }
         ensures failed { self.old.failed ≡ true → IsErr result × (self.new ≡ self.old) × (heap.new ≡ heap.old) }
     {
         if self.failed {

@@ -17,8 +17,8 @@ pub fn an_opening_stands<H: VersionedHeap, C: Meant>(code: &C, heap: &H, engine:
     requires idle { engine.now.active.items.items ≡ [] }
     requires next_run { (0 < engine.now.next_run.0) × (engine.now.next_run.0 ≤ RUNS + 1) }
     requires budget { IsBudget engine.now.budget }
-    requires heap { IsOpeningHeap (C.meaning code.now) (H.state heap.now) engine.now.next_run.0 }
-    ensures { EngineStands (C.meaning code.now) (C.parts code.now) engine.now (H.state heap.now) (begun (opening_of (H.state heap.now) engine.now.next_run.0 engine.now.budget)) }
+    requires heap { IsOpeningHeap (C.meant code.now).meaning (H.state heap.now) engine.now.next_run.0 }
+    ensures { EngineStands (C.meant code.now) engine.now (H.state heap.now) (begun (opening_of (H.state heap.now) engine.now.next_run.0 engine.now.budget)) }
 {
     heap.known();
     heap.known_versions();
@@ -28,8 +28,8 @@ pub fn an_opening_stands<H: VersionedHeap, C: Meant>(code: &C, heap: &H, engine:
 /// A new engine and a heap as it is started stand for the opening of `run`.
 pub fn a_new_engine_stands<H: VersionedHeap, C: Meant>(code: &C, heap: &H, engine: &Engine<H>)
     requires new { (engine.now.active.items.items ≡ []) × (engine.now.next_run.0 ≡ 1) × (engine.now.budget ≡ BUDGET) }
-    requires heap { IsStartedHeap (C.meaning code.now) (H.state heap.now) }
-    ensures { EngineStands (C.meaning code.now) (C.parts code.now) engine.now (H.state heap.now) (begun (opening (C.meaning code.now).shape)) }
+    requires heap { IsStartedHeap (C.meant code.now).meaning (H.state heap.now) }
+    ensures { EngineStands (C.meant code.now) engine.now (H.state heap.now) (begun (opening (C.meant code.now).meaning.shape)) }
 {
     heap.known();
     heap.known_versions();

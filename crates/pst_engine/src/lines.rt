@@ -3,7 +3,7 @@
 ghost use Rattle.std.specs.Prelude.{◌≡◌, IfOk, OnErr};
 ghost use Rattle.pst_script.specs.declared.command.Command.TheVariants as command;
 ghost use Rattle.pst_engine_runs.specs.Stands.{VersionsStay};
-ghost use Rattle.pst_engine.specs.Stands.{Carries, MayAnswer};
+ghost use Rattle.pst_engine.specs.Stands.{Carries, CarriesCall, MayAnswer};
 
 use crate::closing::close;
 use crate::engine::Engine;
@@ -22,8 +22,8 @@ pub(crate) fn open_run<H: VersionedHeap, C: Meant>(
     engine: &mut Engine<H>,
     first: &Call,
 ) -> Result<Reply, NoMemory>
-    requires { MayAnswer (C.meaning code.now) (C.parts code.now) engine.old (H.state heap.old) (command.OpenRun first.now) }
-    ensures ok { IfOk result (λ r. Carries (C.meaning code.now) (C.parts code.now) engine.old (H.state heap.old) (command.OpenRun first.now) r engine.new (H.state heap.new)) }
+    requires { MayAnswer (C.meant code.now) engine.old (H.state heap.old) (command.OpenRun first.now) }
+    ensures ok { IfOk result (Carries (C.meant code.now) engine.old (H.state heap.old) (command.OpenRun first.now) engine.new (H.state heap.new)) }
     ensures stay { VersionsStay (H.state heap.old) (H.state heap.new) }
     ensures same_failed { engine.new.failed ≡ engine.old.failed }
 {
@@ -50,8 +50,8 @@ pub(crate) fn open_empty<H: VersionedHeap, C: Meant>(
     engine: &mut Engine<H>,
     version: VersionNo,
 ) -> Result<Reply, NoMemory>
-    requires { MayAnswer (C.meaning code.now) (C.parts code.now) engine.old (H.state heap.old) (command.OpenEmpty version) }
-    ensures ok { IfOk result (λ r. Carries (C.meaning code.now) (C.parts code.now) engine.old (H.state heap.old) (command.OpenEmpty version) r engine.new (H.state heap.new)) }
+    requires { MayAnswer (C.meant code.now) engine.old (H.state heap.old) (command.OpenEmpty version) }
+    ensures ok { IfOk result (Carries (C.meant code.now) engine.old (H.state heap.old) (command.OpenEmpty version) engine.new (H.state heap.new)) }
     ensures stay { VersionsStay (H.state heap.old) (H.state heap.new) }
     ensures same_failed { engine.new.failed ≡ engine.old.failed }
 {
@@ -78,8 +78,8 @@ pub(crate) fn run<H: VersionedHeap, C: Meant>(
     engine: &mut Engine<H>,
     first: &Call,
 ) -> Result<Reply, NoMemory>
-    requires { MayAnswer (C.meaning code.now) (C.parts code.now) engine.old (H.state heap.old) (command.Run first.now) }
-    ensures ok { IfOk result (λ r. Carries (C.meaning code.now) (C.parts code.now) engine.old (H.state heap.old) (command.Run first.now) r engine.new (H.state heap.new)) }
+    requires { MayAnswer (C.meant code.now) engine.old (H.state heap.old) (command.Run first.now) }
+    ensures ok { IfOk result (Carries (C.meant code.now) engine.old (H.state heap.old) (command.Run first.now) engine.new (H.state heap.new)) }
     ensures err { OnErr result (VersionsStay (H.state heap.old) (H.state heap.new)) }
     ensures same_failed { engine.new.failed ≡ engine.old.failed }
 {
@@ -101,8 +101,8 @@ pub(crate) fn call_run<H: VersionedHeap, C: Meant>(
     procedure: &Text,
     arguments: &Numbers,
 ) -> Result<Reply, NoMemory>
-    requires { MayAnswer (C.meaning code.now) (C.parts code.now) engine.old (H.state heap.old) (command.CallRun run procedure.now arguments.now) }
-    ensures ok { IfOk result (λ r. Carries (C.meaning code.now) (C.parts code.now) engine.old (H.state heap.old) (command.CallRun run procedure.now arguments.now) r engine.new (H.state heap.new)) }
+    requires { MayAnswer (C.meant code.now) engine.old (H.state heap.old) (command.CallRun run procedure.now arguments.now) }
+    ensures ok { IfOk result (CarriesCall (C.meant code.now) engine.old (H.state heap.old) run procedure.now arguments.now engine.new (H.state heap.new)) }
     ensures stay { VersionsStay (H.state heap.old) (H.state heap.new) }
     ensures same_failed { engine.new.failed ≡ engine.old.failed }
 {
@@ -126,8 +126,8 @@ pub(crate) fn step_run<H: VersionedHeap, C: Meant>(
     run: RunNo,
     charges: u32,
 ) -> Result<Reply, NoMemory>
-    requires { MayAnswer (C.meaning code.now) (C.parts code.now) engine.old (H.state heap.old) (command.StepRun run charges) }
-    ensures ok { IfOk result (λ r. Carries (C.meaning code.now) (C.parts code.now) engine.old (H.state heap.old) (command.StepRun run charges) r engine.new (H.state heap.new)) }
+    requires { MayAnswer (C.meant code.now) engine.old (H.state heap.old) (command.StepRun run charges) }
+    ensures ok { IfOk result (Carries (C.meant code.now) engine.old (H.state heap.old) (command.StepRun run charges) engine.new (H.state heap.new)) }
     ensures stay { VersionsStay (H.state heap.old) (H.state heap.new) }
     ensures same_failed { engine.new.failed ≡ engine.old.failed }
 {
@@ -143,8 +143,8 @@ pub(crate) fn close_run<H: VersionedHeap, C: Meant>(
     engine: &mut Engine<H>,
     run: RunNo,
 ) -> Result<Reply, NoMemory>
-    requires { MayAnswer (C.meaning code.now) (C.parts code.now) engine.old (H.state heap.old) (command.CloseRun run) }
-    ensures ok { IfOk result (λ r. Carries (C.meaning code.now) (C.parts code.now) engine.old (H.state heap.old) (command.CloseRun run) r engine.new (H.state heap.new)) }
+    requires { MayAnswer (C.meant code.now) engine.old (H.state heap.old) (command.CloseRun run) }
+    ensures ok { IfOk result (Carries (C.meant code.now) engine.old (H.state heap.old) (command.CloseRun run) engine.new (H.state heap.new)) }
     ensures err { OnErr result (VersionsStay (H.state heap.old) (H.state heap.new)) }
     ensures same_failed { engine.new.failed ≡ engine.old.failed }
 {
@@ -159,8 +159,8 @@ pub(crate) fn drop_run<H: VersionedHeap, C: Meant>(
     engine: &mut Engine<H>,
     run: RunNo,
 ) -> Reply
-    requires { MayAnswer (C.meaning _code.now) (C.parts _code.now) engine.old (H.state _heap.now) (command.DropRun run) }
-    ensures carries { Carries (C.meaning _code.now) (C.parts _code.now) engine.old (H.state _heap.now) (command.DropRun run) result engine.new (H.state _heap.now) }
+    requires { MayAnswer (C.meant _code.now) engine.old (H.state _heap.now) (command.DropRun run) }
+    ensures carries { Carries (C.meant _code.now) engine.old (H.state _heap.now) (command.DropRun run) engine.new (H.state _heap.now) result }
     ensures same_failed { engine.new.failed ≡ engine.old.failed }
 {
     let at = index_of(&engine.active, run);
@@ -176,8 +176,8 @@ pub(crate) fn ask<H: VersionedHeap, C: Meant>(
     engine: &Engine<H>,
     first: &Call,
 ) -> Result<Reply, NoMemory>
-    requires { MayAnswer (C.meaning code.now) (C.parts code.now) engine.now (H.state heap.old) (command.Query first.now) }
-    ensures ok { IfOk result (λ r. Carries (C.meaning code.now) (C.parts code.now) engine.now (H.state heap.old) (command.Query first.now) r engine.now (H.state heap.new)) }
+    requires { MayAnswer (C.meant code.now) engine.now (H.state heap.old) (command.Query first.now) }
+    ensures ok { IfOk result (Carries (C.meant code.now) engine.now (H.state heap.old) (command.Query first.now) engine.now (H.state heap.new)) }
     ensures stay { VersionsStay (H.state heap.old) (H.state heap.new) }
 {
     query(alloc, code, heap, engine.budget, engine.next_run, first)

@@ -21,8 +21,8 @@ pub(crate) fn open<H: VersionedHeap, C: Meant>(
     next_run: RunNo,
     version: VersionNo,
 ) -> Result<usize, NoMemory>
-    requires { MayOpenSome (C.meaning code.now) (C.parts code.now) active.old.items budget next_run.0 (H.state heap.old) version [] }
-    ensures ok { OnOk result (Opens (C.meaning code.now) (C.parts code.now) active.old.items budget next_run.0 (H.state heap.old) version [] active.new.items (H.state heap.new)) }
+    requires { MayOpenSome (C.meant code.now) active.old.items budget next_run.0 (H.state heap.old) version [] }
+    ensures ok { OnOk result (Opens (C.meant code.now) active.old.items budget next_run.0 (H.state heap.old) version [] active.new.items (H.state heap.new)) }
     ensures at { IfOk result (λ at. (at < length active.new.items) × IsRunAt active.new.items at next_run) }
     ensures stay { VersionsStay (H.state heap.old) (H.state heap.new) }
 {
@@ -52,8 +52,8 @@ pub(crate) fn open_with<H: VersionedHeap, C: Meant>(
     next_run: RunNo,
     first: &Call,
 ) -> Result<usize, NoMemory>
-    requires { MayOpenSome (C.meaning code.now) (C.parts code.now) active.old.items budget next_run.0 (H.state heap.old) first.now.version (call_of first.now ∷ []) }
-    ensures ok { OnOk result (OpensWith (C.meaning code.now) (C.parts code.now) active.old.items budget next_run.0 (H.state heap.old) first.now active.new.items (H.state heap.new)) }
+    requires { MayOpenSome (C.meant code.now) active.old.items budget next_run.0 (H.state heap.old) first.now.version (call_of first.now ∷ []) }
+    ensures ok { OnOk result (OpensWith (C.meant code.now) active.old.items budget next_run.0 (H.state heap.old) first.now active.new.items (H.state heap.new)) }
     ensures at { IfOk result (λ at. (at < length active.new.items) × IsRunAt active.new.items at next_run) }
     ensures stay { VersionsStay (H.state heap.old) (H.state heap.new) }
 {

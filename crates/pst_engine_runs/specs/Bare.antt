@@ -15,7 +15,7 @@ use Rattle.pst_code.specs.Valid.{IsValidCode}
 use Rattle.pst_translation.specs.Compiled.{code_of}
 use Rattle.pst_history.specs.Meaning.{Meaning, Work, CanBeDone, IsLawful}
 use Rattle.pst_history.specs.Direct.{direct}
-use Rattle.pst_engine_runs.specs.Coded.{code_call, code_parameters, IsMeaningOf}
+use Rattle.pst_engine_runs.specs.Coded.{code_call, code_parameters, IsMeaningOf, MeantCode}
 
 -- the end to which a run came, or this world where it came to none
 abbrev pub end_or : World → Move → Ending
@@ -41,6 +41,10 @@ by_machine parts = record {
   query = code_parameters true parts;
   outcome = λ w granted heap. outcome_by (machine_call parts) w.run (map (code_call parts) w.calls) w.budget granted heap;
 }
+
+-- valid code by itself, with that meaning
+abbrev pub meant_by_machine : Parts → MeantCode
+meant_by_machine parts = record { meaning = by_machine parts; parts = parts }
 
 -- all valid code has this meaning, which is lawful
 abbrev pub ValidCodeHasAMeaning : Type 0

@@ -2,11 +2,13 @@
 use Rattle.std.specs.Prelude.{◌≡◌, ℕ, List, length, map, min, nat_le, Option, Bool, true, false, unwrap_or}
 use Rattle.pst_base.specs.declared.names.Kind.{Kind}
 use Rattle.pst_base.specs.Heap.{Heap}
+use Rattle.pst_program.specs.declared.program.Program.{Program}
 use Rattle.pst_program.specs.Syntax.{Routines}
 use Rattle.pst_program.specs.Meaning.{Ending}
 use Rattle.pst_program.specs.Outcome.{TaskCall, first_world, outcome_of}
 use Rattle.pst_program.specs.Procedures.{parameters_with_name}
 use Rattle.pst_program.specs.Typed.{IsTyped}
+use Rattle.pst_program.specs.View.{routines_of}
 use Rattle.pst_code.specs.declared.procedure.Parts.{Parts}
 use Rattle.pst_code.specs.Calls.{CallsEndIn}
 use Rattle.pst_code.specs.Procedures.{procedure_named}
@@ -14,7 +16,7 @@ use Rattle.pst_code.specs.Valid.{signature}
 use Rattle.pst_translation.specs.Compiled.{code_of}
 use Rattle.pst_history.specs.declared.history.NamedCall.{NamedCall}
 use Rattle.pst_history.specs.Meaning.{Meaning, Work, CanBeDone, IsLawful, ReadsOnly}
-use Rattle.pst_history.specs.Direct.{direct}
+use Rattle.pst_history.specs.Direct.{direct, meaning_of}
 
 -- the number of the procedure or query with a name; past the last, where there is none
 abbrev pub code_number : Parts → List ℕ → ℕ
@@ -40,6 +42,15 @@ pub record IsMeaningOf (parts : Parts) (m : Meaning) : Type 0 where
   pub query : (name : List ℕ) → m.query name ≡ code_parameters true parts name
   pub comes : (w : Work) (granted : ℕ) (heap : Heap) → CanBeDone m w heap → (o : Ending) × WorkEndsIn parts w granted heap o
   pub outcome : (w : Work) (granted : ℕ) (heap : Heap) (o : Ending) → WorkEndsIn parts w granted heap o → m.outcome w granted heap ≡ outcome_of (nat_le w.budget granted) o
+
+-- code with a meaning: what it means, and the parts by which the machine runs it
+pub record MeantCode : Type 0 where
+  pub meaning : Meaning
+  pub parts : Parts
+
+-- the code of a program, with the meaning of the program
+abbrev pub meant_by : Program → MeantCode
+meant_by program = record { meaning = meaning_of program; parts = code_of (routines_of program) }
 
 -- the code of a well-typed program has the program's meaning, which is lawful, and its queries write nothing
 abbrev pub CompiledCodeMeansTheProgram : Type 0

@@ -1,6 +1,6 @@
 -- Runs of the machine as an engine asks for them: said of the meaning of their code and of the work that they do, and not of
 -- frames and registers.
--- Letters: m is the meaning of a program, w work, a a run, s the state of a heap, h and y heaps, c counts, k charges.
+-- Letters: m is the meaning of a program, code is code with a meaning, w work, a a run, s the state of a heap, h and y heaps, c counts, k charges.
 use Rattle.std.specs.Prelude.{◌≡◌, ◌⊎◌, ◌≢◌, ◌+◌, ℕ, ◌≤◌, ℤ, true, false, List, [], ◌∷◌, map, min, IsTrue, Option, Some, None}
 use Rattle.pst_base.specs.Counts.{counts_plus}
 use Rattle.pst_base.specs.declared.names.Counts.{Counts}
@@ -16,7 +16,8 @@ use Rattle.pst_code.specs.declared.procedure.Parts.{Parts}
 use Rattle.pst_places.specs.State.{State, IsSound, Grows, IsFresh}
 use Rattle.pst_history.specs.declared.history.NamedCall.{NamedCall}
 use Rattle.pst_history.specs.Meaning.{Meaning, Work, CanBeDone, with_calls, fits_one}
-use Rattle.pst_engine_runs.specs.Coded.{code_call}
+use Rattle.pst_engine_runs.specs.Coded.{MeantCode, code_call}
+use Rattle.pst_machine.specs.declared.activation.Activation.{Activation}
 use Rattle.pst_machine.specs.declared.stage.Stage.{Stage}
 use Rattle.pst_machine.specs.declared.stage.Progress.{Progress}
 use Rattle.pst_machine.specs.declared.stage.Progress.TheVariants.{Running, Done, Trapped}
@@ -65,6 +66,10 @@ runs_of stage parts = record {
   waits = λ a s w granted h c. StandsAs parts (stage a) s w granted h c;
 }
 
+-- the activations of the machine on code with these parts
+abbrev pub machine_runs : {H P R : Type 0} → Parts → Runs P R (Activation H R P)
+machine_runs parts = runs_of (λ a. a.stage) parts
+
 -- how a slice ended
 abbrev pub ended_of : Progress → Ended
 ended_of Running = ended.Stopped
@@ -98,8 +103,9 @@ pub record IsWaiting {P R A : Type 0} (m : Meaning) (x : Runs P R A) (s : State 
   pub granted_within : granted ≤ w.budget
   pub waits : x.waits a s w granted h c
 
-abbrev pub WaitsForSome : {P R A : Type 0} → Meaning → Runs P R A → State P R → A → Type 0
-WaitsForSome m x s a = (w : Work) × (k : ℕ) × (y : Heap) × (c : Counts) × IsWaiting m x s a w k y c
+-- so an activation of code, with some work
+abbrev pub WaitsForSome : {H P R : Type 0} → MeantCode → State P R → Activation H R P → Type 0
+WaitsForSome code s a = (w : Work) × (k : ℕ) × (y : Heap) × (c : Counts) × IsWaiting code.meaning (machine_runs code.parts) s a w k y c
 
 -- one call more can be added: that of a query, or at a place that can be written
 pub record MayAdd {P R A : Type 0} (m : Meaning) (x : Runs P R A) (s : State P R) (a : A) (w : Work) (granted : ℕ) (h : Heap) (c : Counts) (call : NamedCall) : Type 0 where
@@ -107,18 +113,22 @@ pub record MayAdd {P R A : Type 0} (m : Meaning) (x : Runs P R A) (s : State P R
   pub ready : CanBeDone m (with_calls w (call ∷ [])) h
   pub writable : IsTrue (fits_one (m.query call.procedure) call.arguments) ⊎ s.writable (x.place a)
 
-abbrev pub MayAddSome : {P R A : Type 0} → Meaning → Runs P R A → State P R → A → NamedCall → Type 0
-MayAddSome m x s a call = (w : Work) × (k : ℕ) × (y : Heap) × (c : Counts) × MayAdd m x s a w k y c call
+-- so to the work of an activation of code
+abbrev pub MayAddSome : {H P R : Type 0} → MeantCode → State P R → Activation H R P → NamedCall → Type 0
+MayAddSome code s a call = (w : Work) × (k : ℕ) × (y : Heap) × (c : Counts) × MayAdd code.meaning (machine_runs code.parts) s a w k y c call
 
 -- ---- what a run does
 
 -- a run without a call stands where its work stands before the first charge
-abbrev pub StandsBare : {P R A : Type 0} → Meaning → Runs P R A → State P R → (at : P) → RunNo → (budget : ℕ) → A → Type 0
-StandsBare m x s at run budget a = IsFreeFor m s at run → x.stands a s (record { run = run; calls = []; budget = budget }) 0 (s.heap at) no_counts
+abbrev pub StandsBare : {H P R : Type 0} → MeantCode → State P R → (at : P) → RunNo → (budget : ℕ) → Activation H R P → Type 0
+StandsBare code s at run budget a =
+    IsFreeFor code.meaning s at run → (machine_runs code.parts).stands a s (record { run = run; calls = []; budget = budget }) 0 (s.heap at) no_counts
 
 -- with a call more it waits where the work with that call stands
-abbrev pub WaitsWithCall : {P R A : Type 0} → Meaning → Runs P R A → State P R → (old : A) → NamedCall → (new : A) → Type 0
-WaitsWithCall m x s a call b = (w : Work) (k : ℕ) (y : Heap) (c : Counts) → MayAdd m x s a w k y c call → x.waits b s (with_calls w (call ∷ [])) k y c
+abbrev pub WaitsWithCall : {H P R : Type 0} → MeantCode → State P R → (old : Activation H R P) → NamedCall → (new : Activation H R P) → Type 0
+WaitsWithCall code s a call b =
+    (w : Work) (k : ℕ) (y : Heap) (c : Counts) → MayAdd code.meaning (machine_runs code.parts) s a w k y c call
+    → (machine_runs code.parts).waits b s (with_calls w (call ∷ [])) k y c
 
 -- A slice of a run: it stands where its work stands with these charges, and has the heap, the printed numbers and the end of
 -- that outcome. What it counts is counted, and it gives only names of its own number.
@@ -132,8 +142,10 @@ pub record RanOn {P R A : Type 0} (m : Meaning) (x : Runs P R A) (s : State P R)
   pub names : (n : Name) → n.run ≢ w.run → IsFresh s n → IsFresh t n
 
 -- so many charges more are granted, never more than the budget in all
-abbrev pub AdvancedBy : {P R A : Type 0} → Meaning → Runs P R A → State P R → (old : A) → (charges : ℕ) → State P R → (new : A) → Ended → Type 0
-AdvancedBy m x s a charges t b end = (w : Work) (k : ℕ) (y : Heap) (c : Counts) → IsWaiting m x s a w k y c → RanOn m x s a w (min (k + charges) w.budget) y c end t b
+abbrev pub AdvancedBy : {H P R : Type 0} → MeantCode → State P R → (old : Activation H R P) → (charges : ℕ) → State P R → (new : Activation H R P) → Ended → Type 0
+AdvancedBy code s a charges t b end =
+    (w : Work) (k : ℕ) (y : Heap) (c : Counts) → IsWaiting code.meaning (machine_runs code.parts) s a w k y c
+    → RanOn code.meaning (machine_runs code.parts) s a w (min (k + charges) w.budget) y c end t b
 
 -- ---- laws
 

@@ -7,7 +7,6 @@ use Rattle.pst_base.specs.declared.names.Name.{Name}
 use Rattle.pst_base.specs.Name.{root_name}
 use Rattle.pst_history.specs.declared.history.NamedCall.{NamedCall}
 use Rattle.pst_program.specs.Laws.{IsOlder}
-use Rattle.pst_code.specs.declared.procedure.Parts.{Parts}
 use Rattle.pst_versions.specs.declared.rows.VersionRow.{VersionRow}
 use Rattle.pst_places.specs.State.{State, ForkRow, IsFresh}
 use Rattle.pst_machine.specs.declared.activation.Activation.{Activation}
@@ -17,7 +16,8 @@ use Rattle.pst_history.specs.Meaning.{Meaning, fits_one}
 use Rattle.pst_history.specs.History.{History, run_at, is_open, work_of, heap_of, run_counts, counts_of, next_run, version_count}
 use Rattle.pst_history.specs.Sound.{IsSoundHistory}
 use Rattle.pst_engine_runs.specs.declared.entry.OpenEntry.{OpenEntry}
-use Rattle.pst_engine_runs.specs.Runs.{Runs, runs_of}
+use Rattle.pst_engine_runs.specs.Coded.{MeantCode}
+use Rattle.pst_engine_runs.specs.Runs.{Runs, machine_runs}
 use Rattle.pst_history.specs.declared.history.TheConstants.{CALLS}
 
 -- ---- the heap
@@ -99,10 +99,6 @@ pub record IsEntry {H P R : Type 0} (m : Meaning) (x : Runs P R (Activation H R 
   pub fork_found : slice_get s.forks (before + index) ≡ Some fork
   pub place : fork.place ≡ x.place e.activation
 
--- the activations of the machine on code with these parts
-abbrev pub machine_runs : {H P R : Type 0} → Parts → Runs P R (Activation H R P)
-machine_runs parts = runs_of (λ a. a.stage) parts
-
 -- These entries, with this budget and next run number, and a heap stand for a history.
 pub record StandsFor {H P R : Type 0} (m : Meaning) (x : Runs P R (Activation H R P)) (active : List (OpenEntry H R P)) (budget next : ℕ) (s : State P R) (h : History) : Type 0 where
   pub sound : IsSoundHistory m h
@@ -123,6 +119,10 @@ pub record StandsFor {H P R : Type 0} (m : Meaning) (x : Runs P R (Activation H 
   pub all : (n : ℕ) (r : Run) → run_at h n ≡ Some r → is_open r ≡ true → (i : ℕ) × (e : OpenEntry H R P) × (slice_get active i ≡ Some e) × (e.run.0 ≡ n)
   pub apart : (i j : ℕ) (e f : OpenEntry H R P) → slice_get active i ≡ Some e → slice_get active j ≡ Some f → e.run.0 ≡ f.run.0 → i ≡ j
 
+-- so where they are runs of this code
+abbrev pub RunsStand : {H P R : Type 0} → MeantCode → List (OpenEntry H R P) → (budget next : ℕ) → State P R → History → Type 0
+RunsStand code active budget next s h = StandsFor code.meaning (machine_runs code.parts) active budget next s h
+
 -- ---- what a change leaves
 
 -- each version keeps its row, its place and its heap, and no version comes
@@ -136,11 +136,11 @@ abbrev pub IsRunAt : {H P R : Type 0} → List (OpenEntry H R P) → (at : ℕ) 
 IsRunAt active at run = IfSome (slice_get active at) (λ e. e.run ≡ run)
 
 -- they stand for some history, with some budget and next run number
-pub record StandForSome {H P R : Type 0} (m : Meaning) (parts : Parts) (active : List (OpenEntry H R P)) (s : State P R) : Type 0 where
+pub record StandForSome {H P R : Type 0} (code : MeantCode) (active : List (OpenEntry H R P)) (s : State P R) : Type 0 where
   pub budget : ℕ
   pub next : ℕ
   pub history : History
-  pub stands : StandsFor m (machine_runs parts) active budget next s history
+  pub stands : RunsStand code active budget next s history
 
 -- a call that an open run can be given
 pub record MayCall (m : Meaning) (h : History) (n : ℕ) (c : NamedCall) : Type 0 where

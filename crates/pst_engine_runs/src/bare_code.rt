@@ -32,11 +32,9 @@ impl BareCode {
 }
 
 impl Meant for BareCode {
-    ghost use Rattle.pst_engine_runs.specs.Bare.{by_machine};
+    ghost use Rattle.pst_engine_runs.specs.Bare.{meant_by_machine};
 
-    ghost parts = { λ p. p };
-
-    ghost meaning = { λ p. by_machine p };
+    ghost meant = { meant_by_machine };
 
     fn code(&self) -> &Code {
         self.code.known();

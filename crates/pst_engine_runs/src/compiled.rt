@@ -58,13 +58,9 @@ impl Compiled {
 }
 
 impl Meant for Compiled {
-    ghost use Rattle.pst_history.specs.Direct.{meaning_of};
-    ghost use Rattle.pst_program.specs.View.{routines_of};
-    ghost use Rattle.pst_translation.specs.Compiled.{code_of};
+    ghost use Rattle.pst_engine_runs.specs.Coded.{meant_by};
 
-    ghost parts = { λ p. code_of (routines_of p) };
-
-    ghost meaning = { λ p. meaning_of p };
+    ghost meant = { meant_by };
 
     fn code(&self) -> &Code {
         compiled_code_means_the_program();

@@ -1,23 +1,19 @@
 //! Code whose meaning is known.
 
 ghost use Rattle.std.specs.Prelude.{◌≡◌};
-ghost use Rattle.pst_code.specs.declared.procedure.Parts.{Parts};
-ghost use Rattle.pst_history.specs.Meaning.{Meaning, IsLawful};
-ghost use Rattle.pst_engine_runs.specs.Coded.{IsMeaningOf};
+ghost use Rattle.pst_history.specs.Meaning.{IsLawful};
+ghost use Rattle.pst_engine_runs.specs.Coded.{IsMeaningOf, MeantCode};
 
 use pst_code::Code;
 
 /// Code whose meaning is known, and lawful: what the machine comes to on it.
 pub trait Meant {
-    /// The code.
-    ghost parts: { Self → Parts };
-
-    /// What it means.
-    ghost meaning: { Self → Meaning };
+    /// The code, with what it means.
+    ghost meant: { Self → MeantCode };
 
     /// The code.
     fn code(&self) -> &Code
-        ensures code { result.now ≡ parts self.now }
-        ensures means { IsMeaningOf (parts self.now) (meaning self.now) }
-        ensures lawful { IsLawful (meaning self.now) };
+        ensures code { result.now ≡ (meant self.now).parts }
+        ensures means { IsMeaningOf (meant self.now).parts (meant self.now).meaning }
+        ensures lawful { IsLawful (meant self.now).meaning };
 }

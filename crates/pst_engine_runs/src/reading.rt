@@ -47,8 +47,8 @@ pub fn query<H: VersionedHeap, C: Meant>(
     number: RunNo,
     first: &Call,
 ) -> Result<Reply, NoMemory>
-    requires { MayAskSome H (C.meaning code.now) (C.parts code.now) budget number.0 (H.state heap.old) first.now }
-    ensures ok { IfOk result (λ r. Asks H (C.meaning code.now) (C.parts code.now) budget number.0 (H.state heap.old) first.now r (H.state heap.new)) }
+    requires { MayAskSome H (C.meant code.now) budget number.0 (H.state heap.old) first.now }
+    ensures ok { IfOk result (λ r. Asks H (C.meant code.now) budget number.0 (H.state heap.old) first.now r (H.state heap.new)) }
     ensures stay { VersionsStay (H.state heap.old) (H.state heap.new) }
 {
     heap.known();

@@ -93,7 +93,7 @@ fn refusal_of_calls<H: VersionedHeap>(active: &[OpenEntry<H>], run: RunNo) -> Op
 
 /// Whether a procedure that may write can't be called so, or the version is not there.
 fn refusal_of_call<H: VersionedHeap, C: Meant>(code: &C, heap: &H, call: &Call) -> Option<Refusal>
-    ensures { result ≡ call_by (H.state heap.now) (kinds_refusal ((C.meaning code.now).proc call.now.procedure) call.now.arguments) call.now.version }
+    ensures { result ≡ call_by (H.state heap.now) (kinds_refusal ((C.meant code.now).meaning.proc call.now.procedure) call.now.arguments) call.now.version }
 {
     first_of(
         refusal_of_procedure(code, &call.procedure, &call.arguments),
@@ -116,7 +116,7 @@ pub fn refused<H: VersionedHeap, C: Meant>(
     next_run: RunNo,
     command: &Command,
 ) -> Option<Refusal>
-    ensures { result ≡ refusal_by (C.meaning code.now) (H.state heap.now) active.now next_run.0 command.now }
+    ensures { result ≡ refusal_by (C.meant code.now).meaning (H.state heap.now) active.now next_run.0 command.now }
 {
     match command {
         Command::Run(call) => first_of(

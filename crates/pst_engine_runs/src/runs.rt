@@ -20,9 +20,9 @@ use std::alloc::Global;
 /// What is so of the runs of any code: its meaning is lawful, a run that stands waits for its next slice, and one that stands
 /// still does whatever other runs do meanwhile.
 pub fn known<H: HeapAt, C: Meant>(code: &C)
-    ensures lawful { IsLawful (C.meaning code.now) }
-    ensures waits { (h : H) → StandingWaits (runs_of (λ (a : Activation H H.Ref H.Place). a.stage) (C.parts code.now)) (H.state h) }
-    ensures stays { (h k : H) → SurvivesOthers (runs_of (λ (a : Activation H H.Ref H.Place). a.stage) (C.parts code.now)) (H.state h) (H.state k) }
+    ensures lawful { IsLawful (C.meant code.now).meaning }
+    ensures waits { (h : H) → StandingWaits (runs_of (λ (a : Activation H H.Ref H.Place). a.stage) (C.meant code.now).parts) (H.state h) }
+    ensures stays { (h k : H) → SurvivesOthers (runs_of (λ (a : Activation H H.Ref H.Place). a.stage) (C.meant code.now).parts) (H.state h) (H.state k) }
 {
     let _ = code.code();
 }
@@ -33,7 +33,7 @@ pub fn refusal_of_procedure<C: Meant>(
     procedure: &Text,
     arguments: &Numbers,
 ) -> Option<Refusal>
-    ensures { result ≡ kinds_refusal ((C.meaning code.now).proc procedure.now) arguments.now }
+    ensures { result ≡ kinds_refusal ((C.meant code.now).meaning.proc procedure.now) arguments.now }
 {
     refusal_of_kinds(
         code.code(),
@@ -49,7 +49,7 @@ pub fn refusal_of_query<C: Meant>(
     procedure: &Text,
     arguments: &Numbers,
 ) -> Option<Refusal>
-    ensures { result ≡ kinds_refusal ((C.meaning code.now).query procedure.now) arguments.now }
+    ensures { result ≡ kinds_refusal ((C.meant code.now).meaning.query procedure.now) arguments.now }
 {
     refusal_of_kinds(
         code.code(),
@@ -68,7 +68,7 @@ pub fn bare<H: HeapAt, C: Meant>(
     budget: u32,
 ) -> Result<Activation<H>, NoMemory>
     ensures place { IfOk result (λ a. a.stage.standing.place ≡ at) }
-    ensures stands { IfOk result (λ a. (h : H) → StandsBare (C.meaning code.now) (runs_of (λ a. a.stage) (C.parts code.now)) (H.state h) at run budget a) }
+    ensures stands { IfOk result (λ a. (h : H) → StandsBare (C.meant code.now) (H.state h) at run budget a) }
 {
     let _ = code.code();
     Activation::bare(alloc, at, run, budget)
@@ -81,10 +81,9 @@ pub fn add<H: HeapAt, C: Meant>(
     procedure: &Text,
     arguments: &Numbers,
 ) -> Result<(), NoMemory>
-    requires { (h : H) × MayAddSome (C.meaning code.now) (runs_of (λ a. a.stage) (C.parts code.now)) (H.state h) activation.old (named procedure.now arguments.now) }
+    requires { (h : H) × MayAddSome (C.meant code.now) (H.state h) activation.old (named procedure.now arguments.now) }
     ensures place { OnOk result (activation.new.stage.standing.place ≡ activation.old.stage.standing.place) }
-    ensures waits { OnOk result ((h : H) → WaitsWithCall (C.meaning code.now) (runs_of (λ a. a.stage) (C.parts code.now)) (H.state h)
-        activation.old (named procedure.now arguments.now) activation.new) }
+    ensures waits { OnOk result ((h : H) → WaitsWithCall (C.meant code.now) (H.state h) activation.old (named procedure.now arguments.now) activation.new) }
     ensures err { OnErr result (activation.new ≡ activation.old) }
 {
     let code = code.code();
@@ -101,9 +100,9 @@ pub fn advance<H: HeapAt, C: Meant>(
     heap: &mut H,
     charges: u32,
 ) -> Result<Ended, NoMemory>
-    requires ready { WaitsForSome (C.meaning code.now) (runs_of (λ a. a.stage) (C.parts code.now)) (H.state heap.old) activation.old }
+    requires ready { WaitsForSome (C.meant code.now) (H.state heap.old) activation.old }
     requires room { HasFewCounts (H.state heap.old) }
-    ensures ok { IfOk result (AdvancedBy (C.meaning code.now) (runs_of (λ a. a.stage) (C.parts code.now)) (H.state heap.old) activation.old charges (H.state heap.new) activation.new) }
+    ensures ok { IfOk result (AdvancedBy (C.meant code.now) (H.state heap.old) activation.old charges (H.state heap.new) activation.new) }
     ensures kept { KeepsOthers activation.old.stage.standing.place (H.state heap.old) (H.state heap.new) }
     ensures writes { OnOk result (WritesStay (H.state heap.old) (H.state heap.new)) }
     ensures reads { ¬ ((H.state heap.old).writable activation.old.stage.standing.place) → Unchanged (H.state heap.old) (H.state heap.new) }

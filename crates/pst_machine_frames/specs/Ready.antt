@@ -210,3 +210,25 @@ pub record StaysOn {P R : Type 0} (parts : Parts) (s : State P R) (a : Standing 
 abbrev pub GoesOn : {P R : Type 0} → Parts → State P R → Standing P R → (on : Bool) → (out : Option Step) → State P R → Standing P R → Type 0
 GoesOn parts s a true out t b = StaysOn parts s a t b
 GoesOn parts s a false out t b = Leaves parts s a out t b
+
+-- ---- the same of a heap with this state, where the run's current frame and charges are held apart; what it came to stands last
+
+-- what a part of a run does
+abbrev pub RanApart : {H P R : Type 0} → (H → State P R) → Parts → (heap : H) → Standing P R → CallFrame R → (left : ℕ) → (heap_after : H) → Standing P R → CallFrame R → (left_after : ℕ) → Step → Type 0
+RanApart state parts heap a frame left heap' b frame' left' step = Ran parts (state heap) (whole a frame left) step (state heap') (whole b frame' left')
+
+-- fewer instructions are left where the run goes on
+abbrev pub FallsApart : {H P R : Type 0} → (H → State P R) → Parts → (heap : H) → Standing P R → CallFrame R → (left : ℕ) → (heap_after : H) → Standing P R → CallFrame R → (left_after : ℕ) → Step → Type 0
+FallsApart state parts heap a frame left heap' b frame' left' step = Falls parts (state heap) (whole a frame left) step (state heap') (whole b frame' left')
+
+-- what the run does up to where its frame does not go on
+abbrev pub LeavesApart : {H P R : Type 0} → (H → State P R) → Parts → (heap : H) → Standing P R → CallFrame R → (left : ℕ) → (heap_after : H) → Standing P R → CallFrame R → (left_after : ℕ) → Option Step → Type 0
+LeavesApart state parts heap a frame left heap' b frame' left' out = Leaves parts (state heap) (whole a frame left) out (state heap') (whole b frame' left')
+
+-- what one instruction does, and whether the frame goes on
+abbrev pub GoesOnApart : {H P R : Type 0} → (H → State P R) → Parts → (heap : H) → Standing P R → CallFrame R → (left : ℕ) → (out : Option Step) → (heap_after : H) → Standing P R → CallFrame R → (left_after : ℕ) → (on : Bool) → Type 0
+GoesOnApart state parts heap a frame left out heap' b frame' left' on = GoesOn parts (state heap) (whole a frame left) on out (state heap') (whole b frame' left')
+
+-- what an instruction does, where the frame goes on like this
+abbrev pub CameApart : {H P R : Type 0} → (H → State P R) → Parts → (heap : H) → Standing P R → CallFrame R → (left : ℕ) → Instr → (out : Option Step) → (heap_after : H) → Standing P R → CallFrame R → (left_after : ℕ) → Flow → Type 0
+CameApart state parts heap a frame left instr out heap' b frame' left' flow = Came parts (state heap) (whole a frame left) instr flow out (state heap') (whole b frame' left')

@@ -1,16 +1,14 @@
 //! Runs from one charge that is due to the next, or to the end.
 
-ghost use Rattle.std.specs.Prelude.{◌≡◌, ◌+◌, ◌<◌, ◌^◌, None, Some, IfOk, OnOk, OnErr, length, not};
-ghost use Rattle.pst_base.specs.declared.names.Name.{Name};
-ghost use Rattle.pst_program.specs.Value.{number_of, same_value};
-ghost use Rattle.pst_code.specs.declared.procedure.Parts.{Parts};
+ghost use Rattle.std.specs.Prelude.{◌≡◌, ◌+◌, ◌<◌, ◌^◌, None, Some, IfOk, OnOk, OnErr, length};
+ghost use Rattle.pst_code.specs.declared.instr.Instr.TheVariants as instr;
 ghost use Rattle.pst_code.specs.Valid.{IsValidCode};
-ghost use Rattle.pst_code.specs.Machine.{held, jump_where, next_instr};
+ghost use Rattle.pst_code.specs.Machine.{next_instr};
 ghost use Rattle.pst_places.specs.State.{Unchanged, IsFresh, IsNewType, HasRoom};
-ghost use Rattle.pst_machine_steps.specs.View.{procedure_of, frame_of, ActsAs};
+ghost use Rattle.pst_machine_steps.specs.View.{number_in, procedure_of, AtEachMeaning, Performs};
 ghost use Rattle.pst_machine_steps.specs.Live.{IsLiveSomewhere, IsRoot};
 ghost use Rattle.pst_machine_steps.specs.Calls.{held_in, HasRegister, HoldsNumber};
-ghost use Rattle.pst_machine_frames.specs.Ready.{Printed, step_of, whole, came_to, IfOut, current_of, IsRunning, IsFunded, Came, Falls, GoesOn, IsDue, IsOff, IsOut, IsRest, Leaves, Ran};
+ghost use Rattle.pst_machine_frames.specs.Ready.{Printed, step_of, whole, came_to, IfOut, current_of, IsRunning, IsFunded, CameApart, FallsApart, GoesOnApart, IsDue, IsOff, IsOut, IsRest, LeavesApart, Ran, RanApart};
 ghost use Rattle.pst_machine_steps.specs.Fields.{KeepsOthers};
 
 use pst_base::{Kind, NoMemory, Op, TrapKind, TypeNo};
@@ -66,7 +64,7 @@ fn run_frames<H: HeapAt>(
     requires valid { IsValidCode code.now }
     requires running { IsRunning code.now (H.state heap.old) (whole standing.old frame.old left.old) }
     requires funded { IsFunded code.now (H.state heap.old) (whole standing.old frame.old left.old) }
-    ensures ran { IfOk result (λ step. Ran code.now (H.state heap.old) (whole standing.old frame.old left.old) step (H.state heap.new) (whole standing.new frame.new left.new)) }
+    ensures ran { IfOk result (RanApart H.state code.now heap.old standing.old frame.old left.old heap.new standing.new frame.new left.new) }
     ensures rests { IfOk result IsRest }
     ensures err { OnErr result (KeepsOthers standing.old.place (H.state heap.old) (H.state heap.new)) }
     ensures reads { OnErr result (¬ ((H.state heap.old).writable standing.old.place) → Unchanged (H.state heap.old) (H.state heap.new)) }
@@ -109,8 +107,8 @@ fn run_near<H: HeapAt>(
     requires funded { IsFunded code.now (H.state heap.old) (whole standing.old frame.old left.old) }
     requires top { IsRoot (H.state heap.old) standing.old.place top }
     requires procedure { procedure_of code.now frame.old.procedure ≡ procedure.now }
-    ensures ran { IfOk result (λ step. Ran code.now (H.state heap.old) (whole standing.old frame.old left.old) step (H.state heap.new) (whole standing.new frame.new left.new)) }
-    ensures falls { IfOk result (λ step. Falls code.now (H.state heap.old) (whole standing.old frame.old left.old) step (H.state heap.new) (whole standing.new frame.new left.new)) }
+    ensures ran { IfOk result (RanApart H.state code.now heap.old standing.old frame.old left.old heap.new standing.new frame.new left.new) }
+    ensures falls { IfOk result (FallsApart H.state code.now heap.old standing.old frame.old left.old heap.new standing.new frame.new left.new) }
     ensures out { IfOk result IsOut }
     ensures err { OnErr result (KeepsOthers standing.old.place (H.state heap.old) (H.state heap.new)) }
     ensures reads { OnErr result (¬ ((H.state heap.old).writable standing.old.place) → Unchanged (H.state heap.old) (H.state heap.new)) }
@@ -140,8 +138,8 @@ fn run_frame<H: HeapAt>(
     requires funded { IsFunded code.now (H.state heap.old) (whole standing.old frame.old left.old) }
     requires top { IsRoot (H.state heap.old) standing.old.place top }
     requires procedure { procedure_of code.now frame.old.procedure ≡ procedure.now }
-    ensures ran { IfOk result (λ step. Ran code.now (H.state heap.old) (whole standing.old frame.old left.old) step (H.state heap.new) (whole standing.new frame.new left.new)) }
-    ensures falls { IfOk result (λ step. Falls code.now (H.state heap.old) (whole standing.old frame.old left.old) step (H.state heap.new) (whole standing.new frame.new left.new)) }
+    ensures ran { IfOk result (RanApart H.state code.now heap.old standing.old frame.old left.old heap.new standing.new frame.new left.new) }
+    ensures falls { IfOk result (FallsApart H.state code.now heap.old standing.old frame.old left.old heap.new standing.new frame.new left.new) }
     ensures out { IfOk result IsOut }
     ensures err { OnErr result (KeepsOthers standing.old.place (H.state heap.old) (H.state heap.new)) }
     ensures reads { OnErr result (¬ ((H.state heap.old).writable standing.old.place) → Unchanged (H.state heap.old) (H.state heap.new)) }
@@ -169,7 +167,7 @@ fn go_on<H: HeapAt>(
     requires funded { IsFunded code.now (H.state heap.old) (whole standing.old frame.old left.old) }
     requires top { IsRoot (H.state heap.old) standing.old.place top }
     requires procedure { procedure_of code.now frame.old.procedure ≡ procedure.now }
-    ensures ran { IfOk result (λ out. Leaves code.now (H.state heap.old) (whole standing.old frame.old left.old) out (H.state heap.new) (whole standing.new frame.new left.new)) }
+    ensures ran { IfOk result (LeavesApart H.state code.now heap.old standing.old frame.old left.old heap.new standing.new frame.new left.new) }
     ensures err { OnErr result (KeepsOthers standing.old.place (H.state heap.old) (H.state heap.new)) }
     ensures reads { OnErr result (¬ ((H.state heap.old).writable standing.old.place) → Unchanged (H.state heap.old) (H.state heap.new)) }
     ensures home { (standing.new.place ≡ standing.old.place) × (standing.new.run ≡ standing.old.run) }
@@ -209,7 +207,7 @@ fn step<H: HeapAt>(
     requires procedure { procedure_of code.now frame.old.procedure ≡ procedure.now }
     requires instrs { instrs.now ≡ procedure.now.instructions }
     requires kinds { kinds.now ≡ procedure.now.kinds }
-    ensures on { IfOk result (λ on. GoesOn code.now (H.state heap.old) (whole standing.old frame.old left.old) on out.new (H.state heap.new) (whole standing.new frame.new left.new)) }
+    ensures on { IfOk result (GoesOnApart H.state code.now heap.old standing.old frame.old left.old out.new heap.new standing.new frame.new left.new) }
     ensures err { OnErr result (KeepsOthers standing.old.place (H.state heap.old) (H.state heap.new)) }
     ensures reads { OnErr result (¬ ((H.state heap.old).writable standing.old.place) → Unchanged (H.state heap.old) (H.state heap.new)) }
     ensures home { (standing.new.place ≡ standing.old.place) × (standing.new.run ≡ standing.old.run) }
@@ -285,7 +283,7 @@ fn instruction<H: HeapAt>(
     requires kinds { kinds.now ≡ (procedure_of code.now frame.old.procedure).kinds }
     requires at { frame.old.at + 1 < 2 ^ 64 }
     requires instr { next_instr (current_of code.now (H.state heap.old) (whole standing.old frame.old left.old)) ≡ Some instr.now }
-    ensures acted { IfOk result (λ flow. Came code.now (H.state heap.old) (whole standing.old frame.old left.old) instr.now flow out.new (H.state heap.new) (whole standing.new frame.new left.new)) }
+    ensures acted { IfOk result (CameApart H.state code.now heap.old standing.old frame.old left.old instr.now out.new heap.new standing.new frame.new left.new) }
     ensures out { IfOk result (λ flow. IfOut flow (IsOff out.new)) }
     ensures err { OnErr result (KeepsOthers standing.old.place (H.state heap.old) (H.state heap.new)) }
     ensures reads { OnErr result (¬ ((H.state heap.old).writable standing.old.place) → Unchanged (H.state heap.old) (H.state heap.new)) }
@@ -368,8 +366,8 @@ fn switch<H: HeapAt>(
     requires funded { IsFunded code.now (H.state heap.now) (whole standing.old frame.old _left) }
     requires procedure { procedure_of code.now frame.old.procedure ≡ procedure.now }
     requires due { IsDue code.now (H.state heap.now) (whole standing.old frame.old _left) }
-    ensures ran { IfOk result (λ step. Ran code.now (H.state heap.now) (whole standing.old frame.old _left) step (H.state heap.now) (whole standing.new frame.new _left)) }
-    ensures falls { IfOk result (λ step. Falls code.now (H.state heap.now) (whole standing.old frame.old _left) step (H.state heap.now) (whole standing.new frame.new _left)) }
+    ensures ran { IfOk result (RanApart H.state code.now heap.now standing.old frame.old _left heap.now standing.new frame.new _left) }
+    ensures falls { IfOk result (FallsApart H.state code.now heap.now standing.old frame.old _left heap.now standing.new frame.new _left) }
     ensures out { IfOk result IsOut }
     ensures home { (standing.new.place ≡ standing.old.place) × (standing.new.run ≡ standing.old.run) }
 {
@@ -392,7 +390,7 @@ fn jump_equal<H: HeapAt>(heap: &H, frame: &mut CallFrame<H::Ref>, a: Reg, b: Reg
     requires there { HasRegister frame.old a × HasRegister frame.old b }
     requires a { IsLiveSomewhere (H.state heap.now) (held_in frame.old a) }
     requires b { IsLiveSomewhere (H.state heap.now) (held_in frame.old b) }
-    ensures acts { ActsAs (H.state heap.now).name frame.old (λ parts f. jump_where (same_value (held f.registers a) (held f.registers b)) to f) result frame.new }
+    ensures acts { Performs (H.state heap.now).name frame.old (instr.Jumpeq a b to) result frame.new }
     ensures registers { frame.new.registers ≡ frame.old.registers }
     ensures same { frame.new.procedure ≡ frame.old.procedure }
 {
@@ -406,7 +404,7 @@ fn jump_unequal<H: HeapAt>(heap: &H, frame: &mut CallFrame<H::Ref>, a: Reg, b: R
     requires there { HasRegister frame.old a × HasRegister frame.old b }
     requires a { IsLiveSomewhere (H.state heap.now) (held_in frame.old a) }
     requires b { IsLiveSomewhere (H.state heap.now) (held_in frame.old b) }
-    ensures acts { ActsAs (H.state heap.now).name frame.old (λ parts f. jump_where (not (same_value (held f.registers a) (held f.registers b))) to f) result frame.new }
+    ensures acts { Performs (H.state heap.now).name frame.old (instr.Jumpne a b to) result frame.new }
     ensures registers { frame.new.registers ≡ frame.old.registers }
     ensures same { frame.new.procedure ≡ frame.old.procedure }
 {
@@ -429,7 +427,7 @@ fn step_of(trap: Option<TrapKind>) -> Step
 #[inline(always)]
 fn print<R: Copy>(printed: &mut Vec<i64>, frame: &CallFrame<R>, s: Reg) -> Result<Step, NoMemory>
     requires { HoldsNumber frame.now s }
-    ensures { (parts : Parts) (name : R → Name) → IfOk result (λ step. Printed printed.old.items (number_of (held (frame_of parts name frame.now).registers s)) step printed.new.items) }
+    ensures { AtEachMeaning frame.now (λ f. IfOk result (λ step. Printed printed.old.items (number_in f s) step printed.new.items)) }
 {
     if printed.len() >= MOST_PRINTED {
         return Ok(Step::Trap(TrapKind::Output));

@@ -1,11 +1,12 @@
 -- What calls and returns do to the frames of a running machine.
-use Rattle.std.specs.Prelude.{◌≡◌, ◌+◌, ◌<◌, ◌≤◌, pos, List, [], ◌∷◌, ◌++◌, length, map, drop, Option, Some, None, slice_index_or, slice_set}
+use Rattle.std.specs.Prelude.{◌≡◌, ◌+◌, ◌<◌, ◌≤◌, pos, List, [], ◌∷◌, ◌++◌, length, map, drop, Option, Some, None, IfSome, slice_get, slice_index_or, slice_set}
 use Rattle.std.specs.Option.{option_map}
 use Rattle.pst_base.specs.declared.names.Kind.{Kind}
 use Rattle.pst_base.specs.declared.names.Kind.TheVariants.{Int, Pointer}
 use Rattle.pst_base.specs.declared.names.ProcNo.{ProcNo}
 use Rattle.pst_base.specs.declared.names.TrapKind.TheVariants.{Depth}
 use Rattle.pst_code.specs.declared.instr.Reg.{Reg}
+use Rattle.pst_code.specs.declared.procedure.Parts.{Parts}
 use Rattle.pst_machine_steps.specs.declared.register.Register.{Register}
 use Rattle.pst_machine_steps.specs.declared.register.Register.TheVariants.{Number, Null}
 use Rattle.pst_machine_steps.specs.Live.{IsNumber}
@@ -32,6 +33,10 @@ abbrev pub register_default : {R : Type 0} → Kind → Register R
 register_default Int = Number (pos 0)
 register_default (Pointer ty) = Null
 
+-- the registers of a procedure that begins: its arguments, as the caller holds them, and behind them what registers hold at first
+abbrev pub first_registers : {R : Type 0} → (caller : CallFrame R) → (arguments : List Reg) → List Kind → List (Register R)
+first_registers caller arguments kinds = map (held_in caller) arguments ++ map register_default (drop (length arguments) kinds)
+
 -- the place, the run, the charges and what was made and printed stay
 pub record SameTally {P R : Type 0} (a b : Standing P R) : Type 0 where
   pub place : b.place ≡ a.place
@@ -46,7 +51,7 @@ pub record IsEntered {R : Type 0} (f : CallFrame R) (callers : List (Waiting R))
   pub procedure_is : f'.procedure ≡ procedure
   pub at : f'.at ≡ 0
   pub line : f'.line ≡ 0
-  pub registers : f'.registers.items ≡ map (held_in f) arguments ++ map register_default (drop (length arguments) kinds)
+  pub registers : f'.registers.items ≡ first_registers f arguments kinds
   pub callers_are : callers' ≡ callers ++ record { frame = record f { at = f.at + 1 }; into = into } ∷ []
 
 -- what a call does to the frame that goes on and those that wait: a frame is entered, unless 255 frames wait
@@ -57,6 +62,11 @@ Called f callers procedure into arguments kinds Next f' callers' = ⊥
 Called f callers procedure into arguments kinds Here f' callers' = ⊥
 Called f callers procedure into arguments kinds (Waits line) f' callers' = ⊥
 Called f callers procedure into arguments kinds (Ends v) f' callers' = ⊥
+
+-- what a call of a procedure of the code does
+abbrev pub CalledIn : {P R : Type 0} → Parts → CallFrame R → Standing P R → ProcNo → Option Reg → List Reg → Step → CallFrame R → Standing P R → Type 0
+CalledIn parts f a procedure into arguments step f' b =
+    IfSome (slice_get parts.procedures procedure.0) (λ p. Called f a.callers.items procedure into arguments p.kinds step f' b.callers.items)
 
 -- registers with the result of a call, if one is named
 abbrev pub with_register : {R : Type 0} → Option Reg → Option (Register R) → List (Register R) → List (Register R)

@@ -9,10 +9,11 @@ use Rattle.pst_base.specs.Name.{root_name}
 use Rattle.pst_base.specs.Heap.{kind_in}
 use Rattle.pst_program.specs.Value.{number_of, index_of}
 use Rattle.pst_program.specs.Sound.{IsOf}
-use Rattle.pst_program.specs.Meaning.{World, Normal, with_index}
+use Rattle.pst_program.specs.Meaning.{World}
 use Rattle.pst_code.specs.declared.instr.Reg.{Reg}
+use Rattle.pst_code.specs.declared.instr.Instr.{Instr}
 use Rattle.pst_code.specs.declared.procedure.Parts.{Parts}
-use Rattle.pst_code.specs.Machine.{Frame, Caller, Move, after_effect, held}
+use Rattle.pst_code.specs.Machine.{Frame, Caller, Move, act}
 use Rattle.pst_places.specs.State.{State, HasRoom}
 use Rattle.pst_machine_steps.specs.declared.fields.Element.{Element}
 use Rattle.pst_machine_steps.specs.declared.register.Register.{Register}
@@ -34,14 +35,14 @@ Charged left f line Switched left' f' = ⊥
 Charged left f line (Ends v) left' f' = ⊥
 Charged left f line (Trap kind) left' f' = ⊥
 
--- a frame goes on where a register holds the index of one of so many elements, or the run traps
-abbrev pub index_checked : Reg → (elements : ℕ) → Frame → List Caller → World → Move
-index_checked i elements f c w = after_effect (with_index (index_of elements (number_of (held f.registers i))) f.line w (λ k. Normal f.registers w)) f c
-
 -- A step in a frame that reads the heap at a place does what this move of the definition does there: in every code with the
 -- heap's record types, whatever frames wait, in every world with that heap.
 abbrev pub ReadsAs : {P R : Type 0} → State P R → (at : P) → (old : CallFrame R) → (Parts → Frame → List Caller → World → Move) → Step → (new : CallFrame R) → Type 0
 ReadsAs s at old move step new = (parts : Parts) (c : List Caller) (w : World) → s.shape ≡ parts.shape → s.heap at ≡ w.heap → move parts (frame_of parts s.name old) c w ≡ move_of step (frame_of parts s.name new) c w
+
+-- so where it is what the definition does for this instruction
+abbrev pub Reads : {P R : Type 0} → State P R → (at : P) → (old : CallFrame R) → Instr → Step → (new : CallFrame R) → Type 0
+Reads s at old instr step new = ReadsAs s at old (λ parts. act parts (Some instr)) step new
 
 -- a field of the root record can be given what a register holds
 pub record MayWriteRoot {P R : Type 0} (s : State P R) (at : P) (slot : ℕ) (v : Register R) : Type 0 where

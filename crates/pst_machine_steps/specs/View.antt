@@ -9,12 +9,13 @@ use Rattle.pst_base.specs.declared.names.TrapKind.{TrapKind}
 use Rattle.pst_base.specs.declared.names.TrapKind.TheVariants.{Overflow}
 use Rattle.pst_program.specs.declared.meaning.Value.{Value}
 use Rattle.pst_program.specs.declared.meaning.Value.TheVariants.{Number as ANumber, Null as ANull, Record as ARecord}
-use Rattle.pst_program.specs.Value.{Answer, Gives, Traps}
+use Rattle.pst_program.specs.Value.{Answer, Gives, Traps, number_of}
 use Rattle.pst_program.specs.Meaning.{World, Returned, Trapped}
 use Rattle.pst_code.specs.declared.instr.Reg.{Reg}
+use Rattle.pst_code.specs.declared.instr.Instr.{Instr}
 use Rattle.pst_code.specs.declared.procedure.Procedure.{Procedure}
 use Rattle.pst_code.specs.declared.procedure.Parts.{Parts}
-use Rattle.pst_code.specs.Machine.{Frame, Caller, Move, Goes, Waits as WaitsFor, Over, after_effect, behind, held, put_answer}
+use Rattle.pst_code.specs.Machine.{Frame, Caller, Move, Goes, Waits as WaitsFor, Over, act, after_effect, behind, held, put_answer}
 use Rattle.pst_machine_steps.specs.declared.register.Register.{Register}
 use Rattle.pst_machine_steps.specs.declared.register.Register.TheVariants.{Number, Null, Reference}
 use Rattle.pst_machine_steps.specs.declared.standing.CallFrame.{CallFrame}
@@ -58,6 +59,18 @@ move_of (Trap kind) f c w = Over (Trapped kind f.line w)
 -- A step in a frame does what this move of the definition does there: in every code, whatever frames wait, in every world.
 abbrev pub ActsAs : {R : Type 0} → (R → Name) → (old : CallFrame R) → (Parts → Frame → List Caller → World → Move) → Step → (new : CallFrame R) → Type 0
 ActsAs name old move step new = (parts : Parts) (c : List Caller) (w : World) → move parts (frame_of parts name old) c w ≡ move_of step (frame_of parts name new) c w
+
+-- so where it is what the definition does for this instruction
+abbrev pub Performs : {R : Type 0} → (R → Name) → (old : CallFrame R) → Instr → Step → (new : CallFrame R) → Type 0
+Performs name old instr step new = ActsAs name old (λ parts. act parts (Some instr)) step new
+
+-- so at each meaning of a frame: in every code, whatever names its references have
+abbrev pub AtEachMeaning : {R : Type 0} → CallFrame R → (Frame → Type 0) → Type 0
+AtEachMeaning {R} frame fact = (parts : Parts) (name : R → Name) → fact (frame_of parts name frame)
+
+-- the number that a register of a frame holds
+abbrev pub number_in : Frame → Reg → ℤ
+number_in f r = number_of (held f.registers r)
 
 -- a register of the frame is set to an answer, or the run traps
 abbrev pub set_to : Reg → Answer → Frame → List Caller → World → Move

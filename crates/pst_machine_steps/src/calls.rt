@@ -1,7 +1,7 @@
 //! Calls and returns.
 
-ghost use Rattle.std.specs.Prelude.{◌≡◌, ◌+◌, ◌<◌, ◌^◌, ◌++◌, ◌∷◌, [], map, drop, length, IfOk, OnOk, IfSome, slice_get};
-ghost use Rattle.pst_machine_steps.specs.Calls.{HoldsNothing, held_in, register_default, SameTally, Called, with_register, given_back, Left};
+ghost use Rattle.std.specs.Prelude.{◌≡◌, ◌+◌, ◌<◌, ◌^◌, ◌++◌, ◌∷◌, [], map, drop, length, IfOk, OnOk};
+ghost use Rattle.pst_machine_steps.specs.Calls.{HoldsNothing, held_in, register_default, SameTally, CalledIn, first_registers, with_register, given_back, Left};
 
 use crate::frame::{held, set_at};
 use crate::register::Register;
@@ -26,7 +26,7 @@ pub fn call<P: Copy, R: Copy>(
 ) -> Result<Step, NoMemory>
     requires known { procedure.0 < length code.now.procedures }
     requires at { frame.old.at + 1 < 2 ^ 64 }
-    ensures called { IfOk result (λ step. IfSome (slice_get code.now.procedures procedure.0) (λ p. Called frame.old standing.old.callers.items procedure into arguments.now p.kinds step frame.new standing.new.callers.items)) }
+    ensures called { IfOk result (λ step. CalledIn code.now frame.old standing.old procedure into arguments.now step frame.new standing.new) }
     ensures same { SameTally standing.old standing.new }
 {
     if standing.callers.len() >= MOST_CALLERS {
@@ -48,7 +48,7 @@ fn entered<P: Copy, R: Copy>(
     kinds: &[Kind],
     arguments: &[Reg],
 ) -> Result<CallFrame<R>, NoMemory>
-    ensures registers { IfOk result (λ f. f.registers.items ≡ map (held_in caller.now) arguments.now ++ map register_default (drop (length arguments.now) kinds.now)) }
+    ensures registers { IfOk result (λ f. f.registers.items ≡ first_registers caller.now arguments.now kinds.now) }
     ensures frame { IfOk result (λ f. (f.procedure ≡ procedure) × (f.at ≡ 0) × (f.line ≡ 0)) }
     ensures same { SameTally standing.old standing.new }
     ensures callers { standing.new.callers ≡ standing.old.callers }

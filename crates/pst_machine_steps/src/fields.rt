@@ -4,17 +4,15 @@ ghost use Rattle.std.specs.Prelude.{◌≡◌, ◌+◌, ◌<◌, ◌≤◌, ◌^
 ghost use Rattle.std.specs.Option.{option_map};
 ghost use Rattle.pst_base.specs.Name.{root_name};
 ghost use Rattle.pst_base.specs.Heap.{kind_in};
-ghost use Rattle.pst_program.specs.declared.meaning.Value.TheVariants as value;
-ghost use Rattle.pst_program.specs.Value.{number_of, content, load as load_of};
-ghost use Rattle.pst_code.specs.declared.instr.Instr.TheVariants.{Loadx};
+ghost use Rattle.pst_program.specs.Value.{content};
+ghost use Rattle.pst_code.specs.declared.instr.Instr.TheVariants as instr;
 ghost use Rattle.pst_code.specs.declared.procedure.Parts.{Parts};
-ghost use Rattle.pst_code.specs.Machine.{held, act};
 ghost use Rattle.pst_places.specs.State.{IsFresh, IsNewType, HasRoom};
 ghost use Rattle.pst_places.specs.Store.{MayStorePointer};
-ghost use Rattle.pst_machine_steps.specs.View.{value_of, frame_of, set_to};
+ghost use Rattle.pst_machine_steps.specs.View.{value_of, frame_of};
 ghost use Rattle.pst_machine_steps.specs.Live.{IsLive, IsPlainRegister, IsRoot};
 ghost use Rattle.pst_machine_steps.specs.Calls.{held_in, HasRegister, HoldsNumber};
-ghost use Rattle.pst_machine_steps.specs.Steps.{MayWriteRoot, MayStore, MayStoreElements, ReadsAs, Stored, StoredElement, slot_in, RefusesElement};
+ghost use Rattle.pst_machine_steps.specs.Steps.{MayWriteRoot, MayStore, MayStoreElements, Reads, Stored, StoredElement, slot_in, RefusesElement};
 ghost use Rattle.pst_machine_steps.specs.Fields.{FieldIs, ElementsAre, MayWriteField, FieldWritten, PointerWritten, Made, KeepsOthers};
 
 use crate::frame::{index, read, set};
@@ -124,7 +122,7 @@ pub fn root<H: HeapAt>(
     requires kinds { d.0 < length kinds.now }
     requires top { IsRoot (H.state heap.now) at top }
     requires kind { kind_in (H.state heap.now).shape ((H.state heap.now).heap at) root_name slot.0 ≡ slice_get kinds.now d.0 }
-    ensures acts { ReadsAs (H.state heap.now) at frame.old (λ parts f c w. set_to d (load_of parts.shape w.heap slot.0 (value.Record root_name)) f c w) result frame.new }
+    ensures acts { Reads (H.state heap.now) at frame.old (instr.Root d slot) result frame.new }
     ensures live { All (IsLive (H.state heap.now) at) frame.old.registers.items → All (IsLive (H.state heap.now) at) frame.new.registers.items }
     ensures same { frame.new.procedure ≡ frame.old.procedure }
 {
@@ -147,7 +145,7 @@ pub fn load<H: HeapAt>(
     requires kinds { d.0 < length kinds.now }
     requires live { All (IsLive (H.state heap.now) at) frame.old.registers.items }
     requires kind { FieldIs (H.state heap.now) at (slice_get kinds.now d.0) slot.0 (slice_index_or frame.old.registers.items object.0 Register.Null) }
-    ensures acts { ReadsAs (H.state heap.now) at frame.old (λ parts f c w. set_to d (load_of parts.shape w.heap slot.0 (held f.registers object)) f c w) result frame.new }
+    ensures acts { Reads (H.state heap.now) at frame.old (instr.Load d object slot) result frame.new }
     ensures live { All (IsLive (H.state heap.now) at) frame.new.registers.items }
     ensures same { frame.new.procedure ≡ frame.old.procedure }
 {
@@ -177,7 +175,7 @@ pub fn load_element<H: HeapAt>(
     requires kinds { d.0 < length kinds.now }
     requires live { All (IsLive (H.state heap.now) at) frame.old.registers.items }
     requires kind { ElementsAre (H.state heap.now) at (slice_get kinds.now d.0) element.first.0 element.elements (held_in frame.old object) }
-    ensures acts { ReadsAs (H.state heap.now) at frame.old (λ parts. act parts (Some (Loadx d object element.first element.elements element.index))) result frame.new }
+    ensures acts { let read = instr.Loadx d object element.first element.elements element.index in Reads (H.state heap.now) at frame.old read result frame.new }
     ensures live { All (IsLive (H.state heap.now) at) frame.new.registers.items }
     ensures same { frame.new.procedure ≡ frame.old.procedure }
 {
@@ -301,7 +299,7 @@ fn write_pointer<H: HeapAt>(
     target: Option<H::Ref>,
 ) -> Result<Option<TrapKind>, NoMemory>
     requires { MayStorePointer (H.state heap.old) at r slot.0 target }
-    ensures ok { IfOk result (λ trap. PointerWritten (H.state heap.old) at ((H.state heap.old).name r) slot.0 (option_map (H.state heap.old).name target) trap (H.state heap.new)) }
+    ensures ok { IfOk result (λ trap. let s = H.state heap.old in PointerWritten s at (s.name r) slot.0 (option_map s.name target) trap (H.state heap.new)) }
     ensures err { OnErr result (KeepsOthers at (H.state heap.old) (H.state heap.new)) }
 {
     match heap.store_pointer(at, r, slot, target) {

@@ -5,7 +5,7 @@ ghost use Rattle.pst_base.specs.declared.names.Name.{Name};
 ghost use Rattle.pst_program.specs.Value.{number_of, index_of};
 ghost use Rattle.pst_code.specs.declared.procedure.Parts.{Parts};
 ghost use Rattle.pst_code.specs.Machine.{Goes, behind, held};
-ghost use Rattle.pst_machine_steps.specs.View.{value_of, frame_of, ActsAs};
+ghost use Rattle.pst_machine_steps.specs.View.{value_of, frame_of, number_in, ActsAs, AtEachMeaning};
 ghost use Rattle.pst_machine_steps.specs.Live.{IsPlainRegister, KeptFrom};
 ghost use Rattle.pst_machine_steps.specs.Calls.{held_in, HasRegister, HoldsNumber};
 
@@ -47,7 +47,7 @@ pub fn read<R: Copy>(frame: &CallFrame<R>, r: Reg) -> Register<R>
 #[inline(always)]
 pub fn operand<R: Copy>(frame: &CallFrame<R>, r: Reg) -> i64
     requires { HoldsNumber frame.now r }
-    ensures { (parts : Parts) (name : R → Name) → result ≡ number_of (held (frame_of parts name frame.now).registers r) }
+    ensures { AtEachMeaning frame.now (λ f. result ≡ number_in f r) }
 {
     the_number(read(frame, r))
 }

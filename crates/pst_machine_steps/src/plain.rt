@@ -5,13 +5,12 @@ ghost use Rattle.pst_base.specs.declared.names.Name.{Name};
 ghost use Rattle.pst_program.specs.declared.meaning.Value.{Value};
 ghost use Rattle.pst_program.specs.declared.meaning.Value.TheVariants as value;
 ghost use Rattle.pst_program.specs.Value.{number_of, limited, operate};
-ghost use Rattle.pst_program.specs.Meaning.{Normal, with_object};
-ghost use Rattle.pst_code.specs.declared.procedure.Parts.{Parts};
-ghost use Rattle.pst_code.specs.Machine.{held, after_effect, put, apply, jump_where};
-ghost use Rattle.pst_machine_steps.specs.View.{frame_of, answer_of, given_of, set_to, ActsAs, IsArithmetic};
+ghost use Rattle.pst_code.specs.declared.instr.Instr.TheVariants as instr;
+ghost use Rattle.pst_code.specs.Machine.{after_effect, apply, jump_where};
+ghost use Rattle.pst_machine_steps.specs.View.{answer_of, given_of, number_in, set_to, ActsAs, AtEachMeaning, IsArithmetic, Performs};
 ghost use Rattle.pst_machine_steps.specs.Live.{KeptFrom};
 ghost use Rattle.pst_machine_steps.specs.Calls.{HasRegister, HoldsNumber};
-ghost use Rattle.pst_machine_steps.specs.Steps.{Charged, index_checked};
+ghost use Rattle.pst_machine_steps.specs.Steps.{Charged};
 
 use crate::frame::{index, operand, read, set};
 use crate::register::Register;
@@ -23,7 +22,7 @@ use pst_code::Reg;
 #[inline(always)]
 pub fn copy<R: Copy>(frame: &mut CallFrame<R>, d: Reg, s: Reg) -> Step
     requires { HasRegister frame.old d × HasRegister frame.old s }
-    ensures acts { (name : R → Name) → ActsAs name frame.old (λ parts f c w. after_effect (put d (held f.registers s) f.registers w) f c) result frame.new }
+    ensures acts { (name : R → Name) → Performs name frame.old (instr.Copy d s) result frame.new }
     ensures kept { KeptFrom frame.old.registers.items frame.new.registers.items }
     ensures same { frame.new.procedure ≡ frame.old.procedure }
 {
@@ -50,7 +49,7 @@ fn put<R: Copy>(frame: &mut CallFrame<R>, d: Reg, answer: Result<i64, TrapKind>)
 pub fn negate<R: Copy>(frame: &mut CallFrame<R>, d: Reg, a: Reg) -> Step
     requires there { HasRegister frame.old d }
     requires number { HoldsNumber frame.old a }
-    ensures acts { (name : R → Name) → ActsAs name frame.old (λ parts f. set_to d (limited (neg_ℤ (number_of (held f.registers a)))) f) result frame.new }
+    ensures acts { (name : R → Name) → Performs name frame.old (instr.Neg d a) result frame.new }
     ensures kept { KeptFrom frame.old.registers.items frame.new.registers.items }
     ensures same { frame.new.procedure ≡ frame.old.procedure }
 {
@@ -62,7 +61,7 @@ pub fn negate<R: Copy>(frame: &mut CallFrame<R>, d: Reg, a: Reg) -> Step
 #[inline(always)]
 fn is_less<R: Copy>(frame: &CallFrame<R>, a: Reg, b: Reg) -> bool
     requires { HoldsNumber frame.now a × HoldsNumber frame.now b }
-    ensures { (parts : Parts) (name : R → Name) → let f = frame_of parts name frame.now in result ≡ int_lt (number_of (held f.registers a)) (number_of (held f.registers b)) }
+    ensures { AtEachMeaning frame.now (λ f. result ≡ int_lt (number_in f a) (number_in f b)) }
 {
     operand(frame, a) < operand(frame, b)
 }
@@ -71,7 +70,7 @@ fn is_less<R: Copy>(frame: &CallFrame<R>, a: Reg, b: Reg) -> bool
 #[inline(always)]
 fn is_at_most<R: Copy>(frame: &CallFrame<R>, a: Reg, b: Reg) -> bool
     requires { HoldsNumber frame.now a × HoldsNumber frame.now b }
-    ensures { (parts : Parts) (name : R → Name) → let f = frame_of parts name frame.now in result ≡ int_le (number_of (held f.registers a)) (number_of (held f.registers b)) }
+    ensures { AtEachMeaning frame.now (λ f. result ≡ int_le (number_in f a) (number_in f b)) }
 {
     operand(frame, a) <= operand(frame, b)
 }
@@ -95,7 +94,7 @@ pub fn apply<R: Copy>(frame: &mut CallFrame<R>, op: Op, d: Reg, a: Reg, b: Reg) 
 #[inline(always)]
 pub fn check<R: Copy>(frame: &CallFrame<R>, o: Reg) -> Step
     requires { HasRegister frame.now o }
-    ensures acts { (name : R → Name) → ActsAs name frame.now (λ parts f c w. after_effect (with_object (held f.registers o) f.line w (λ _. Normal f.registers w)) f c) result frame.now }
+    ensures acts { (name : R → Name) → Performs name frame.now (instr.Check o) result frame.now }
 {
     match read(frame, o) {
         Register::Reference(_) => Step::Next,
@@ -107,7 +106,7 @@ pub fn check<R: Copy>(frame: &CallFrame<R>, o: Reg) -> Step
 #[inline(always)]
 pub fn bound<R: Copy>(frame: &CallFrame<R>, i: Reg, elements: u8) -> Step
     requires { HoldsNumber frame.now i }
-    ensures acts { (name : R → Name) → ActsAs name frame.now (λ parts. index_checked i elements) result frame.now }
+    ensures acts { (name : R → Name) → Performs name frame.now (instr.Bound i elements) result frame.now }
 {
     match index(frame, i, elements) {
         Some(_) => Step::Next,
@@ -133,7 +132,7 @@ pub fn jump<R: Copy>(frame: &mut CallFrame<R>, holds: bool, to: u32) -> Step
 #[inline(always)]
 pub fn jump_less<R: Copy>(frame: &mut CallFrame<R>, a: Reg, b: Reg, to: u32) -> Step
     requires { HoldsNumber frame.old a × HoldsNumber frame.old b }
-    ensures acts { (name : R → Name) → ActsAs name frame.old (λ parts f. jump_where (int_lt (number_of (held f.registers a)) (number_of (held f.registers b))) to f) result frame.new }
+    ensures acts { (name : R → Name) → Performs name frame.old (instr.Jumplt a b to) result frame.new }
     ensures registers { frame.new.registers ≡ frame.old.registers }
     ensures same { frame.new.procedure ≡ frame.old.procedure }
 {
@@ -145,7 +144,7 @@ pub fn jump_less<R: Copy>(frame: &mut CallFrame<R>, a: Reg, b: Reg, to: u32) -> 
 #[inline(always)]
 pub fn jump_at_most<R: Copy>(frame: &mut CallFrame<R>, a: Reg, b: Reg, to: u32) -> Step
     requires { HoldsNumber frame.old a × HoldsNumber frame.old b }
-    ensures acts { (name : R → Name) → ActsAs name frame.old (λ parts f. jump_where (int_le (number_of (held f.registers a)) (number_of (held f.registers b))) to f) result frame.new }
+    ensures acts { (name : R → Name) → Performs name frame.old (instr.Jumple a b to) result frame.new }
     ensures registers { frame.new.registers ≡ frame.old.registers }
     ensures same { frame.new.procedure ≡ frame.old.procedure }
 {

@@ -2,7 +2,8 @@ use Rattle.std.proofs.Common.{◌≡◌, sym, ◌∙◌, subst, refl, slice_get,
 use Rattle.pst_engine_runs.proofs.Slicing.{room, run-is, entry-at, entry-waits, slice-stays, stay-trans, on-err}
 use Rattle.pst_engine.proofs.Ending.{may-publish, closed-answers}
 use Rattle.pst_history.specs.History.{closed}
-use Rattle.pst_engine_runs.specs.Stands.{StandsFor, VersionsStay, machine_runs}
+use Rattle.pst_engine_runs.specs.Stands.{StandsFor, VersionsStay}
+use Rattle.pst_engine_runs.specs.Runs.{machine_runs}
 use Rattle.pst_engine.specs.Stands.{Settled, MayPublish}
 use Rattle.pst_engine.proofs.closing.close.Given.{Over}
 use Rattle.pst_engine.proofs.closing.close.Goals.{After-index_mut-entry, After-advance}
@@ -16,7 +17,7 @@ stays : (g : Over) (c : After-advance g) → VersionsStay (g.H.HeapAt.state c.ar
 stays g c =
     let some = c.requires.stands in
     let e = c.index_mut-entry.result.now in
-    slice-stays (g.C.Meant.meaning c.args.code.now) (machine_runs (g.C.Meant.parts c.args.code.now)) c.known-2.ensures.lawful (g.H.HeapAt.state c.args.heap.now) (c.known-2.ensures.waits c.args.heap.now) c.known_versions.ensures c.known.ensures.written
+    slice-stays (g.C.Meant.meant c.args.code.now).meaning (machine_runs (g.C.Meant.meant c.args.code.now).parts) c.known-2.ensures.lawful (g.H.HeapAt.state c.args.heap.now) (c.known-2.ensures.waits c.args.heap.now) c.known_versions.ensures c.known.ensures.written
     c.args.active.now.items some.budget some.next some.history some.stands c.args.at e (entry-at c.args.active.now.items c.args.at e c.requires.at c.index_mut-entry.ensures.value) (g.H.HeapAt.state c.advance.new.heap) e.activation refl c.advance.ensures.kept
 
 pub advance-requires-clause-ready : goal.advance-requires-clause-ready
@@ -27,29 +28,29 @@ advance-requires-clause-ready g c =
       _,
       _,
       _,
-      entry-waits (g.C.Meant.meaning c.args.code.now) (machine_runs (g.C.Meant.parts c.args.code.now)) c.known-2.ensures.lawful (g.H.HeapAt.state c.args.heap.now) (c.known-2.ensures.waits c.args.heap.now) c.known_versions.ensures c.known.ensures.written
+      entry-waits (g.C.Meant.meant c.args.code.now).meaning (machine_runs (g.C.Meant.meant c.args.code.now).parts) c.known-2.ensures.lawful (g.H.HeapAt.state c.args.heap.now) (c.known-2.ensures.waits c.args.heap.now) c.known_versions.ensures c.known.ensures.written
           c.args.active.now.items some.budget some.next some.history some.stands c.args.at e (found g (goal.at.advance-requires-clause-ready g c).After-index_mut-entry),
     )
 
 pub advance-requires-clause-room : goal.advance-requires-clause-room
 advance-requires-clause-room g c =
     let some = c.requires.stands in
-    room (g.C.Meant.meaning c.args.code.now) (machine_runs (g.C.Meant.parts c.args.code.now)) c.known-2.ensures.lawful (g.H.HeapAt.state c.args.heap.now) c.args.active.now.items some.budget some.next some.history some.stands
+    room (g.C.Meant.meant c.args.code.now).meaning (machine_runs (g.C.Meant.meant c.args.code.now).parts) c.known-2.ensures.lawful (g.H.HeapAt.state c.args.heap.now) c.args.active.now.items some.budget some.next some.history some.stands
 
 pub settle-requires : goal.settle-requires
 settle-requires g c =
     let some = c.requires.stands in
     let e = c.index_mut-entry.result.now in
     let b = c.advance.new.activation in
-    let may = may-publish (g.C.Meant.meaning c.args.code.now) (machine_runs (g.C.Meant.parts c.args.code.now)) c.known-2.ensures.lawful (g.H.HeapAt.state c.args.heap.now) (c.known-2.ensures.waits c.args.heap.now) c.known_versions.ensures c.known.ensures.written
+    let may = may-publish (g.C.Meant.meant c.args.code.now).meaning (machine_runs (g.C.Meant.meant c.args.code.now).parts) c.known-2.ensures.lawful (g.H.HeapAt.state c.args.heap.now) (c.known-2.ensures.waits c.args.heap.now) c.known_versions.ensures c.known.ensures.written
     c.args.active.now.items some.budget some.next some.history some.stands c.args.at e (found g (goal.at.settle-requires g c).After-index_mut-entry)
     (g.H.HeapAt.state c.advance.new.heap) (c.known-2.ensures.stays c.args.heap.now c.advance.new.heap) b c.in_ok-end.end c.advance.ensures.kept c.in_ok-end.ensures.writes c.in_ok-end.ensures.ok in
     subst (λ p. MayPublish (g.H.HeapAt.state c.advance.new.heap) e.parent p) (sym c.place-place.ensures) may
 
 pub returns-clause-ok : goal.returns-clause-ok
 returns-clause-ok g c = λ budget next h stand.
-    let m = g.C.Meant.meaning c.args.code.now in
-    let x = machine_runs {H = g.row.H.Denot} {P = g.row.H-Place.Denot} {R = g.row.H-Ref.Denot} (g.C.Meant.parts c.args.code.now) in
+    let m = (g.C.Meant.meant c.args.code.now).meaning in
+    let x = machine_runs {H = g.row.H.Denot} {P = g.row.H-Place.Denot} {R = g.row.H-Ref.Denot} (g.C.Meant.meant c.args.code.now).parts in
     let s = g.H.HeapAt.state c.args.heap.now in
     let t = g.H.HeapAt.state c.advance.new.heap in
     let u = g.H.HeapAt.state c.settle.new.heap in

@@ -1,6 +1,7 @@
 use Rattle.std.proofs.Common.{ℕ, [], sym, subst, arith}
 use Rattle.pst_history.specs.History.{Opening, begun, opening}
-use Rattle.pst_engine_runs.specs.Stands.{StandsFor, machine_runs}
+use Rattle.pst_engine_runs.specs.Stands.{StandsFor}
+use Rattle.pst_engine_runs.specs.Runs.{machine_runs}
 use Rattle.pst_engine.specs.Stands.{opening_of}
 use Rattle.pst_engine.proofs.Fresh.{begins, started-opens, started-opening}
 use Rattle.pst_engine.proofs.laws.a_new_engine_stands.Goals as goal
@@ -8,8 +9,8 @@ use Rattle.pst_history.specs.declared.history.TheConstants.{BUDGET}
 
 pub returns : goal.returns
 returns g c =
-    let m = g.C.Meant.meaning c.args.code.now in
-    let x = machine_runs {H = g.row.H.Denot} {P = g.row.H-Place.Denot} {R = g.row.H-Ref.Denot} (g.C.Meant.parts c.args.code.now) in
+    let m = (g.C.Meant.meant c.args.code.now).meaning in
+    let x = machine_runs {H = g.row.H.Denot} {P = g.row.H-Place.Denot} {R = g.row.H-Ref.Denot} (g.C.Meant.meant c.args.code.now).parts in
     let s = g.H.HeapAt.state c.args.heap.now in
     let engine = c.args.engine.now in
     let one : StandsFor m x [] BUDGET 1 s (begun (opening_of s 1 BUDGET)) = begins m c.known-2.ensures.lawful s c.known.ensures c.known_versions.ensures 1 BUDGET (started-opens m c.known-2.ensures.lawful s c.requires.heap) (omega arith) (omega arith) (omega arith) (omega arith) x in

@@ -1,5 +1,5 @@
 use Rattle.pst_history.proofs.Accepting.{step-open}
-use Rattle.pst_engine_runs.specs.Stands.{machine_runs}
+use Rattle.pst_engine_runs.specs.Runs.{machine_runs}
 use Rattle.pst_engine_runs.proofs.Entries.{open-found-if}
 use Rattle.pst_engine_runs.proofs.Slicing.{if-ok-map}
 use Rattle.pst_engine.proofs.lines.step_run.Goals as goal
@@ -7,7 +7,7 @@ use Rattle.pst_engine.proofs.lines.step_run.Goals as goal
 pub index_of-at-requires : goal.index_of-at-requires
 index_of-at-requires g c =
     let may = c.requires in
-    open-found-if (g.C.Meant.meaning c.args.code.now) (machine_runs (g.C.Meant.parts c.args.code.now)) (g.H.HeapAt.state c.args.heap.now) c.args.engine.now.active.items.items c.args.engine.now.budget c.args.engine.now.next_run.0 may.history may.stands c.args.run (step-open (g.C.Meant.meaning c.args.code.now) may.history c.args.run c.args.charges may.accepted)
+    open-found-if (g.C.Meant.meant c.args.code.now).meaning (machine_runs (g.C.Meant.meant c.args.code.now).parts) (g.H.HeapAt.state c.args.heap.now) c.args.engine.now.active.items.items c.args.engine.now.budget c.args.engine.now.next_run.0 may.history may.stands c.args.run (step-open (g.C.Meant.meant c.args.code.now).meaning may.history c.args.run c.args.charges may.accepted)
 
 pub step-requires-clause-stands : goal.step-requires-clause-stands
 step-requires-clause-stands g c = record { budget = c.args.engine.now.budget; next = c.args.engine.now.next_run.0; history = c.requires.history; stands = c.requires.stands }

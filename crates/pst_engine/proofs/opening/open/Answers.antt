@@ -5,7 +5,8 @@ use Rattle.std.specs.Prelude.{length}
 use Rattle.pst_history.specs.History.{opened}
 use Rattle.pst_places.specs.State.{Forked, IsPublished}
 use Rattle.pst_engine_runs.specs.declared.entry.OpenEntry.{OpenEntry}
-use Rattle.pst_engine_runs.specs.Stands.{StandsFor, machine_runs}
+use Rattle.pst_engine_runs.specs.Stands.{StandsFor}
+use Rattle.pst_engine_runs.specs.Runs.{machine_runs}
 use Rattle.pst_engine_runs.proofs.Slicing.{stay-forked, stay-refused}
 use Rattle.pst_engine_runs.proofs.NewRuns.{row-at, begins-forked}
 use Rattle.pst_engine.proofs.Begin.{open-keeps}
@@ -32,8 +33,8 @@ fork-requires-clause-calls g c =
 
 pub returns-clause-ok : goal.returns-clause-ok
 returns-clause-ok g c = λ h stand may.
-    let m = g.C.Meant.meaning c.args.code.now in
-    let x = machine_runs {H = g.row.H.Denot} {P = g.row.H-Place.Denot} {R = g.row.H-Ref.Denot} (g.C.Meant.parts c.args.code.now) in
+    let m = (g.C.Meant.meant c.args.code.now).meaning in
+    let x = machine_runs {H = g.row.H.Denot} {P = g.row.H-Place.Denot} {R = g.row.H-Ref.Denot} (g.C.Meant.meant c.args.code.now).parts in
     let s = g.H.HeapAt.state c.args.heap.now in
     let t = g.H.HeapAt.state c.fork.new.self in
     let place = c.in_ok-place.place in

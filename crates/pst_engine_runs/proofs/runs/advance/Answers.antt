@@ -6,8 +6,8 @@ use Rattle.pst_engine_runs.proofs.runs.advance.Goals as goal
 
 pub returns-clause-ok : goal.returns-clause-ok
 returns-clause-ok g c = λ w k y counts waits.
-    let parts = g.C.Meant.parts c.args.code.now in
-    let m = g.C.Meant.meaning c.args.code.now in
+    let parts = (g.C.Meant.meant c.args.code.now).parts in
+    let m = (g.C.Meant.meant c.args.code.now).meaning in
     let s = g.H.HeapAt.state c.args.heap.now in
     let t = g.H.HeapAt.state c.advance.new.heap in
     let a = c.args.activation.now in

@@ -2,7 +2,8 @@ use Rattle.std.proofs.Common.{◌≡◌, ◌+◌, ◌<◌, ◌^◌, sym, ◌∙�
 use Rattle.pst_history.specs.declared.history.NamedCall.{NamedCall}
 use Rattle.pst_history.specs.History.{History}
 use Rattle.pst_base.specs.declared.names.RunNo.{RunNo}
-use Rattle.pst_engine_runs.specs.Stands.{MayCall, VersionsStay, machine_runs}
+use Rattle.pst_engine_runs.specs.Stands.{MayCall, VersionsStay}
+use Rattle.pst_engine_runs.specs.Runs.{machine_runs}
 use Rattle.pst_engine_runs.proofs.Slicing.{room, run-is, entry-at, may-add, few-calls, called-waits, called-keeps, slice-stays}
 use Rattle.pst_engine_runs.proofs.slices.call.Given.{Over}
 use Rattle.pst_engine_runs.proofs.slices.call.Goals.{After-index_mut-entry, After-advance}
@@ -16,17 +17,17 @@ number : (g : Over) (c : After-index_mut-entry g) → c.index_mut-entry.result.n
 number g c = run-is c.args.active.now.items c.args.at c.index_mut-entry.result.now c.args.run (found g c) c.requires.run
 
 -- the run of the entry can be given the call
-may-call : (g : Over) (c : After-index_mut-entry g) (h : History) → MayCall (g.C.Meant.meaning c.args.code.now) h c.args.run.0 (record { procedure = c.args.procedure.now; arguments = c.args.arguments.now })
-    → MayCall (g.C.Meant.meaning c.args.code.now) h c.index_mut-entry.result.now.run.0 (record { procedure = c.args.procedure.now; arguments = c.args.arguments.now })
+may-call : (g : Over) (c : After-index_mut-entry g) (h : History) → MayCall (g.C.Meant.meant c.args.code.now).meaning h c.args.run.0 (record { procedure = c.args.procedure.now; arguments = c.args.arguments.now })
+    → MayCall (g.C.Meant.meant c.args.code.now).meaning h c.index_mut-entry.result.now.run.0 (record { procedure = c.args.procedure.now; arguments = c.args.arguments.now })
 may-call g c h may =
     let new : NamedCall = record { procedure = c.args.procedure.now; arguments = c.args.arguments.now } in
-    subst (λ (n : RunNo). MayCall (g.C.Meant.meaning c.args.code.now) h n.0 new) (sym (number g c)) may
+    subst (λ (n : RunNo). MayCall (g.C.Meant.meant c.args.code.now).meaning h n.0 new) (sym (number g c)) may
 
 -- the slice changes no version
 stays : (g : Over) (c : After-advance g) → c.add.new.activation.stage.standing.place ≡ c.index_mut-entry.result.now.activation.stage.standing.place → VersionsStay (g.H.HeapAt.state c.args.heap.now) (g.H.HeapAt.state c.advance.new.heap)
 stays g c same =
     let some = c.requires.stands in
-    slice-stays (g.C.Meant.meaning c.args.code.now) (machine_runs (g.C.Meant.parts c.args.code.now)) c.known-2.ensures.lawful (g.H.HeapAt.state c.args.heap.now) (c.known-2.ensures.waits c.args.heap.now) c.known_versions.ensures c.known.ensures.written
+    slice-stays (g.C.Meant.meant c.args.code.now).meaning (machine_runs (g.C.Meant.meant c.args.code.now).parts) c.known-2.ensures.lawful (g.H.HeapAt.state c.args.heap.now) (c.known-2.ensures.waits c.args.heap.now) c.known_versions.ensures c.known.ensures.written
     c.args.active.now.items some.budget some.next some.history some.stands c.args.at c.index_mut-entry.result.now (entry-at c.args.active.now.items c.args.at c.index_mut-entry.result.now c.requires.at c.index_mut-entry.ensures.value) (g.H.HeapAt.state c.advance.new.heap) c.add.new.activation same c.advance.ensures.kept
 
 pub add-requires : goal.add-requires
@@ -39,7 +40,7 @@ add-requires g c =
         _,
         _,
         _,
-        may-add (g.C.Meant.meaning c.args.code.now) (machine_runs (g.C.Meant.parts c.args.code.now)) c.known-2.ensures.lawful (g.H.HeapAt.state c.args.heap.now) (c.known-2.ensures.waits c.args.heap.now) c.known_versions.ensures c.known.ensures.written
+        may-add (g.C.Meant.meant c.args.code.now).meaning (machine_runs (g.C.Meant.meant c.args.code.now).parts) c.known-2.ensures.lawful (g.H.HeapAt.state c.args.heap.now) (c.known-2.ensures.waits c.args.heap.now) c.known_versions.ensures c.known.ensures.written
             c.args.active.now.items some.budget some.next some.history some.stands c.args.at c.index_mut-entry.result.now (found g w) (record { procedure = c.args.procedure.now; arguments = c.args.arguments.now }) (may-call g w some.history some.may),
       ),
     )
@@ -49,7 +50,7 @@ overflow_add-entry g c =
     let some = c.requires.stands in
     let e = c.index_mut-entry.result.now in
     let w = (goal.at.overflow_add-entry g c).After-index_mut-entry in
-    let few : e.calls < CALLS = few-calls (g.C.Meant.meaning c.args.code.now) (machine_runs (g.C.Meant.parts c.args.code.now)) c.known-2.ensures.lawful (g.H.HeapAt.state c.args.heap.now) (c.known-2.ensures.waits c.args.heap.now) c.known_versions.ensures c.known.ensures.written
+    let few : e.calls < CALLS = few-calls (g.C.Meant.meant c.args.code.now).meaning (machine_runs (g.C.Meant.meant c.args.code.now).parts) c.known-2.ensures.lawful (g.H.HeapAt.state c.args.heap.now) (c.known-2.ensures.waits c.args.heap.now) c.known_versions.ensures c.known.ensures.written
     c.args.active.now.items some.budget some.next some.history some.stands c.args.at e (found g w) (record { procedure = c.args.procedure.now; arguments = c.args.arguments.now }) (may-call g w some.history some.may) in
     let fits : e.calls + 1 < 2 ^ 32 = omega arith in
     search
@@ -62,7 +63,7 @@ advance-requires-clause-ready g c =
       _,
       _,
       _,
-      called-waits (g.C.Meant.meaning c.args.code.now) (machine_runs (g.C.Meant.parts c.args.code.now)) c.known-2.ensures.lawful (g.H.HeapAt.state c.args.heap.now) (c.known-2.ensures.waits c.args.heap.now) c.known_versions.ensures c.known.ensures.written
+      called-waits (g.C.Meant.meant c.args.code.now).meaning (machine_runs (g.C.Meant.meant c.args.code.now).parts) c.known-2.ensures.lawful (g.H.HeapAt.state c.args.heap.now) (c.known-2.ensures.waits c.args.heap.now) c.known_versions.ensures c.known.ensures.written
           c.args.active.now.items some.budget some.next some.history some.stands c.args.at c.index_mut-entry.result.now (found g w) (record { procedure = c.args.procedure.now; arguments = c.args.arguments.now }) c.add.new.activation (may-call g w some.history some.may)
           (c.in_ok-add.ensures.waits c.args.heap.now),
     )
@@ -70,7 +71,7 @@ advance-requires-clause-ready g c =
 pub advance-requires-clause-room : goal.advance-requires-clause-room
 advance-requires-clause-room g c =
     let some = c.requires.stands in
-    room (g.C.Meant.meaning c.args.code.now) (machine_runs (g.C.Meant.parts c.args.code.now)) c.known-2.ensures.lawful (g.H.HeapAt.state c.args.heap.now) c.args.active.now.items some.budget some.next some.history some.stands
+    room (g.C.Meant.meant c.args.code.now).meaning (machine_runs (g.C.Meant.meant c.args.code.now).parts) c.known-2.ensures.lawful (g.H.HeapAt.state c.args.heap.now) c.args.active.now.items some.budget some.next some.history some.stands
 
 pub returns-in_err-end-clause-stay : goal.returns-in_err-end-clause-stay
 returns-in_err-end-clause-stay g c = stays g (goal.at.returns-in_err-end-clause-stay g c).After-advance c.in_ok-add.ensures.place
@@ -80,8 +81,8 @@ returns-clause-stay g c = stays g (goal.at.returns-clause-stay g c).After-advanc
 
 pub returns-clause-ok : goal.returns-clause-ok
 returns-clause-ok g c = λ budget next h stand may_call.
-    let m = g.C.Meant.meaning c.args.code.now in
-    let x = machine_runs {H = g.row.H.Denot} {P = g.row.H-Place.Denot} {R = g.row.H-Ref.Denot} (g.C.Meant.parts c.args.code.now) in
+    let m = (g.C.Meant.meant c.args.code.now).meaning in
+    let x = machine_runs {H = g.row.H.Denot} {P = g.row.H-Place.Denot} {R = g.row.H-Ref.Denot} (g.C.Meant.meant c.args.code.now).parts in
     let law = c.known-2.ensures.lawful in
     let s = g.H.HeapAt.state c.args.heap.now in
     let waits = c.known-2.ensures.waits c.args.heap.now in

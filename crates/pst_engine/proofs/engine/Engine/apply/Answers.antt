@@ -1,6 +1,6 @@
 use Rattle.std.proofs.Common.{◌≡◌, Some, None, ◌∙◌}
 use Rattle.pst_history.specs.History.{refusal, after}
-use Rattle.pst_engine_runs.specs.Stands.{machine_runs}
+use Rattle.pst_engine_runs.specs.Runs.{machine_runs}
 use Rattle.pst_engine_runs.proofs.Slicing.{on-err, stay-holds}
 use Rattle.pst_engine_runs.proofs.Entries.{refusal-told}
 use Rattle.pst_engine.proofs.Commands.{carried-stands, carried-reply, refused-stands, refused-reply, not-refused}
@@ -8,8 +8,8 @@ use Rattle.pst_engine.proofs.engine.Engine.apply.Goals as goal
 
 pub answer-requires : goal.answer-requires
 answer-requires g c =
-    let m = g.C.Meant.meaning c.args.code.now in
-    let x = machine_runs {H = g.row.H.Denot} {P = g.row.H-Place.Denot} {R = g.row.H-Ref.Denot} (g.C.Meant.parts c.args.code.now) in
+    let m = (g.C.Meant.meant c.args.code.now).meaning in
+    let x = machine_runs {H = g.row.H.Denot} {P = g.row.H-Place.Denot} {R = g.row.H-Ref.Denot} (g.C.Meant.meant c.args.code.now).parts in
     let s = g.H.HeapAt.state c.args.heap.now in
     let engine = c.args.self.now in
     let may = c.requires c.if-self.false in
@@ -18,8 +18,8 @@ answer-requires g c =
 
 pub returns-clause-answers : goal.returns-clause-answers
 returns-clause-answers g c = λ h stand.
-    let m = g.C.Meant.meaning c.args.code.now in
-    let x = machine_runs {H = g.row.H.Denot} {P = g.row.H-Place.Denot} {R = g.row.H-Ref.Denot} (g.C.Meant.parts c.args.code.now) in
+    let m = (g.C.Meant.meant c.args.code.now).meaning in
+    let x = machine_runs {H = g.row.H.Denot} {P = g.row.H-Place.Denot} {R = g.row.H-Ref.Denot} (g.C.Meant.meant c.args.code.now).parts in
     let s = g.H.HeapAt.state c.args.heap.now in
     let engine = c.args.self.now in
     let new = c.answer.new.engine in
@@ -31,8 +31,8 @@ returns-clause-answers g c = λ h stand.
 
 pub returns-clause-may : goal.returns-clause-may
 returns-clause-may g c = λ range.
-    let m = g.C.Meant.meaning c.args.code.now in
-    let x = machine_runs {H = g.row.H.Denot} {P = g.row.H-Place.Denot} {R = g.row.H-Ref.Denot} (g.C.Meant.parts c.args.code.now) in
+    let m = (g.C.Meant.meant c.args.code.now).meaning in
+    let x = machine_runs {H = g.row.H.Denot} {P = g.row.H-Place.Denot} {R = g.row.H-Ref.Denot} (g.C.Meant.meant c.args.code.now).parts in
     let s = g.H.HeapAt.state c.args.heap.now in
     let engine = c.args.self.now in
     let new = c.answer.new.engine in
@@ -45,8 +45,8 @@ returns-clause-may g c = λ range.
 
 pub returns-clause-refused : goal.returns-clause-refused
 returns-clause-refused g c = λ why is.
-    let m = g.C.Meant.meaning c.args.code.now in
-    let x = machine_runs {H = g.row.H.Denot} {P = g.row.H-Place.Denot} {R = g.row.H-Ref.Denot} (g.C.Meant.parts c.args.code.now) in
+    let m = (g.C.Meant.meant c.args.code.now).meaning in
+    let x = machine_runs {H = g.row.H.Denot} {P = g.row.H-Place.Denot} {R = g.row.H-Ref.Denot} (g.C.Meant.meant c.args.code.now).parts in
     let s = g.H.HeapAt.state c.args.heap.now in
     let engine = c.args.self.now in
     let may = c.requires c.if-self.false in
@@ -55,7 +55,7 @@ returns-clause-refused g c = λ why is.
 
 pub returns-in_err-reply-clause-wants : goal.returns-in_err-reply-clause-wants
 returns-in_err-reply-clause-wants g c =
-    let m = g.C.Meant.meaning c.args.code.now in
+    let m = (g.C.Meant.meant c.args.code.now).meaning in
     let s = g.H.HeapAt.state c.args.heap.now in
     let t = g.H.HeapAt.state c.answer.new.heap in
     let stays = c.in_err-reply.ensures.err in
@@ -63,8 +63,8 @@ returns-in_err-reply-clause-wants g c =
 
 pub returns-in-Some-clause-answers : goal.returns-in-Some-clause-answers
 returns-in-Some-clause-answers g c = λ h stand.
-    let m = g.C.Meant.meaning c.args.code.now in
-    let x = machine_runs {H = g.row.H.Denot} {P = g.row.H-Place.Denot} {R = g.row.H-Ref.Denot} (g.C.Meant.parts c.args.code.now) in
+    let m = (g.C.Meant.meant c.args.code.now).meaning in
+    let x = machine_runs {H = g.row.H.Denot} {P = g.row.H-Place.Denot} {R = g.row.H-Ref.Denot} (g.C.Meant.meant c.args.code.now).parts in
     let s = g.H.HeapAt.state c.args.heap.now in
     let engine = c.args.self.now in
     let some : refusal m h c.args.command.now ≡ Some c.in-Some.refusal = refusal-told m x s engine.active.items.items engine.budget engine.next_run.0 h stand c.args.command.now c.as_slice-active.result.now c.refused.result c.as_slice-active.ensures.value c.refused.ensures ∙ c.in-Some.is in record {
