@@ -116,8 +116,8 @@ pub record IsSegmentAt (qs : List ℕ) (ns : List Node) (x slot n a c : ℕ) : T
   pub high : (d : Row) → rank qs c ≤ rank qs (row_at ns x d).hi.0
 
 -- a slot of node y holds the entry of the field f of node z at a position, or the entry of this field of node x
-abbrev pub HoldsEntry : List ℕ → List Node → (y slot n x z f : ℕ) → Type 0
-HoldsEntry qs ns y slot n x z f = renamed x z ((chart qs ns).holds y slot n) ≡ From z f
+abbrev pub HoldsEntryOf : List ℕ → List Node → (y slot n x z f : ℕ) → Type 0
+HoldsEntryOf qs ns y slot n x z f = renamed x z ((chart qs ns).holds y slot n) ≡ From z f
 
 -- ---- types
 

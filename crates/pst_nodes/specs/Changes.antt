@@ -69,8 +69,8 @@ abbrev pub HasRoomForEntry : List ℕ → List Node → ℕ → ℕ → ℕ → 
 HasRoomForEntry qs ns x f n = (y : ℕ) (d : Row) → (chart qs ns).holds x f n ≡ Target y → HasRoom (row_at ns y d) (if y == x then 4 else 2)
 
 -- one slot of one node gets a content over one position
-abbrev pub IsSetOver : List ℕ → List Node → List Node → (x slot n : ℕ) → Content → Type 0
-IsSetOver qs old new x slot n c = IsSlotSet (chart qs old) (chart qs new) x slot n c
+abbrev pub HasSlotSet : List ℕ → List Node → List Node → (x slot n : ℕ) → Content → Type 0
+HasSlotSet qs old new x slot n c = IsSlotSet (chart qs old) (chart qs new) x slot n c
 
 -- a segment of one slot begins at a position, with the content that the slot held there
 abbrev pub IsSegmentBegun : List ℕ → List Node → List Node → (x slot n : ℕ) → Type 0

@@ -8,7 +8,7 @@ ghost use Rattle.pst_mirror.specs.Lives.{AreChained, IsLive, IsIn};
 ghost use Rattle.pst_rows.specs.Rows.{stamped_count};
 ghost use Rattle.std.specs.Option.{option_map};
 ghost use Rattle.pst_nodes.specs.Arena.{spare_nodes, HasRoom, new_node, rows_of, row_at, frame_at, frames_of, link_at, AreRows, chart, lives, IsAlive, IsSlot, IsSegmentAt, IsTyped, LeadsTo};
-ghost use Rattle.pst_nodes.specs.Changes.{HasStampedOver, IsSetOver, IsSegmentBegun, IsSegmentReplaced, IsTouched, AreSameNodes, IsCutInTwo};
+ghost use Rattle.pst_nodes.specs.Changes.{HasStampedOver, HasSlotSet, IsSegmentBegun, IsSegmentReplaced, IsTouched, AreSameNodes, IsCutInTwo};
 
 use crate::header::Header;
 use crate::node::{Node, Nodes};
@@ -179,7 +179,7 @@ impl Nodes {
         requires slot { IsSlot (O.places order.now) self.old.list.items id.0 slot.0 (rank (O.places order.now) from.0) }
         requires behind { rank (O.places order.now) to.0 ≡ rank (O.places order.now) from.0 + 1 }
         requires room { (d : Row) → HasRoom (row_at self.old.list.items id.0 d) 2 }
-        ensures set { IsSetOver (O.places order.now) self.old.list.items self.new.list.items id.0 slot.0 (rank (O.places order.now) from.0) content }
+        ensures set { HasSlotSet (O.places order.now) self.old.list.items self.new.list.items id.0 slot.0 (rank (O.places order.now) from.0) content }
         ensures rows { AreRows (O.places order.now) self.new.list.items }
         ensures touched { IsTouched 2 self.old.list.items self.new.list.items id.0 }
         ensures stamped { HasStampedOver (O.places order.now) self.old.list.items self.new.list.items id.0 slot.0 (rank (O.places order.now) from.0) }

@@ -6,7 +6,7 @@ ghost use Rattle.pst_order.specs.Places.{rank};
 ghost use Rattle.pst_mirror.specs.Mirror.{IsMirrored, renamed};
 ghost use Rattle.pst_mirror.specs.Contents.{Target, From};
 ghost use Rattle.pst_nodes.specs.declared.node.Node.{Node};
-ghost use Rattle.pst_nodes.specs.Arena.{HasRoom, row_at, AreRows, chart, HoldsEntry, IsAlive, IsSlot};
+ghost use Rattle.pst_nodes.specs.Arena.{HasRoom, row_at, AreRows, chart, HoldsEntryOf, IsAlive, IsSlot};
 ghost use Rattle.pst_nodes.specs.Changes.{AreTouched, HasRoomForEntry, IsFieldLinked, IsFieldUnlinked};
 
 use crate::node::Nodes;
@@ -27,9 +27,9 @@ impl Nodes {
     ) -> SlotNo
         requires rows { AreRows (O.places order.now) self.now.list.items }
         requires alive { IsAlive (O.places order.now) self.now.list.items id.0 (rank (O.places order.now) at.0) }
-        requires there { (s : ℕ) × HoldsEntry (O.places order.now) self.now.list.items id.0 s (rank (O.places order.now) at.0) x.0 z.0 field.0 }
+        requires there { (s : ℕ) × HoldsEntryOf (O.places order.now) self.now.list.items id.0 s (rank (O.places order.now) at.0) x.0 z.0 field.0 }
         ensures slot { IsSlot (O.places order.now) self.now.list.items id.0 result.0 (rank (O.places order.now) at.0) }
-        ensures entry { HoldsEntry (O.places order.now) self.now.list.items id.0 result.0 (rank (O.places order.now) at.0) x.0 z.0 field.0 }
+        ensures entry { HoldsEntryOf (O.places order.now) self.now.list.items id.0 result.0 (rank (O.places order.now) at.0) x.0 z.0 field.0 }
     {
         for index in 0..self.row(id).width() {
             let slot = SlotNo(index as u16);

@@ -24,5 +24,5 @@ pub record IsReady (list : List ℕ) (bed : Bed) : Type 0 where
   pub known : IsKnown list bed.stamps.items
 
 -- a content is what a slot of the row holds at the place with a number
-abbrev pub IsHeld : List ℕ → Bed → (slot index : ℕ) → Content → Type 0
-IsHeld list bed slot index content = (p : Pos) → slice_get bed.places.items index ≡ Some p → content ≡ content_at (rank list) bed.row slot (rank list p.0)
+abbrev pub IsHeldAt : List ℕ → Bed → (slot index : ℕ) → Content → Type 0
+IsHeldAt list bed slot index content = (p : Pos) → slice_get bed.places.items index ≡ Some p → content ≡ content_at (rank list) bed.row slot (rank list p.0)
