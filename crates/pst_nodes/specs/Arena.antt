@@ -3,7 +3,8 @@ use Rattle.std.specs.Prelude.{◌≡◌, ℕ, ◌-◌, ◌<◌, ◌≤◌, vec_c
 use Rattle.pst_rows.specs.declared.content.Content.TheVariants.{Free}
 use Rattle.pst_rows.specs.declared.row.Row.{Row}
 use Rattle.pst_order.specs.Places.{rank}
-use Rattle.pst_mirror.specs.Mirror.{Chart}
+use Rattle.pst_mirror.specs.Mirror.{Chart, renamed}
+use Rattle.pst_mirror.specs.Contents.{From}
 use Rattle.pst_mirror.specs.Charts.{chart_of, AllRows}
 use Rattle.pst_mirror.specs.Lives.{Lives, IsLive}
 use Rattle.pst_mirror.specs.Degree.{is_entry, is_other_entry}
@@ -40,6 +41,10 @@ spare_nodes ns = vec_capacity ns.list - length ns.list.items
 -- a row can take so many stamped values more without memory
 abbrev pub HasRoom : Row → ℕ → Type 0
 HasRoom row k = k ≤ spare_of row
+
+-- a node for a new record: no other node of the record comes behind it, and it does not wait
+abbrev pub new_node : Name → TypeNo → Row → Node
+new_node name ty row = record { header = record { name = name; ty = ty; later = None; link = Out }; row = row }
 
 -- what a node is beside its row and its link, by numbers: the record's name, its type, and the next node of the record
 pub record Frame : Type 0 where
@@ -109,6 +114,10 @@ pub record IsSegmentAt (qs : List ℕ) (ns : List Node) (x slot n a c : ℕ) : T
   pub not_over : n < rank qs c
   pub low : (d : Row) → rank qs (row_at ns x d).lo.0 ≤ rank qs a
   pub high : (d : Row) → rank qs c ≤ rank qs (row_at ns x d).hi.0
+
+-- a slot of node y holds the entry of the field f of node z at a position, or the entry of this field of node x
+abbrev pub HoldsEntryOf : List ℕ → List Node → (y slot n x z f : ℕ) → Type 0
+HoldsEntryOf qs ns y slot n x z f = renamed x z ((chart qs ns).holds y slot n) ≡ From z f
 
 -- ---- types
 

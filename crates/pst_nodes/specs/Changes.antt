@@ -3,10 +3,10 @@ use Rattle.std.specs.Prelude.{◌≡◌, ◌≢◌, ℕ, ◌+◌, ◌<◌, ◌�
 use Rattle.pst_rows.specs.declared.content.Content.{Content}
 use Rattle.pst_rows.specs.declared.row.Row.{Row}
 use Rattle.pst_order.specs.Places.{rank}
-use Rattle.pst_mirror.specs.Mirror.{Chart, IsUnlinked}
+use Rattle.pst_mirror.specs.Mirror.{Chart, IsLinked, IsUnlinked}
 use Rattle.pst_mirror.specs.Segments.{IsSegmentOf}
 use Rattle.pst_mirror.specs.Contents.{Target}
-use Rattle.pst_mirror.specs.Charts.{IsMovedApart}
+use Rattle.pst_mirror.specs.Charts.{HasOneEdgeMore, IsMovedApart, IsSlotSet}
 use Rattle.pst_mirror.specs.Lives.{IsSplitLife}
 use Rattle.pst_rows.specs.Changes.{missing}
 use Rattle.pst_rows.specs.Rows.{width_of, stamped_count, stamped_before, stamped_after, shown}
@@ -35,12 +35,12 @@ abbrev pub HasStampedOver : List ℕ → List Node → List Node → ℕ → ℕ
 HasStampedOver qs old new x slot n = (d : Row) → stamped_count (row_at new x d) ≡ stamped_count (row_at old x d) + added (chart qs old) x slot n
 
 -- Two slots set over one position, one after the other: what is stamped in each row, in the room that it had.
-pub record AreTouched (w : Chart) (old new : List Node) (x f y s n : ℕ) : Type 0 where
+pub record AreTouched (qs : List ℕ) (old new : List Node) (x f y s n : ℕ) : Type 0 where
   pub mid : List Node
   pub first : IsTouched 2 old mid x
   pub second : IsTouched 2 mid new y
-  pub first_stamped : (d : Row) → stamped_count (row_at mid x d) ≡ stamped_count (row_at old x d) + added w x f n
-  pub second_stamped : (d : Row) → stamped_count (row_at new y d) ≡ stamped_count (row_at mid y d) + added w y s n
+  pub first_stamped : (d : Row) → stamped_count (row_at mid x d) ≡ stamped_count (row_at old x d) + added (chart qs old) x f n
+  pub second_stamped : (d : Row) → stamped_count (row_at new y d) ≡ stamped_count (row_at mid y d) + added (chart qs old) y s n
 
 -- the same nodes, some rows in other allocations
 pub record AreSameNodes (old new : List Node) : Type 0 where
@@ -68,9 +68,21 @@ pub record IsSegmentReplaced (qs : List ℕ) (old new : List Node) (x slot n : �
 abbrev pub HasRoomForEntry : List ℕ → List Node → ℕ → ℕ → ℕ → Type 0
 HasRoomForEntry qs ns x f n = (y : ℕ) (d : Row) → (chart qs ns).holds x f n ≡ Target y → HasRoom (row_at ns y d) (if y == x then 4 else 2)
 
+-- one slot of one node gets a content over one position
+abbrev pub HasSlotSet : List ℕ → List Node → List Node → (x slot n : ℕ) → Content → Type 0
+HasSlotSet qs old new x slot n c = IsSlotSet (chart qs old) (chart qs new) x slot n c
+
+-- a segment of one slot begins at a position, with the content that the slot held there
+abbrev pub IsSegmentBegun : List ℕ → List Node → List Node → (x slot n : ℕ) → Type 0
+IsSegmentBegun qs old new x slot n = HasOneEdgeMore (chart qs old) (chart qs new) x slot n
+
+-- a pointer to node y is put into the field f of node x, and its entry into a slot of y, over one position
+abbrev pub IsFieldLinked : List ℕ → List Node → List Node → (x f y slot n : ℕ) → Type 0
+IsFieldLinked qs old new x f y slot n = IsLinked (chart qs old) (chart qs new) x f y slot n
+
 -- the pointer in a field and its entry are taken away over one position
 abbrev pub IsFieldUnlinked : List ℕ → List Node → List Node → ℕ → ℕ → ℕ → Type 0
-IsFieldUnlinked qs old new x f n = (y : ℕ) → (chart qs old).holds x f n ≡ Target y → (s : ℕ) × IsUnlinked (chart qs old) (chart qs new) x f y s n × AreTouched (chart qs old) old new x f y s n
+IsFieldUnlinked qs old new x f n = (y : ℕ) → (chart qs old).holds x f n ≡ Target y → (s : ℕ) × IsUnlinked (chart qs old) (chart qs new) x f y s n × AreTouched qs old new x f y s n
 
 -- node x is cut in two at place s, and the right part is the last node
 pub record IsCutInTwo (qs : List ℕ) (old new : List Node) (x z s : ℕ) : Type 0 where

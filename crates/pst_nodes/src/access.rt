@@ -4,12 +4,11 @@ ghost use Rattle.std.specs.Prelude.{◌≡◌, ◌≢◌, ℕ, ◌+◌, ◌<◌,
 ghost use Rattle.std.proofs.Common.{rules};
 ghost use Rattle.pst_rows.specs.declared.row.Row.{Row};
 ghost use Rattle.pst_order.specs.Places.{rank};
-ghost use Rattle.pst_mirror.specs.Charts.{HasOneEdgeMore, IsSlotSet};
 ghost use Rattle.pst_mirror.specs.Lives.{AreChained, IsLive, IsIn};
 ghost use Rattle.pst_rows.specs.Rows.{stamped_count};
 ghost use Rattle.std.specs.Option.{option_map};
-ghost use Rattle.pst_nodes.specs.Arena.{spare_nodes, HasRoom, rows_of, row_at, frame_at, frames_of, link_at, AreRows, chart, lives, IsAlive, IsSlot, IsSegmentAt, IsTyped, LeadsTo};
-ghost use Rattle.pst_nodes.specs.Changes.{HasStampedOver, IsSegmentReplaced, IsTouched, AreSameNodes, IsCutInTwo};
+ghost use Rattle.pst_nodes.specs.Arena.{spare_nodes, HasRoom, new_node, rows_of, row_at, frame_at, frames_of, link_at, AreRows, chart, lives, IsAlive, IsSlot, IsSegmentAt, IsTyped, LeadsTo};
+ghost use Rattle.pst_nodes.specs.Changes.{HasStampedOver, HasSlotSet, IsSegmentBegun, IsSegmentReplaced, IsTouched, AreSameNodes, IsCutInTwo};
 
 use crate::header::Header;
 use crate::node::{Node, Nodes};
@@ -79,7 +78,7 @@ impl Nodes {
     /// refusal changes nothing.
     pub fn add(&mut self, name: Name, ty: TypeNo, row: Row) -> Result<NodeId, NoMemory>
         ensures id { IfOk result (λ id. id.0 ≡ length self.old.list.items) }
-        ensures added { OnOk result (self.new.list.items ≡ self.old.list.items ++ record { header = record { name = name; ty = ty; later = None; link = Link.Out }; row = row } ∷ []) }
+        ensures added { OnOk result (self.new.list.items ≡ self.old.list.items ++ new_node name ty row ∷ []) }
         ensures err { OnErr result (self.new.list.items ≡ self.old.list.items) }
         ensures succeeds { 1 ≤ spare_nodes self.old → IsOk result }
     {
@@ -180,7 +179,7 @@ impl Nodes {
         requires slot { IsSlot (O.places order.now) self.old.list.items id.0 slot.0 (rank (O.places order.now) from.0) }
         requires behind { rank (O.places order.now) to.0 ≡ rank (O.places order.now) from.0 + 1 }
         requires room { (d : Row) → HasRoom (row_at self.old.list.items id.0 d) 2 }
-        ensures set { IsSlotSet (chart (O.places order.now) self.old.list.items) (chart (O.places order.now) self.new.list.items) id.0 slot.0 (rank (O.places order.now) from.0) content }
+        ensures set { HasSlotSet (O.places order.now) self.old.list.items self.new.list.items id.0 slot.0 (rank (O.places order.now) from.0) content }
         ensures rows { AreRows (O.places order.now) self.new.list.items }
         ensures touched { IsTouched 2 self.old.list.items self.new.list.items id.0 }
         ensures stamped { HasStampedOver (O.places order.now) self.old.list.items self.new.list.items id.0 slot.0 (rank (O.places order.now) from.0) }
@@ -195,7 +194,7 @@ impl Nodes {
         requires slot { IsSlot (O.places order.now) self.old.list.items id.0 slot.0 (rank (O.places order.now) at.0) }
         requires inside { (chart (O.places order.now) self.old.list.items).edge id.0 slot.0 (rank (O.places order.now) at.0) ≡ false }
         requires room { (d : Row) → HasRoom (row_at self.old.list.items id.0 d) 1 }
-        ensures cut { HasOneEdgeMore (chart (O.places order.now) self.old.list.items) (chart (O.places order.now) self.new.list.items) id.0 slot.0 (rank (O.places order.now) at.0) }
+        ensures cut { IsSegmentBegun (O.places order.now) self.old.list.items self.new.list.items id.0 slot.0 (rank (O.places order.now) at.0) }
         ensures rows { AreRows (O.places order.now) self.new.list.items }
         ensures touched { IsTouched 1 self.old.list.items self.new.list.items id.0 }
         ensures stamped { (d : Row) → stamped_count (row_at self.new.list.items id.0 d) ≡ stamped_count (row_at self.old.list.items id.0 d) + 1 }

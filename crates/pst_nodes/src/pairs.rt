@@ -3,11 +3,11 @@
 ghost use Rattle.std.specs.Prelude.{◌≡◌, ◌≢◌, ℕ, ◌+◌, ◌<◌, ◌≤◌, List, length, if◌then◌else◌, ◌==◌, ◌↔◌, IsTrue};
 ghost use Rattle.pst_rows.specs.declared.row.Row.{Row};
 ghost use Rattle.pst_order.specs.Places.{rank};
-ghost use Rattle.pst_mirror.specs.Mirror.{IsMirrored, IsLinked, renamed};
+ghost use Rattle.pst_mirror.specs.Mirror.{IsMirrored, renamed};
 ghost use Rattle.pst_mirror.specs.Contents.{Target, From};
 ghost use Rattle.pst_nodes.specs.declared.node.Node.{Node};
-ghost use Rattle.pst_nodes.specs.Arena.{HasRoom, row_at, AreRows, chart, IsAlive, IsSlot};
-ghost use Rattle.pst_nodes.specs.Changes.{AreTouched, HasRoomForEntry, IsFieldUnlinked};
+ghost use Rattle.pst_nodes.specs.Arena.{HasRoom, row_at, AreRows, chart, HoldsEntryOf, IsAlive, IsSlot};
+ghost use Rattle.pst_nodes.specs.Changes.{AreTouched, HasRoomForEntry, IsFieldLinked, IsFieldUnlinked};
 
 use crate::node::Nodes;
 use pst_base::{NodeId, SlotNo};
@@ -27,9 +27,9 @@ impl Nodes {
     ) -> SlotNo
         requires rows { AreRows (O.places order.now) self.now.list.items }
         requires alive { IsAlive (O.places order.now) self.now.list.items id.0 (rank (O.places order.now) at.0) }
-        requires there { (s : ℕ) × (renamed x.0 z.0 ((chart (O.places order.now) self.now.list.items).holds id.0 s (rank (O.places order.now) at.0)) ≡ From z.0 field.0) }
+        requires there { (s : ℕ) × HoldsEntryOf (O.places order.now) self.now.list.items id.0 s (rank (O.places order.now) at.0) x.0 z.0 field.0 }
         ensures slot { IsSlot (O.places order.now) self.now.list.items id.0 result.0 (rank (O.places order.now) at.0) }
-        ensures entry { renamed x.0 z.0 ((chart (O.places order.now) self.now.list.items).holds id.0 result.0 (rank (O.places order.now) at.0)) ≡ From z.0 field.0 }
+        ensures entry { HoldsEntryOf (O.places order.now) self.now.list.items id.0 result.0 (rank (O.places order.now) at.0) x.0 z.0 field.0 }
     {
         for index in 0..self.row(id).width() {
             let slot = SlotNo(index as u16);
@@ -60,10 +60,10 @@ impl Nodes {
         requires free { (chart (O.places order.now) self.old.list.items).holds y.0 slot.0 (rank (O.places order.now) from.0) ≡ Content.Free }
         requires room_x { (d : Row) → HasRoom (row_at self.old.list.items x.0 d) 2 }
         requires room_y { (d : Row) → HasRoom (row_at self.old.list.items y.0 d) (if y.0 == x.0 then 4 else 2) }
-        ensures linked { IsLinked (chart (O.places order.now) self.old.list.items) (chart (O.places order.now) self.new.list.items) x.0 field.0 y.0 slot.0 (rank (O.places order.now) from.0) }
+        ensures linked { IsFieldLinked (O.places order.now) self.old.list.items self.new.list.items x.0 field.0 y.0 slot.0 (rank (O.places order.now) from.0) }
         ensures mirrored { IsMirrored (chart (O.places order.now) self.new.list.items) }
         ensures rows { AreRows (O.places order.now) self.new.list.items }
-        ensures touched { AreTouched (chart (O.places order.now) self.old.list.items) self.old.list.items self.new.list.items x.0 field.0 y.0 slot.0 (rank (O.places order.now) from.0) }
+        ensures touched { AreTouched (O.places order.now) self.old.list.items self.new.list.items x.0 field.0 y.0 slot.0 (rank (O.places order.now) from.0) }
     {
         self.set_over(order, x, field, from, to, Content::Target(y));
         self.set_over(order, y, slot, from, to, Content::From(x, field));

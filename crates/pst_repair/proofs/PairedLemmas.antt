@@ -37,7 +37,7 @@ some_row : (ns : List Node) (i : ℕ) → i < length ns → Row
 some_row [] i l = absurd (omega arith)
 some_row (n ∷ ns) i l = n.row
 
-module _ (types : List TypeShape) (qs : List ℕ) (w : Chart) (old new : List Node) (x f y s b : ℕ) (there : x < length old) (t : AreTouched w old new x f y s b) where
+module _ (types : List TypeShape) (qs : List ℕ) (old new : List Node) (x f y s b : ℕ) (there : x < length old) (t : AreTouched qs old new x f y s b) where
   d : Row
   d = some_row old x there
 
@@ -59,17 +59,17 @@ module _ (types : List TypeShape) (qs : List ℕ) (w : Chart) (old new : List No
 pub links_are_seen : LinksAreSeen
 links_are_seen types qs old new x f y s b l m h t typed = (
   record {
-    nodes = pair_nodes types qs (chart qs old) old new x f y s b l t;
+    nodes = pair_nodes types qs old new x f y s b l t;
     linked = subst (λ (c : Chart). IsLinked (arena_of (rank qs) (seen old)).chart c x f y s b) (sym (seen_chart qs new)) (subst (λ (c : Chart). IsLinked c (chart qs new) x f y s b) (sym (seen_chart qs old)) h);
   },
-  pair_seen types qs (chart qs old) old new x f y s b l t typed,
+  pair_seen types qs old new x f y s b l t typed,
 )
 
 pub unlinks_are_seen : UnlinksAreSeen
 unlinks_are_seen types qs old new x f y s b l m h t typed = (
   record {
-    nodes = pair_nodes types qs (chart qs old) old new x f y s b l t;
+    nodes = pair_nodes types qs old new x f y s b l t;
     unlinked = subst (λ (c : Chart). IsUnlinked (arena_of (rank qs) (seen old)).chart c x f y s b) (sym (seen_chart qs new)) (subst (λ (c : Chart). IsUnlinked c (chart qs new) x f y s b) (sym (seen_chart qs old)) h);
   },
-  pair_seen types qs (chart qs old) old new x f y s b l t typed,
+  pair_seen types qs old new x f y s b l t typed,
 )

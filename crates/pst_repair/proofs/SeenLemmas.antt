@@ -1,11 +1,11 @@
 use Rattle.std.proofs.lemmas.List.Sums.{sum_by-cons}
 use Rattle.std.proofs.lemmas.Option.{none-some, same_Some}
-use Rattle.std.proofs.Common.{◌≡◌, ℕ, zero, suc, ◌<◌, List, [], ◌∷◌, length, map, get_or, Some, None, slice_get, unwrap_or, refl, sym, ap, ◌∙◌, subst, arith}
+use Rattle.std.proofs.Common.{◌≡◌, ℕ, zero, suc, ◌<◌, List, [], ◌∷◌, length, map, Some, None, slice_get, refl, sym, ap, ◌∙◌, subst, arith}
 use Rattle.std.specs.Option.{option_map}
 use Rattle.pst_base.specs.declared.names.NodeId.{NodeId}
 use Rattle.pst_base.specs.Name.{root_name}
 use Rattle.pst_base.specs.declared.shape.TypeShape.{TypeShape}
-use Rattle.pst_base.specs.Shape.{type_at, no_type, root_type}
+use Rattle.pst_base.specs.Shape.{type_at, root_type}
 use Rattle.pst_order.specs.Places.{rank}
 use Rattle.pst_rows.specs.declared.row.Row.{Row}
 use Rattle.pst_rows.specs.Rows.{width_of, shown}
@@ -14,8 +14,8 @@ use Rattle.pst_nodes.specs.declared.node.Node.{Node}
 use Rattle.pst_nodes.specs.Arena.{values_of, frame_at, lo_at, hi_at, row_at, AreRows, type_of, IsTyped}
 use Rattle.pst_base.specs.declared.names.TypeNo.{TypeNo}
 use Rattle.pst_rows.specs.Changes.{slot_count}
-use Rattle.pst_split.specs.Load.{half_in, excess, potential_of}
-use Rattle.pst_mirror.specs.Potential.{potential, excess as load_excess, half}
+use Rattle.pst_split.specs.Load.{excess, potential_of}
+use Rattle.pst_mirror.specs.Potential.{potential, excess as load_excess}
 use Rattle.pst_store_meaning.specs.Store.{Node as Seen, of_node, load_of, width, AreWide}
 use Rattle.pst_repair.specs.Seen.{seen_node, seen, SeenChartLaw}
 

@@ -18,10 +18,10 @@ pub record IsPairSeen (types : List TypeShape) (old new : List Seen) : Type 0 wh
 
 -- where the arena links, a store sees a pointer put in
 abbrev pub LinksAreSeen : Type 0
-LinksAreSeen = (types : List TypeShape) (qs : List ℕ) (old new : List Node) (x f y s b : ℕ) → x < length old → y < length old → IsLinked (chart qs old) (chart qs new) x f y s b → AreTouched (chart qs old) old new x f y s b → ((i : ℕ) → i < length old → IsTyped types old i) →
+LinksAreSeen = (types : List TypeShape) (qs : List ℕ) (old new : List Node) (x f y s b : ℕ) → x < length old → y < length old → IsLinked (chart qs old) (chart qs new) x f y s b → AreTouched qs old new x f y s b → ((i : ℕ) → i < length old → IsTyped types old i) →
     IsPointerPut (arena_of (rank qs) (seen old)) (arena_of (rank qs) (seen new)) x f y s b × IsPairSeen types (seen old) (seen new)
 
 -- where it unlinks, one taken away
 abbrev pub UnlinksAreSeen : Type 0
-UnlinksAreSeen = (types : List TypeShape) (qs : List ℕ) (old new : List Node) (x f y s b : ℕ) → x < length old → y < length old → IsUnlinked (chart qs old) (chart qs new) x f y s b → AreTouched (chart qs old) old new x f y s b → ((i : ℕ) → i < length old → IsTyped types old i) →
+UnlinksAreSeen = (types : List TypeShape) (qs : List ℕ) (old new : List Node) (x f y s b : ℕ) → x < length old → y < length old → IsUnlinked (chart qs old) (chart qs new) x f y s b → AreTouched qs old new x f y s b → ((i : ℕ) → i < length old → IsTyped types old i) →
     IsPointerTaken (arena_of (rank qs) (seen old)) (arena_of (rank qs) (seen new)) x f y s b × IsPairSeen types (seen old) (seen new)

@@ -5,6 +5,7 @@ use Rattle.pst_order.specs.Places.{rank}
 use Rattle.pst_rows.specs.Rows.{shown}
 use Rattle.pst_mirror.specs.Charts.{chart_of}
 use Rattle.pst_nodes.specs.declared.node.Node.{Node}
+use Rattle.pst_nodes.specs.declared.node.Nodes.{Nodes}
 use Rattle.pst_nodes.specs.Arena.{chart}
 use Rattle.pst_split.specs.Load.{IsSound}
 use Rattle.pst_split.specs.Split.{IsSplit}
@@ -16,6 +17,10 @@ seen_node n = record { head = record { name = n.header.name; ty = n.header.ty; l
 
 abbrev pub seen : List Node → List Seen
 seen ns = map seen_node ns
+
+-- the same of all nodes of an arena
+abbrev pub seen_in : Nodes → List Seen
+seen_in nodes = seen nodes.list.items
 
 -- the chart of what is seen is the chart of the nodes
 abbrev pub SeenChartLaw : Type 0

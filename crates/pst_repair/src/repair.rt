@@ -5,7 +5,7 @@ ghost use Rattle.pst_split.specs.Load.{IsSound, IsOver, potential_of};
 ghost use Rattle.pst_split.specs.Steps.{Queues};
 ghost use Rattle.pst_split.specs.Shown.{ShowsAll, KeepsLive};
 ghost use Rattle.pst_store_meaning.specs.Steps.{AreSplits};
-ghost use Rattle.pst_repair.specs.Seen.{seen};
+ghost use Rattle.pst_repair.specs.Seen.{seen_in};
 ghost use Rattle.pst_repair.specs.Repair.{IsQueued, IsDone, splits_in};
 
 use pst_base::{NoMemory, Shape};
@@ -19,8 +19,8 @@ use pst_split::split::split;
 /// its capacity waits, and all that the call needs still holds.
 #[inline(always)]
 pub fn split_next<O: Order>(
-    order: &O,
     shape: &Shape,
+    order: &O,
     nodes: &mut Nodes,
     queue: &mut Queue,
 ) -> Result<bool, NoMemory>
@@ -28,11 +28,11 @@ pub fn split_next<O: Order>(
     requires queued { (xs : List ℕ) × IsQueued shape.now nodes.old.list.items queue.old xs }
     ensures sound { IsSound shape.now (O.places order.now) nodes.new.list.items }
     ensures queued { (xs : List ℕ) × IsQueued shape.now nodes.new.list.items queue.new xs }
-    ensures steps { IfOk result (λ more. AreSplits shape.now (O.places order.now) (splits_in more) (seen nodes.old.list.items) (seen nodes.new.list.items)) }
+    ensures steps { IfOk result (λ more. AreSplits shape.now (O.places order.now) (splits_in more) (seen_in nodes.old) (seen_in nodes.new)) }
     ensures shows { ShowsAll (O.places order.now) nodes.old.list.items nodes.new.list.items }
     ensures live { KeepsLive (O.places order.now) nodes.old.list.items nodes.new.list.items }
     ensures done { IfOk result (λ more. more ≡ false → IsDone shape.now nodes.old nodes.new queue.old queue.new) }
-    ensures refused { OnErr result (seen nodes.new.list.items ≡ seen nodes.old.list.items) }
+    ensures refused { OnErr result (seen_in nodes.new ≡ seen_in nodes.old) }
     ensures waiting { OnErr result ((i : ℕ) × IsOver shape.now nodes.new.list.items i) }
     ensures splits { IfOk result (λ more. potential_of shape.now nodes.new.list.items + splits_in more ≤ potential_of shape.now nodes.old.list.items) }
     ensures count { IfOk result (λ more. length nodes.new.list.items ≡ length nodes.old.list.items + splits_in more) }
@@ -41,7 +41,7 @@ pub fn split_next<O: Order>(
         return Ok(false);
     };
     let _first = queue.pop(nodes);
-    match split(order, shape, nodes, queue, ends.first) {
+    match split(shape, order, nodes, queue, ends.first) {
         Ok(_) => Ok(true),
         Err(refused) => {
             queue.push(nodes, ends.first);
@@ -55,8 +55,8 @@ pub fn split_next<O: Order>(
 /// capacity waits again, what was split stays so, and all that the call needs still holds.
 #[inline(always)]
 pub fn repair<O: Order>(
-    order: &O,
     shape: &Shape,
+    order: &O,
     nodes: &mut Nodes,
     queue: &mut Queue,
 ) -> Result<u64, NoMemory>
@@ -64,8 +64,8 @@ pub fn repair<O: Order>(
     requires queued { (xs : List ℕ) × IsQueued shape.now nodes.old.list.items queue.old xs }
     ensures sound { IsSound shape.now (O.places order.now) nodes.new.list.items }
     ensures queued { (xs : List ℕ) × IsQueued shape.now nodes.new.list.items queue.new xs }
-    ensures steps { (k : ℕ) × AreSplits shape.now (O.places order.now) k (seen nodes.old.list.items) (seen nodes.new.list.items) }
-    ensures counted { IfOk result (λ n. AreSplits shape.now (O.places order.now) n (seen nodes.old.list.items) (seen nodes.new.list.items)) }
+    ensures steps { (k : ℕ) × AreSplits shape.now (O.places order.now) k (seen_in nodes.old) (seen_in nodes.new) }
+    ensures counted { IfOk result (λ n. AreSplits shape.now (O.places order.now) n (seen_in nodes.old) (seen_in nodes.new)) }
     ensures shows { ShowsAll (O.places order.now) nodes.old.list.items nodes.new.list.items }
     ensures live { KeepsLive (O.places order.now) nodes.old.list.items nodes.new.list.items }
     ensures empty { OnOk result (Queues nodes.new.list.items queue.new []) }
@@ -75,7 +75,7 @@ pub fn repair<O: Order>(
     ensures count { IfOk result (λ n. length nodes.new.list.items ≡ length nodes.old.list.items + n) }
 {
     let mut splits = 0;
-    while split_next(order, shape, nodes, queue)? {
+    while split_next(shape, order, nodes, queue)? {
         splits += 1;
     }
     Ok(splits)

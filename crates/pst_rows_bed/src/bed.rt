@@ -5,7 +5,7 @@ ghost use Rattle.pst_order.specs.declared.order.Pos.{Pos};
 ghost use Rattle.pst_order.specs.Places.{rank, IsIn};
 ghost use Rattle.pst_rows.specs.Rows.{content_at, stamped_count, row_edge};
 ghost use Rattle.pst_rows.specs.Changes.{needed};
-ghost use Rattle.pst_rows_bed.specs.Beds.{IsReady, IsKnown};
+ghost use Rattle.pst_rows_bed.specs.Beds.{IsReady, IsHeldAt, IsKnown};
 
 use pst_base::{NoMemory, SlotNo, Targets, TypeNo, TypeShape};
 use pst_order::{Order, Pos};
@@ -115,7 +115,7 @@ impl Bed {
         requires ready { IsReady (O.places order.now) self.now }
         requires slot { slot.0 < 5 }
         requires index { index < length self.now.places.items }
-        ensures { (p : Pos) → slice_get self.now.places.items index ≡ Some p → result ≡ content_at (rank (O.places order.now)) self.now.row slot.0 (rank (O.places order.now) p.0) }
+        ensures { IsHeldAt (O.places order.now) self.now slot.0 index result }
     {
         self.row.read(order, slot, self.places[index])
     }

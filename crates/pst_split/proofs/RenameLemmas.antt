@@ -145,12 +145,12 @@ module _ (qs : List ℕ) (ns : List Node) (x z s m : ℕ) (all : AreRows qs ns) 
       let slot : IsSlot qs ns (moved x z y) f.0 m = named_slot qs ns (moved x z y) f.0 m x z s all e' in
       (f.0, e', slot.alive)
 
-  pub partner_of_pointer : (y t : ℕ) → renamed x z ((chart qs ns).holds (moved x z y) t m) ≡ From z s → IsPartnerOf qs ns x z s m (moved x z y) t (From z s)
+  pub partner_of_pointer : (y t : ℕ) → renamed x z ((chart qs ns).holds (moved x z y) t m) ≡ From z s → IsPartnerOf qs ns x z s m (record { node = record { 0 = moved x z y }; slot = record { 0 = t }; content = From z s })
   partner_of_pointer y t e =
       let e' : (finished (chart qs ns) x z (begin_of qs ns z)).holds (moved x z y) t m ≡ From z s = fin_late (chart qs ns) x z (begin_of qs ns z) (moved x z y) t m late ∙ e in
       record { partner = inl e'; content = sym e'; slot = named_slot qs ns (moved x z y) t m x z s all e }
 
-  pub partner_of_entry : (y f : ℕ) → (chart qs ns).holds z s m ≡ From y f → IsPartnerOf qs ns x z s m (moved x z y) f (Target z)
+  pub partner_of_entry : (y f : ℕ) → (chart qs ns).holds z s m ≡ From y f → IsPartnerOf qs ns x z s m (record { node = record { 0 = moved x z y }; slot = record { 0 = f }; content = Target z })
   partner_of_entry y f e =
       let e' : (finished (chart qs ns) x z (begin_of qs ns z)).holds z s m ≡ From (moved x z y) f = fin_late (chart qs ns) x z (begin_of qs ns z) z s m late ∙ ap (renamed x z) e in
       let b : (finished (chart qs ns) x z (begin_of qs ns z)).holds (moved x z y) f m ≡ Target z = r.mirrored.back z s m (moved x z y) f e' in

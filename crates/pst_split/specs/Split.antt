@@ -7,8 +7,11 @@ use Rattle.pst_rows.specs.Changes.{IsSplitStamp}
 use Rattle.pst_rows.specs.Rows.{stamped_before, stamped_after}
 use Rattle.pst_order.specs.Places.{rank}
 use Rattle.pst_nodes.specs.declared.node.Node.{Node}
+use Rattle.pst_nodes.specs.declared.node.Nodes.{Nodes}
+use Rattle.pst_queue.specs.declared.queue.Queue.{Queue}
 use Rattle.pst_base.specs.declared.shape.TypeShape.{TypeShape}
 use Rattle.pst_nodes.specs.Arena.{row_at, frame_at, chart, lives}
+use Rattle.pst_split.specs.Steps.{HasQueuedOnly}
 use Rattle.pst_split.specs.Load.{potential_of, IsOver, stamped_at, stamped_in_all, half_at}
 
 -- a neighbour of a node: some pointer or entry in it names this node, at some position
@@ -18,6 +21,10 @@ IsNeighbour qs ns x i = (s : ℕ) × (n : ℕ) × (names i ((chart qs ns).holds 
 -- one of the two halves, x and z, or a neighbour
 abbrev pub IsHalfOrNeighbour : List ℕ → List Node → ℕ → ℕ → ℕ → Type 0
 IsHalfOrNeighbour qs ns x z i = (i ≡ x) ⊎ ((i ≡ z) ⊎ IsNeighbour qs ns x i)
+
+-- the queue got at most the two halves, x and z, and neighbours of x
+abbrev pub HasQueuedRound : List ℕ → (old new : Nodes) → (queue queue' : Queue) → (x z : ℕ) → Type 0
+HasQueuedRound qs old new queue queue' x z = HasQueuedOnly (IsHalfOrNeighbour qs old.list.items x z) old.list.items new.list.items queue queue'
 
 -- Node x is split at a position that has at most half of its stamped values before it and at most half behind it.
 pub record IsSplit (types : List TypeShape) (qs : List ℕ) (old new : List Node) (x z n : ℕ) : Type 0 where

@@ -1,6 +1,5 @@
 -- The steps of a split.
 use Rattle.std.specs.Prelude.{◌≡◌, ◌≢◌, ℕ, ◌+◌, ◌<◌, ◌≤◌, ◌&&◌, ◌==◌, nat_le, nat_lt, List, ◌++◌, length, Bool, true, false, ◌⊎◌}
-use Rattle.pst_rows.specs.declared.content.Content.{Content}
 use Rattle.pst_rows.specs.declared.content.Content.TheVariants.{Null}
 use Rattle.pst_mirror.specs.Contents.{Target, From}
 use Rattle.pst_rows.specs.declared.row.Row.{Row}
@@ -14,8 +13,10 @@ use Rattle.pst_nodes.specs.Arena.{HasRoom, row_at, frames_of, link_at, lo_at, hi
 use Rattle.pst_queue.specs.Queue.{HoldsList, waits}
 use Rattle.pst_queue.specs.declared.queue.Queue.{Queue}
 use Rattle.pst_nodes.specs.declared.node.Node.{Node}
+use Rattle.pst_nodes.specs.declared.node.Nodes.{Nodes}
 use Rattle.pst_base.specs.declared.shape.TypeShape.{TypeShape}
 use Rattle.pst_nodes.specs.Changes.{AreSameNodes, IsCutInTwo}
+use Rattle.pst_split.specs.declared.renames.Partner.{Partner}
 use Rattle.pst_split.specs.Load.{potential_of, IsOver, stamped_at, stamped_in_all}
 
 -- Room: each node but x that is named at a position by a slot of `of` has room for so many values more.
@@ -72,6 +73,13 @@ pub record ArePartnersCutUpTo (old new : Chart) (x z n first end : ℕ) : Type 0
   pub kept : (i g m : ℕ) → old.edge i g m ≡ true → new.edge i g m ≡ true
   pub others : (i g m : ℕ) → ((s : ℕ) → first ≤ s → s < end → m ≡ n → IsOuter old x z s i g n → ⊥) → new.edge i g m ≡ old.edge i g m
 
+-- the partner of one slot of z, outside x and z, is cut at a position; so are those of the slots from a first one up to an end
+abbrev pub HasCutPartner : List ℕ → List Node → List Node → (x z slot n : ℕ) → Type 0
+HasCutPartner qs old new x z slot n = IsPartnerCut (chart qs old) (chart qs new) x z slot n
+
+abbrev pub HasCutPartners : List ℕ → List Node → List Node → (x z n first end : ℕ) → Type 0
+HasCutPartners qs old new x z n first end = ArePartnersCutUpTo (chart qs old) (chart qs new) x z n first end
+
 -- At most k values more are stamped in all, in the room that the rows had, and none less in any.
 pub record AreGrown (k : ℕ) (types : List TypeShape) (old new : List Node) : Type 0 where
   pub count : length new ≡ length old
@@ -113,6 +121,13 @@ IsNamedBy qs ns z s n i = names i ((chart qs ns).holds z s n) ≡ true
 abbrev pub IsNamedBySome : List ℕ → List Node → ℕ → ℕ → ℕ → Type 0
 IsNamedBySome qs ns z n i = (s : ℕ) × IsNamedBy qs ns z s n i
 
+-- The queue got at most the node that a slot of z names at a position; at most nodes that slots of z name there.
+abbrev pub HasQueuedPartner : List ℕ → (old new : Nodes) → (queue queue' : Queue) → (z slot n : ℕ) → Type 0
+HasQueuedPartner qs old new queue queue' z slot n = HasQueuedOnly (IsNamedBy qs old.list.items z slot n) old.list.items new.list.items queue queue'
+
+abbrev pub HasQueuedPartners : List ℕ → (old new : Nodes) → (queue queue' : Queue) → (z n : ℕ) → Type 0
+HasQueuedPartners qs old new queue queue' z n = HasQueuedOnly (IsNamedBySome qs old.list.items z n) old.list.items new.list.items queue queue'
+
 -- What is needed to rename the partners of z from position n on: so renamed the chart has the mirror rule.
 pub record IsRenamable (w : Chart) (x z n : ℕ) : Type 0 where
   pub other : x ≢ z
@@ -128,10 +143,10 @@ abbrev pub to_come : List ℕ → List Node → ℕ → ℕ → Chart
 to_come qs ns x z = finished (chart qs ns) x z (begin_of qs ns z)
 
 -- the partner of what z's slot s holds at a position, under the names to come, and what it is to hold
-pub record IsPartnerOf (qs : List ℕ) (ns : List Node) (x z s m i g : ℕ) (c : Content) : Type 0 where
-  pub partner : IsPartner (finished (chart qs ns) x z (begin_of qs ns z)) z s i g m
-  pub content : c ≡ (finished (chart qs ns) x z (begin_of qs ns z)).holds i g m
-  pub slot : IsSlot qs ns i g m
+pub record IsPartnerOf (qs : List ℕ) (ns : List Node) (x z s m : ℕ) (p : Partner) : Type 0 where
+  pub partner : IsPartner (to_come qs ns x z) z s p.node.0 p.slot.0 m
+  pub content : p.content ≡ (to_come qs ns x z).holds p.node.0 p.slot.0 m
+  pub slot : IsSlot qs ns p.node.0 p.slot.0 m
 
 -- z's slot holds neither a pointer nor an entry
 pub record HasNoPartner (w : Chart) (z s m : ℕ) : Type 0 where
@@ -178,3 +193,7 @@ IsSegmentRenamed qs old new x z slot n = (e : ℕ) → IsSegmentOf (chart qs old
 -- the partners of all segments of z's slot are renamed
 abbrev pub IsSlotRenamed : List ℕ → List Node → List Node → ℕ → ℕ → ℕ → Type 0
 IsSlotRenamed qs old new x z slot = IsHalfway (chart qs old) (to_come qs old x z) (chart qs new) z (slot_done slot)
+
+-- the partners of all segments of z's slots are renamed
+abbrev pub ArePartnersRenamed : List ℕ → List Node → List Node → (x z : ℕ) → Type 0
+ArePartnersRenamed qs old new x z = IsRenamed (chart qs old) (chart qs new) x z (begin_of qs old z)

@@ -4,10 +4,9 @@ ghost use Rattle.std.specs.Prelude.{◌≡◌, ◌≢◌, ℕ, ◌+◌, ◌-◌,
 ghost use Rattle.pst_rows.specs.declared.row.Row.{Row};
 ghost use Rattle.pst_order.specs.Places.{rank};
 ghost use Rattle.pst_mirror.specs.Mirror.{Chart, names};
-ghost use Rattle.pst_mirror.specs.Charts.{HasOneEdgeMore};
-ghost use Rattle.pst_nodes.specs.Arena.{HasRoom};
-ghost use Rattle.pst_nodes.specs.Arena.{row_at, AreRows, chart, IsSlot, IsTyped};
-ghost use Rattle.pst_split.specs.Steps.{AreParted, IsOuter, IsOuterOf, IsPartnerCut, ArePartnersCutUpTo, AreGrown, Queues, KeepsQueue, HasQueuedOnly, IsNamedBy, IsNamedBySome, HasRoomRound};
+ghost use Rattle.pst_nodes.specs.Arena.{HasRoom, row_at, AreRows, chart, IsSlot, IsTyped};
+ghost use Rattle.pst_nodes.specs.Changes.{IsSegmentBegun};
+ghost use Rattle.pst_split.specs.Steps.{AreParted, IsOuter, IsOuterOf, HasCutPartner, HasCutPartners, AreGrown, Queues, KeepsQueue, HasQueuedOnly, HasQueuedPartner, HasQueuedPartners, HasRoomRound};
 
 use crate::load::queue_if_over;
 use pst_base::{NodeId, Shape, SlotNo, TypeNo};
@@ -53,8 +52,8 @@ fn outer_partner<O: Order>(
 
 // Begins a segment of a slot at a place, where none begins, and queues a node that is over its capacity then.
 fn cut_slot<O: Order>(
-    order: &O,
     shape: &Shape,
+    order: &O,
     nodes: &mut Nodes,
     queue: &mut Queue,
     place: Place,
@@ -65,7 +64,7 @@ fn cut_slot<O: Order>(
     requires typed { IsTyped shape.now nodes.old.list.items place.node.0 }
     requires room { (d : Row) → HasRoom (row_at nodes.old.list.items place.node.0 d) 1 }
     requires held { (xs : List ℕ) × Queues nodes.old.list.items queue.old xs }
-    ensures cut { HasOneEdgeMore (chart (O.places order.now) nodes.old.list.items) (chart (O.places order.now) nodes.new.list.items) place.node.0 place.slot.0 (rank (O.places order.now) at.0) }
+    ensures cut { IsSegmentBegun (O.places order.now) nodes.old.list.items nodes.new.list.items place.node.0 place.slot.0 (rank (O.places order.now) at.0) }
     ensures rows { AreRows (O.places order.now) nodes.new.list.items }
     ensures grown { AreGrown 1 shape.now nodes.old.list.items nodes.new.list.items }
     ensures queue { KeepsQueue (λ _. ⊥) shape.now nodes.old.list.items nodes.new.list.items queue.old queue.new }
@@ -80,8 +79,8 @@ fn cut_slot<O: Order>(
 
 // Cuts the partner of one slot of z at a place.
 fn cut_partner<O: Order>(
-    order: &O,
     shape: &Shape,
+    order: &O,
     nodes: &mut Nodes,
     queue: &mut Queue,
     x: NodeId,
@@ -95,21 +94,21 @@ fn cut_partner<O: Order>(
     requires typed { (i : ℕ) → i < length nodes.old.list.items → IsTyped shape.now nodes.old.list.items i }
     requires room { HasRoomRound (O.places order.now) nodes.old.list.items z.0 x.0 (rank (O.places order.now) at.0) 1 }
     requires held { (xs : List ℕ) × Queues nodes.old.list.items queue.old xs }
-    ensures cut { IsPartnerCut (chart (O.places order.now) nodes.old.list.items) (chart (O.places order.now) nodes.new.list.items) x.0 z.0 slot.0 (rank (O.places order.now) at.0) }
+    ensures cut { HasCutPartner (O.places order.now) nodes.old.list.items nodes.new.list.items x.0 z.0 slot.0 (rank (O.places order.now) at.0) }
     ensures rows { AreRows (O.places order.now) nodes.new.list.items }
     ensures grown { AreGrown 1 shape.now nodes.old.list.items nodes.new.list.items }
     ensures queue { KeepsQueue (λ _. ⊥) shape.now nodes.old.list.items nodes.new.list.items queue.old queue.new }
-    ensures named { HasQueuedOnly (IsNamedBy (O.places order.now) nodes.old.list.items z.0 slot.0 (rank (O.places order.now) at.0)) nodes.old.list.items nodes.new.list.items queue.old queue.new }
+    ensures named { HasQueuedPartner (O.places order.now) nodes.old nodes.new queue.old queue.new z.0 slot.0 (rank (O.places order.now) at.0) }
 {
     if let Some(place) = outer_partner(order, nodes, x, z, slot, at) {
-        cut_slot(order, shape, nodes, queue, place, at);
+        cut_slot(shape, order, nodes, queue, place, at);
     }
 }
 
 /// Cuts the partners of z's slots, from a first one up to an end, at a place.
 pub fn cut_partners<O: Order>(
-    order: &O,
     shape: &Shape,
+    order: &O,
     nodes: &mut Nodes,
     queue: &mut Queue,
     x: NodeId,
@@ -125,14 +124,14 @@ pub fn cut_partners<O: Order>(
     requires typed { (i : ℕ) → i < length nodes.old.list.items → IsTyped shape.now nodes.old.list.items i }
     requires room { HasRoomRound (O.places order.now) nodes.old.list.items z.0 x.0 (rank (O.places order.now) at.0) (end - first) }
     requires held { (xs : List ℕ) × Queues nodes.old.list.items queue.old xs }
-    ensures cut { ArePartnersCutUpTo (chart (O.places order.now) nodes.old.list.items) (chart (O.places order.now) nodes.new.list.items) x.0 z.0 (rank (O.places order.now) at.0) first end }
+    ensures cut { HasCutPartners (O.places order.now) nodes.old.list.items nodes.new.list.items x.0 z.0 (rank (O.places order.now) at.0) first end }
     ensures rows { AreRows (O.places order.now) nodes.new.list.items }
     ensures grown { AreGrown (end - first) shape.now nodes.old.list.items nodes.new.list.items }
     ensures queue { KeepsQueue (λ _. ⊥) shape.now nodes.old.list.items nodes.new.list.items queue.old queue.new }
-    ensures named { HasQueuedOnly (IsNamedBySome (O.places order.now) nodes.old.list.items z.0 (rank (O.places order.now) at.0)) nodes.old.list.items nodes.new.list.items queue.old queue.new }
+    ensures named { HasQueuedPartners (O.places order.now) nodes.old nodes.new queue.old queue.new z.0 (rank (O.places order.now) at.0) }
 {
     for index in first..end {
         let slot = SlotNo(index as u16);
-        cut_partner(order, shape, nodes, queue, x, z, slot, at);
+        cut_partner(shape, order, nodes, queue, x, z, slot, at);
     }
 }

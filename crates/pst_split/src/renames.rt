@@ -7,7 +7,7 @@ ghost use Rattle.pst_mirror.specs.Mirror.{moved};
 ghost use Rattle.pst_rows.specs.Rows.{width_of};
 ghost use Rattle.pst_nodes.specs.Arena.{row_at, AreRows, chart, IsSlot};
 ghost use Rattle.pst_split.specs.Load.{is_link};
-ghost use Rattle.pst_split.specs.Steps.{IsRenamable, IsRenamed, IsPartnerOf, HasNoPartner, AreReplaced, begin_of, to_come, HasSameEdges, KeepsEdgesFrom, IsSegmentRenamed, IsSlotRenamed};
+ghost use Rattle.pst_split.specs.Steps.{IsRenamable, ArePartnersRenamed, IsPartnerOf, HasNoPartner, AreReplaced, begin_of, to_come, HasSameEdges, KeepsEdgesFrom, IsSegmentRenamed, IsSlotRenamed};
 
 use pst_base::{NodeId, SlotNo};
 use pst_nodes::node::Nodes;
@@ -41,7 +41,7 @@ fn partner_of<O: Order>(
     requires rows { AreRows (O.places order.now) nodes.now.list.items }
     requires slot { IsSlot (O.places order.now) nodes.now.list.items z.0 slot.0 (rank (O.places order.now) at.0) }
     requires renamable { IsRenamable (chart (O.places order.now) nodes.now.list.items) x.0 z.0 (begin_of (O.places order.now) nodes.now.list.items z.0) }
-    ensures some { IfSome result (λ p. IsPartnerOf (O.places order.now) nodes.now.list.items x.0 z.0 slot.0 (rank (O.places order.now) at.0) p.node.0 p.slot.0 p.content) }
+    ensures some { IfSome result (λ p. IsPartnerOf (O.places order.now) nodes.now.list.items x.0 z.0 slot.0 (rank (O.places order.now) at.0) p) }
     ensures none { IfNone result (HasNoPartner (to_come (O.places order.now) nodes.now.list.items x.0 z.0) z.0 slot.0 (rank (O.places order.now) at.0)) }
 {
     match nodes.read(order, z, slot, at) {
@@ -119,7 +119,7 @@ pub fn rename_partners<O: Order>(
     requires slots { (d : Row) → end ≤ width_of (row_at nodes.old.list.items z.0 d) }
     requires renamable { IsRenamable (chart (O.places order.now) nodes.old.list.items) x.0 z.0 (begin_of (O.places order.now) nodes.old.list.items z.0) }
     requires linked { (s m : ℕ) → is_link ((chart (O.places order.now) nodes.old.list.items).holds z.0 s m) ≡ true → (first ≤ s) × (s < end) }
-    ensures renamed { IsRenamed (chart (O.places order.now) nodes.old.list.items) (chart (O.places order.now) nodes.new.list.items) x.0 z.0 (begin_of (O.places order.now) nodes.old.list.items z.0) }
+    ensures renamed { ArePartnersRenamed (O.places order.now) nodes.old.list.items nodes.new.list.items x.0 z.0 }
     ensures rows { AreRows (O.places order.now) nodes.new.list.items }
     ensures same { AreReplaced nodes.old.list.items nodes.new.list.items }
 {

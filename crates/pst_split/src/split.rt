@@ -3,8 +3,8 @@
 ghost use Rattle.std.specs.Prelude.{◌≡◌, ℕ, ◌+◌, ◌<◌, ◌≤◌, ◌⊎◌, List, length, IfOk, OnOk, OnErr};
 ghost use Rattle.pst_nodes.specs.Changes.{AreSameNodes};
 ghost use Rattle.pst_split.specs.Load.{IsSound, IsOver};
-ghost use Rattle.pst_split.specs.Steps.{Queues, KeepsQueue, HasQueuedOnly};
-ghost use Rattle.pst_split.specs.Split.{IsSplit, IsHalfOrNeighbour};
+ghost use Rattle.pst_split.specs.Steps.{Queues, KeepsQueue};
+ghost use Rattle.pst_split.specs.Split.{IsSplit, HasQueuedRound};
 ghost use Rattle.pst_split.specs.Shown.{ShowsAll, KeepsLive};
 
 use crate::cuts::cut_partners;
@@ -20,8 +20,8 @@ use pst_queue::queue::Queue;
 /// its capacity then. Gives the right half. A refusal changes nothing but room.
 #[inline(never)]
 pub fn split<O: Order>(
-    order: &O,
     shape: &Shape,
+    order: &O,
     nodes: &mut Nodes,
     queue: &mut Queue,
     id: NodeId,
@@ -35,7 +35,7 @@ pub fn split<O: Order>(
     ensures shows { ShowsAll (O.places order.now) nodes.old.list.items nodes.new.list.items }
     ensures live { KeepsLive (O.places order.now) nodes.old.list.items nodes.new.list.items }
     ensures queue { IfOk result (λ z. KeepsQueue (λ i. (i ≡ id.0) ⊎ (i ≡ z.0)) shape.now nodes.old.list.items nodes.new.list.items queue.old queue.new) }
-    ensures named { IfOk result (λ z. HasQueuedOnly (IsHalfOrNeighbour (O.places order.now) nodes.old.list.items id.0 z.0) nodes.old.list.items nodes.new.list.items queue.old queue.new) }
+    ensures named { IfOk result (λ z. HasQueuedRound (O.places order.now) nodes.old nodes.new queue.old queue.new id.0 z.0) }
     ensures err_nodes { OnErr result (AreSameNodes nodes.old.list.items nodes.new.list.items) }
     ensures err_queue { OnErr result (queue.new ≡ queue.old) }
 {
@@ -44,7 +44,7 @@ pub fn split<O: Order>(
     let end = first + half(shape, ty);
     let at = split_place(order, nodes, id);
     let right = part(order, nodes, id, at, first, end)?;
-    cut_partners(order, shape, nodes, queue, id, right, at, first, end);
+    cut_partners(shape, order, nodes, queue, id, right, at, first, end);
     rename_partners(order, nodes, id, right, first, end);
     queue_if_over(shape, nodes, queue, id);
     queue_if_over(shape, nodes, queue, right);

@@ -102,7 +102,7 @@ module _ (s g : Stored) (at : Place) (r : NodeId) (x : ℕ) (w : IsFound s g at 
 -- ---- null is written
 
 module _ (s g : Stored) (nodes : List Node) (noted : Noted) (at : Place) (r : NodeId) (x f : ℕ) (w : IsFound s g at r x) (o : (state_of g).writable at)
-    (p : IsPointer (kind_at g at r f)) (z : IsNullWritten s.shape s.places s.nodes nodes x f (begin_of s at)) (d : IsWritten s.shape s.places nodes s.noted noted) (room : HasRoom (state_of g)) where
+    (p : IsPointer (kind_at g at r f)) (z : IsNullWritten s.shape s.places s.nodes nodes x f at) (d : IsWritten s.shape s.places nodes s.noted noted) (room : HasRoom (state_of g)) where
   abbrev without : Stored
   without = with_nodes s nodes noted (one_pointer s.counts)
 
@@ -154,7 +154,7 @@ module _ (s g : Stored) (at : Place) (r q : NodeId) (x y f : ℕ) (w : IsFound s
       let at_i : element_count (type_at s.shape ((arena s).ty y)) + (i - element_count (type_at s.shape ((arena s).ty y))) ≡ i = omega (arith, o.inverse.from) in
       false≢true (sym o.available ∙ ap (λ (g : ℕ). is_other_entry x f ((arena s).chart.holds y g (begin_of s at))) (sym at_i) ∙ each)
 
-  module _ (nodes : List Node) (noted : Noted) (i : ℕ) (o : (state_of g).writable at) (z : IsPointerWritten s.shape s.places s.nodes nodes x f (begin_of s at) y i) (d : IsWritten s.shape s.places nodes s.noted noted) (room : HasRoom (state_of g)) where
+  module _ (nodes : List Node) (noted : Noted) (i : ℕ) (o : (state_of g).writable at) (z : IsPointerWritten s.shape s.places s.nodes nodes x f at y i) (d : IsWritten s.shape s.places nodes s.noted noted) (room : HasRoom (state_of g)) where
     abbrev linked : Stored
     linked = with_nodes s nodes noted (one_pointer s.counts)
 

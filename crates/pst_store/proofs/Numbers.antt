@@ -17,7 +17,7 @@ use Rattle.pst_store.proofs.Stores.{at_s, counted_number, read_int}
 module _ (s g : Stored) (nodes : List Node) (noted : Noted) (at : Place) (r : NodeId) (x f : ℕ) (v : ℤ) (e : s ≡ g) (k : IsKept s)
     (o : (state_of g).writable at) (l : (state_of g).live at r) (kind : kind_at g at r f ≡ Some Int)
     (i : IsIn (arena s) x (begin_of s at)) (same : (arena s).name x ≡ (arena s).name r.0)
-    (w : IsNumberWritten s.shape s.places s.nodes nodes x f (begin_of s at) v) (d : IsWritten s.shape s.places nodes s.noted noted) (room : HasRoom (state_of g)) where
+    (w : IsNumberWritten s.shape s.places s.nodes nodes x f at v) (d : IsWritten s.shape s.places nodes s.noted noted) (room : HasRoom (state_of g)) where
   abbrev pub t : Stored
   t = with_nodes s nodes noted (one_number s.counts)
 

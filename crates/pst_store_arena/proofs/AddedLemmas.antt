@@ -15,7 +15,7 @@ use Rattle.pst_queue.specs.declared.queue.Queue.{Queue}
 use Rattle.pst_queue.specs.Queue.{AreThere}
 use Rattle.pst_queue.proofs.QueueLemmas.{chain_kept}
 use Rattle.pst_nodes.specs.declared.node.Node.{Node}
-use Rattle.pst_nodes.specs.Arena.{link_at}
+use Rattle.pst_nodes.specs.Arena.{new_node, link_at}
 use Rattle.pst_nodes.proofs.NodeLemmas.{map-push}
 use Rattle.pst_store_meaning.specs.declared.place.Place.{Place}
 use Rattle.pst_store_meaning.specs.Store.{Node as Seen}
@@ -25,10 +25,6 @@ use Rattle.pst_repair.proofs.SeenLemmas.{seen_count}
 use Rattle.pst_store_arena.specs.Calls.{IsNodeAdded}
 use Rattle.pst_store_arena.specs.Kept.{AreLinked, IsRowAdded, waiting_of}
 use Rattle.pst_store_arena.proofs.WaitingLemmas.{waiting_push}
-
--- a new node
-abbrev pub new_node : Name → TypeNo → Row → Node
-new_node q ty row = record { header = record { name = q; ty = ty; later = None; link = Out }; row = row }
 
 pub added_ok : (types : List TypeShape) (old new : List Node) (r : Result NodeId AllocError) (q : Name) (ty : TypeNo) (at : Place) (row : Row) → IfOk r (λ id. id.0 ≡ length old) → OnOk r (new ≡ old ++ new_node q ty row ∷ []) → IsNewRow (type_at types ty) at.begin at.end row →
     IfOk r (λ id. IsRowAdded types old new id.0 q ty at)

@@ -25,6 +25,7 @@ use Rattle.pst_split.proofs.CutLemmas.{all_typed, queues_links, slot_grown}
 use Rattle.pst_split.proofs.RoomLemmas.{same_chart, same_holds, same_slot}
 use Rattle.pst_repair.specs.Repair.{IsQueued}
 use Rattle.pst_repair.proofs.RepairLemmas.{sound_same}
+use Rattle.pst_store_meaning.specs.declared.place.Place.{Place}
 use Rattle.pst_store_meaning.specs.Changes.{IsCleared, IsPointerPut}
 use Rattle.pst_store_meaning.specs.Steps.{HasGrownBy}
 use Rattle.pst_store_meaning.specs.Store.{Node as Seen, arena_of, AreWide}
@@ -103,25 +104,25 @@ pub null_at : (w : Chart) (x f b : ℕ) (led : Option NodeId) → is_some led �
 null_at w x f b None e h = h
 null_at w x f b (Some y) e h = absurd (false≢true (sym e))
 
-module _ (types : List TypeShape) (qs : List ℕ) (r mid : List Node) (x f b : ℕ) (led : Option NodeId) (cl : IsFieldCleared types qs r mid x f b led) where
+module _ (types : List TypeShape) (qs : List ℕ) (r mid : List Node) (x f b : ℕ) (led : Option NodeId) (cl : IsFieldCleared qs r mid x f b led) where
   pub cleared_typed : AreTyped types r → AreTyped types mid
-  cleared_typed typed = all_typed cl.stamped types r mid cl.grown typed
+  cleared_typed typed = all_typed cl.stamped types r mid (cl.grown types) typed
 
   pub cleared_seen : (old new : List Node) → seen r ≡ seen old → seen new ≡ seen mid → IsCleared (arena_of (rank qs) (seen old)) (arena_of (rank qs) (seen new)) x f b
   cleared_seen old new first last =
       subst (λ (ns : List Seen). IsCleared (arena_of (rank qs) ns) (arena_of (rank qs) (seen new)) x f b) first
       (subst (λ (ns : List Seen). IsCleared (arena_of (rank qs) (seen r)) (arena_of (rank qs) ns) x f b) (sym last) cl.cleared)
 
-  pub null_written : (old new : List Node) → seen r ≡ seen old → seen new ≡ seen mid → IsNullWritten types qs (seen old) (seen new) x f b
-  null_written old new first last = record {
-    cleared = cleared_seen old new first last;
+  pub null_written : (at : Place) (old new : List Node) → rank qs at.begin.0 ≡ b → seen r ≡ seen old → seen new ≡ seen mid → IsNullWritten types qs (seen old) (seen new) x f at
+  null_written at old new begun first last = record {
+    cleared = subst (λ (n : ℕ). IsCleared (arena_of (rank qs) (seen old)) (arena_of (rank qs) (seen new)) x f n) (sym begun) (cleared_seen old new first last);
     grown = subst (λ (ns : List Seen). HasGrownBy types ns (seen new) 6) first
         (subst (λ (ns : List Seen). HasGrownBy types (seen r) ns 6) (sym last)
-        (grown_seen 6 types r mid (grown_more cl.stamped 6 types r mid (omega (arith, cl.few)) cl.grown)));
+        (grown_seen 6 types r mid (grown_more cl.stamped 6 types r mid (omega (arith, cl.few)) (cl.grown types))));
   }
 
   pub null_queued : (new : List Node) (q0 q1 : Queue) → (xs : List ℕ) × IsQueued types r q0 xs → rows_of new ≡ rows_of mid → frames_of new ≡ frames_of mid → KeepsQueue (IsOneOf x led) types mid new q0 q1 → (xs : List ℕ) × IsQueued types new q1 xs
-  null_queued new q0 q1 h rows frames keeps = queue_written (IsOneOf x led) cl.stamped types r mid new q0 q1 h cl.grown cl.links (λ i. one_or x led i (cl.others i)) rows frames keeps
+  null_queued new q0 q1 h rows frames keeps = queue_written (IsOneOf x led) cl.stamped types r mid new q0 q1 h (cl.grown types) cl.links (λ i. one_or x led i (cl.others i)) rows frames keeps
 
   -- the room that is left for the new pointer
   pub room_left : (y : NodeId) → HaveRoom r x led (Some y) → (d : Row) → HasRoom (row_at mid x d) 2
@@ -132,15 +133,15 @@ module _ (types : List TypeShape) (qs : List ℕ) (r mid : List Node) (x f b : �
 
   -- ---- a pointer
 
-  module _ (y s : ℕ) (new : List Node) (typed : AreTyped types r) (l : x < length r) (m : y < length r) (link : IsLinked (chart qs mid) (chart qs new) x f y s b) (t : AreTouched (chart qs mid) mid new x f y s b) where
+  module _ (y s : ℕ) (new : List Node) (typed : AreTyped types r) (l : x < length r) (m : y < length r) (link : IsLinked (chart qs mid) (chart qs new) x f y s b) (t : AreTouched qs mid new x f y s b) where
     in_mid : (i : ℕ) → i < length r → i < length mid
-    in_mid i p = omega (arith, cl.grown.count)
+    in_mid i p = let same = cl.grown types in omega (arith, same.count)
 
     pub put_grown : AreGrown 6 types r new
     put_grown =
         let more : ℕ = added (chart qs mid) x f b + added (chart qs mid) y s b in
         grown_more (cl.stamped + more) 6 types r new (omega (arith, cl.few, added_few (chart qs mid) y s b))
-        (grown_on cl.stamped more types r mid new cl.grown (pair_grown types (chart qs mid) mid new x f y s b (in_mid x l) (in_mid y m) t))
+        (grown_on cl.stamped more types r mid new (cl.grown types) (pair_grown types qs mid new x f y s b (in_mid x l) (in_mid y m) t))
 
     pub put_links : (i : ℕ) → link_at new i ≡ link_at r i
     put_links i = t.second.links i ∙ t.first.links i ∙ cl.links i
@@ -151,7 +152,7 @@ module _ (types : List TypeShape) (qs : List ℕ) (r mid : List Node) (x f b : �
     pub put_sound : IsSound types qs r → AreRows qs new → IsMirrored (chart qs new) → field_kind (type_of types r x) f ≡ Some (Pointer (type_no r y)) → IsSound types qs new
     put_sound sound rows mir kind =
         let more : ℕ = added (chart qs mid) x f b + added (chart qs mid) y s b in
-        linked_sound types qs mid (cleared_sound types qs r sound mid x f b led cl) more new x f y s b (pair_grown types (chart qs mid) mid new x f y s b (in_mid x l) (in_mid y m) t) link rows mir (kind_kept types r mid x f y cl.grown.frames kind)
+        linked_sound types qs mid (cleared_sound types qs r sound mid x f b led cl) more new x f y s b (pair_grown types qs mid new x f y s b (in_mid x l) (in_mid y m) t) link rows mir (kind_kept types r mid x f y (cl.grown types).frames kind)
 
     put_others : (i : ℕ) → ((i ≡ y) ⊎ IsOneOf x led i) ⊎ (stamped_at new i ≡ stamped_at r i)
     put_others i = ⊎_elim
@@ -159,7 +160,7 @@ module _ (types : List TypeShape) (qs : List ℕ) (r mid : List Node) (x f b : �
         (λ (nz : i ≡ y → ⊥). ⊎_elim
         (λ (o : IsOneOf x led i). inl (inr o))
         (λ (e : stamped_at new i ≡ stamped_at r i). inr e)
-        (one_or x led i (λ ne away. pair_others (chart qs mid) mid new x f y s b t i ne nz ∙ cl.others i ne away)))
+        (one_or x led i (λ ne away. pair_others qs mid new x f y s b t i ne nz ∙ cl.others i ne away)))
         (cases_eq i y)
 
     pub put_queued : (n1 last : List Node) (q0 q1 q2 : Queue) → (xs : List ℕ) × IsQueued types r q0 xs → rows_of n1 ≡ rows_of new → frames_of n1 ≡ frames_of new → KeepsQueue (λ i. i ≡ y) types new n1 q0 q1 →
@@ -168,33 +169,34 @@ module _ (types : List TypeShape) (qs : List ℕ) (r mid : List Node) (x f b : �
         queue_written (λ i. (i ≡ y) ⊎ IsOneOf x led i) 6 types r new last q0 q2 h put_grown put_links put_others (rows' ∙ rows) (frames' ∙ frames)
         (queue_on (λ i. i ≡ y) (IsOneOf x led) types new n1 last q0 q1 q2 (over_rows types n1 last rows' frames') keeps keeps')
 
-    pub pointer_written : (old last : List Node) → seen r ≡ seen old → seen last ≡ seen new → IsPointerWritten types qs (seen old) (seen last) x f b y s
-    pointer_written old last first end =
+    pub pointer_written : (at : Place) (old last : List Node) → rank qs at.begin.0 ≡ b → seen r ≡ seen old → seen last ≡ seen new → IsPointerWritten types qs (seen old) (seen last) x f at y s
+    pointer_written at old last begun first end =
         let typed' : AreTyped types mid = cleared_typed typed in
         let p = links_are_seen types qs mid new x f y s b (in_mid x l) (in_mid y m) link t typed' in
         record {
           mid = seen mid;
           mid_rows = seen_all qs mid cl.rows;
           mid_wide = seen_wide types mid typed';
-          cleared = cleared_seen old mid first refl;
-          put = subst (λ (ns : List Seen). IsPointerPut (arena_of (rank qs) (seen mid)) (arena_of (rank qs) ns) x f y s b) (sym end) p.0;
+          cleared = subst (λ (n : ℕ). IsCleared (arena_of (rank qs) (seen old)) (arena_of (rank qs) (seen mid)) x f n) (sym begun) (cleared_seen old mid first refl);
+          put = subst (λ (n : ℕ). IsPointerPut (arena_of (rank qs) (seen mid)) (arena_of (rank qs) (seen last)) x f y s n) (sym begun)
+              (subst (λ (ns : List Seen). IsPointerPut (arena_of (rank qs) (seen mid)) (arena_of (rank qs) ns) x f y s b) (sym end) p.0);
           grown = subst (λ (ns : List Seen). HasGrownBy types ns (seen last) 6) first
               (subst (λ (ns : List Seen). HasGrownBy types (seen r) ns 6) (sym end) (grown_seen 6 types r new put_grown));
         }
 
 -- a field that is null stays so
-pub null_kept : (types : List TypeShape) (qs : List ℕ) (ns : List Node) (x f b : ℕ) → AreRows qs ns → IsMirrored (chart qs ns) → (chart qs ns).holds x f b ≡ Null → IsNullWritten types qs (seen ns) (seen ns) x f b
-null_kept types qs ns x f b all mir h = null_written types qs ns ns x f b None (cleared_none types qs x f b ns all mir h) ns ns refl refl
+pub null_kept : (types : List TypeShape) (qs : List ℕ) (ns : List Node) (x f : ℕ) (at : Place) → AreRows qs ns → IsMirrored (chart qs ns) → (chart qs ns).holds x f (rank qs at.begin.0) ≡ Null → IsNullWritten types qs (seen ns) (seen ns) x f at
+null_kept types qs ns x f at all mir h = null_written types qs ns ns x f (rank qs at.begin.0) None (cleared_none qs x f (rank qs at.begin.0) ns all mir h) at ns ns refl refl refl
 
 -- ---- what a pair needs, once the field is cleared
 
 module _ (types : List TypeShape) (qs : List ℕ) (old r mid : List Node) (x f y s b : ℕ) (led : Option NodeId) (sound : IsSound types qs old) (same : AreSameNodes old r) (inside : IsIn (lives qs old) x b) (target : IsIn (lives qs old) y b)
-    (field : field_kind (type_of types old x) f ≡ Some (Pointer (type_no old y))) (open_slot : IsOpenSlot types qs old y b x f s) (cl : IsFieldCleared types qs r mid x f b led) where
+    (field : field_kind (type_of types old x) f ≡ Some (Pointer (type_no old y))) (open_slot : IsOpenSlot types qs old y b x f s) (cl : IsFieldCleared qs r mid x f b led) where
   pub put_field : IsSlot qs mid x f b
-  put_field = slot_grown cl.stamped types r mid cl.grown qs x f b (same_slot old r same qs x f b (field_slot types qs old sound x b inside f (type_no old y) field))
+  put_field = slot_grown cl.stamped types r mid (cl.grown types) qs x f b (same_slot old r same qs x f b (field_slot types qs old sound x b inside f (type_no old y) field))
 
   pub put_slot : IsSlot qs mid y s b
-  put_slot = slot_grown cl.stamped types r mid cl.grown qs y s b (same_slot old r same qs y s b (inverse_slot types qs old sound y b target s open_slot.inverse))
+  put_slot = slot_grown cl.stamped types r mid (cl.grown types) qs y s b (same_slot old r same qs y s b (inverse_slot types qs old sound y b target s open_slot.inverse))
 
   pub put_free : (chart qs mid).holds y s b ≡ Free
   put_free = cl.free y s (⊎_elim

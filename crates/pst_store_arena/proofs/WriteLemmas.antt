@@ -130,8 +130,8 @@ touched_room old new x t i d j = by (eqb i x) refl
         subst (λ (w : Row). HasRoom w j) (sym same) (omega (arith, h))
 
 -- where a pair was set
-pub pair_room_left : (w : Chart) (old new : List Node) (x f s b : ℕ) (y : NodeId) → AreTouched w old new x f y.0 s b → (i : ℕ) (d : Row) (j : ℕ) → HasRoom (row_at old i d) (j + pair_stamps x (Some y) i) → HasRoom (row_at new i d) j
-pair_room_left w old new x f s b y t i d j h =
+pub pair_room_left : (qs : List ℕ) (old new : List Node) (x f s b : ℕ) (y : NodeId) → AreTouched qs old new x f y.0 s b → (i : ℕ) (d : Row) (j : ℕ) → HasRoom (row_at old i d) (j + pair_stamps x (Some y) i) → HasRoom (row_at new i d) j
+pair_room_left qs old new x f s b y t i d j h =
     touched_room t.mid new y.0 t.second i d j (touched_room old t.mid x t.first i d (j + slot_stamps y.0 i) (omega (arith, h)))
 
 -- ---- growth
@@ -157,11 +157,11 @@ touched_grown types old new x t l h exact = grown_touched t types old new x l (t
 pub number_grown : (types : List TypeShape) (qs : List ℕ) (old new : List Node) (x f b : ℕ) → x < length old → IsTouched 2 old new x → ((d : Row) → stamped_count (row_at new x d) ≡ stamped_count (row_at old x d) + added (chart qs old) x f b) → AreGrown (added (chart qs old) x f b) types old new
 number_grown types qs old new x f b l h exact = touched_grown types old new x (added (chart qs old) x f b) l h exact
 
-pub pair_grown : (types : List TypeShape) (w : Chart) (old new : List Node) (x f y s b : ℕ) → x < length old → y < length old → AreTouched w old new x f y s b → AreGrown (added w x f b + added w y s b) types old new
-pair_grown types w old new x f y s b l m t =
-    grown_on (added w x f b) (added w y s b) types old t.mid new
-    (touched_grown types old t.mid x (added w x f b) l t.first t.first_stamped)
-    (touched_grown types t.mid new y (added w y s b) (omega (arith, t.first.count)) t.second t.second_stamped)
+pub pair_grown : (types : List TypeShape) (qs : List ℕ) (old new : List Node) (x f y s b : ℕ) → x < length old → y < length old → AreTouched qs old new x f y s b → AreGrown (added (chart qs old) x f b + added (chart qs old) y s b) types old new
+pair_grown types qs old new x f y s b l m t =
+    grown_on (added (chart qs old) x f b) (added (chart qs old) y s b) types old t.mid new
+    (touched_grown types old t.mid x (added (chart qs old) x f b) l t.first t.first_stamped)
+    (touched_grown types t.mid new y (added (chart qs old) y s b) (omega (arith, t.first.count)) t.second t.second_stamped)
 
 missing_few : (b : Bool) → missing b ≤ 1
 missing_few true = omega arith
@@ -177,8 +177,8 @@ stamped_other old new i count same = ⊎_elim
     (λ (l : length old ≤ i). stamped_past new i (omega (arith, count)) ∙ sym (stamped_past old i l))
     (cases_lt i (length old))
 
-pub pair_others : (w : Chart) (old new : List Node) (x f y s b : ℕ) → AreTouched w old new x f y s b → (i : ℕ) → i ≢ x → i ≢ y → stamped_at new i ≡ stamped_at old i
-pair_others w old new x f y s b t i ne nz = stamped_other old new i (t.second.count ∙ t.first.count) (λ d. t.second.others i d nz ∙ t.first.others i d ne)
+pub pair_others : (qs : List ℕ) (old new : List Node) (x f y s b : ℕ) → AreTouched qs old new x f y s b → (i : ℕ) → i ≢ x → i ≢ y → stamped_at new i ≡ stamped_at old i
+pair_others qs old new x f y s b t i ne nz = stamped_other old new i (t.second.count ∙ t.first.count) (λ d. t.second.others i d nz ∙ t.first.others i d ne)
 
 -- ---- as a store sees it
 
@@ -241,8 +241,8 @@ taken_free old new x f y s b mir h u i g o =
     r)
     (put_cases old x f Null y s Free b i g b)
 
-module _ (types : List TypeShape) (qs : List ℕ) (x f b : ℕ) where
-  pub cleared_none : (ns : List Node) → AreRows qs ns → IsMirrored (chart qs ns) → (chart qs ns).holds x f b ≡ Null → IsFieldCleared types qs ns ns x f b None
+module _ (qs : List ℕ) (x f b : ℕ) where
+  pub cleared_none : (ns : List Node) → AreRows qs ns → IsMirrored (chart qs ns) → (chart qs ns).holds x f b ≡ Null → IsFieldCleared qs ns ns x f b None
   cleared_none ns all mir h = record {
     rows = all;
     mirrored = mir;
@@ -256,11 +256,11 @@ module _ (types : List TypeShape) (qs : List ℕ) (x f b : ℕ) where
     room = λ i d j h. omega (arith, h);
     stamped = 0;
     few = omega (arith, added_few (chart qs ns) x f b);
-    grown = grown_same types ns ns refl refl refl;
+    grown = λ types. grown_same types ns ns refl refl refl;
     others = λ i ne nz. refl;
   }
 
-  pub cleared_some : (old new : List Node) (led : NodeId) → x < length old → AreRows qs old → IsMirrored (chart qs old) → AreRows qs new → IsMirrored (chart qs new) → (chart qs old).holds x f b ≡ Target led.0 → IsFieldUnlinked qs old new x f b → IsFieldCleared types qs old new x f b (Some led)
+  pub cleared_some : (old new : List Node) (led : NodeId) → x < length old → AreRows qs old → IsMirrored (chart qs old) → AreRows qs new → IsMirrored (chart qs new) → (chart qs old).holds x f b ≡ Target led.0 → IsFieldUnlinked qs old new x f b → IsFieldCleared qs old new x f b (Some led)
   cleared_some old new led l all mir all' mir' h un =
       let y : ℕ = led.0 in
       let t = un y h in
@@ -276,22 +276,22 @@ module _ (types : List TypeShape) (qs : List ℕ) (x f b : ℕ) where
           y,
           s,
           record {
-            nodes = pair_nodes types qs (chart qs old) old new x f y s b l t.2;
+            nodes = pair_nodes [] qs old new x f y s b l t.2;
             unlinked = subst (λ (c : Chart). IsUnlinked (arena_of (rank qs) (seen old)).chart c x f y s b) (sym (seen_chart qs new)) (subst (λ (c : Chart). IsUnlinked c (chart qs new) x f y s b) (sym (seen_chart qs old)) u);
           },
         );
         links = λ i. t.2.second.links i ∙ t.2.first.links i;
-        room = pair_room_left (chart qs old) old new x f s b led t.2;
+        room = pair_room_left qs old new x f s b led t.2;
         stamped = added (chart qs old) x f b + added (chart qs old) y s b;
         few = omega (arith, none_added (chart qs old) (chart qs new) x f y s b u, added_few (chart qs old) x f b, added_few (chart qs old) y s b);
-        grown = pair_grown types (chart qs old) old new x f y s b l m t.2;
-        others = λ i ne nz. pair_others (chart qs old) old new x f y s b t.2 i ne nz;
+        grown = λ types. pair_grown types qs old new x f y s b l m t.2;
+        others = λ i ne nz. pair_others qs old new x f y s b t.2 i ne nz;
       }
 
-pub cleared_then : (types : List TypeShape) (qs : List ℕ) (x f b : ℕ) (old new : List Node) (led : Option NodeId) → is_some led ≡ true → x < length old → AreRows qs old → IsMirrored (chart qs old) → AreRows qs new → IsMirrored (chart qs new) → LeadsTo (chart qs old) x f b led → IsFieldUnlinked qs old new x f b → IsFieldCleared types qs old new x f b led
-cleared_then types qs x f b old new None e l all mir all' mir' h un = absurd (false≢true e)
-cleared_then types qs x f b old new (Some y) e l all mir all' mir' h un = cleared_some types qs x f b old new y l all mir all' mir' h un
+pub cleared_then : (qs : List ℕ) (x f b : ℕ) (old new : List Node) (led : Option NodeId) → is_some led ≡ true → x < length old → AreRows qs old → IsMirrored (chart qs old) → AreRows qs new → IsMirrored (chart qs new) → LeadsTo (chart qs old) x f b led → IsFieldUnlinked qs old new x f b → IsFieldCleared qs old new x f b led
+cleared_then qs x f b old new None e l all mir all' mir' h un = absurd (false≢true e)
+cleared_then qs x f b old new (Some y) e l all mir all' mir' h un = cleared_some qs x f b old new y l all mir all' mir' h un
 
-pub cleared_else : (types : List TypeShape) (qs : List ℕ) (x f b : ℕ) (ns : List Node) (led : Option NodeId) → is_some led ≡ false → AreRows qs ns → IsMirrored (chart qs ns) → LeadsTo (chart qs ns) x f b led → IsFieldCleared types qs ns ns x f b led
-cleared_else types qs x f b ns None e all mir h = cleared_none types qs x f b ns all mir h
-cleared_else types qs x f b ns (Some y) e all mir h = absurd (false≢true (sym e))
+pub cleared_else : (qs : List ℕ) (x f b : ℕ) (ns : List Node) (led : Option NodeId) → is_some led ≡ false → AreRows qs ns → IsMirrored (chart qs ns) → LeadsTo (chart qs ns) x f b led → IsFieldCleared qs ns ns x f b led
+cleared_else qs x f b ns None e all mir h = cleared_none qs x f b ns all mir h
+cleared_else qs x f b ns (Some y) e all mir h = absurd (false≢true (sym e))

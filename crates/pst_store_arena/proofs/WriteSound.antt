@@ -136,9 +136,9 @@ module _ (types : List TypeShape) (qs : List ℕ) (old : List Node) (s : IsSound
       let i : IsInverse (type_of types old y) g = kind_there y g b (From x f) u.pair (λ q. cc) in
       put_kinds new x f Null y g Free b u.holds (p.0, inl p.1) i
 
-  pub cleared_sound : (new : List Node) (x f b : ℕ) (led : Option NodeId) → IsFieldCleared types qs old new x f b led → IsSound types qs new
+  pub cleared_sound : (new : List Node) (x f b : ℕ) (led : Option NodeId) → IsFieldCleared qs old new x f b led → IsSound types qs new
   cleared_sound new x f b led cl =
-      sound_grown cl.stamped types qs old new cl.grown s cl.rows cl.mirrored (⊎_elim
+      sound_grown cl.stamped types qs old new (cl.grown types) s cl.rows cl.mirrored (⊎_elim
       (λ (e : (arena_of (rank qs) (seen new) ≡ arena_of (rank qs) (seen old)) × ((arena_of (rank qs) (seen old)).chart.holds x f b ≡ Null)).
       let same : chart qs new ≡ chart qs old = sym (seen_chart qs new) ∙ ap (λ (w : Arena). w.chart) e.0 ∙ seen_chart qs old in
       subst (λ (w : Chart). HasKinds types qs old w) (sym same) s.kinds)

@@ -3,7 +3,8 @@ use Rattle.std.specs.Prelude.{◌≡◌, ℕ, ◌+◌, ◌<◌, ℤ, List, ◌++
 use Rattle.pst_base.specs.declared.names.TypeNo.{TypeNo}
 use Rattle.pst_base.specs.declared.names.Name.{Name}
 use Rattle.pst_base.specs.declared.shape.TypeShape.{TypeShape}
-use Rattle.pst_base.specs.Shape.{type_at, element_count}
+use Rattle.pst_base.specs.declared.names.Kind.TheVariants.{Pointer}
+use Rattle.pst_base.specs.Shape.{type_at, element_count, field_kind}
 use Rattle.pst_order.specs.Places.{rank}
 use Rattle.pst_mirror.specs.Charts.{AllRows}
 use Rattle.pst_mirror.specs.Degree.{is_other_entry}
@@ -37,6 +38,10 @@ pub record AreNodes (shape : List TypeShape) (places : List ℕ) (nodes : List N
   pub end : ℕ
   pub arena : IsArena shape end (arena_at places nodes)
 
+-- a field of node x is for pointers to records of the type of node y
+abbrev pub IsPointerTo : List TypeShape → Arena → (x f y : ℕ) → Type 0
+IsPointerTo shape w x f y = field_kind (type_at shape (w.ty x)) f ≡ Some (Pointer (w.ty y))
+
 -- the root index stays as it is
 pub record KeepsRoots (old new : Noted) : Type 0 where
   pub roots : new.roots ≡ old.roots
@@ -66,22 +71,22 @@ pub record IsWritten (shape : List TypeShape) (places : List ℕ) (new : List No
   pub roots : KeepsRoots old_noted noted
 
 -- a number was written over a place
-pub record IsNumberWritten (shape : List TypeShape) (places : List ℕ) (old new : List Node) (x f b : ℕ) (v : ℤ) : Type 0 where
-  pub set : IsNumberSet (arena_at places old) (arena_at places new) x f b v
+pub record IsNumberWritten (shape : List TypeShape) (places : List ℕ) (old new : List Node) (x f : ℕ) (at : Place) (v : ℤ) : Type 0 where
+  pub set : IsNumberSet (arena_at places old) (arena_at places new) x f (rank places at.begin.0) v
   pub grown : HasGrownBy shape old new 2
 
 -- null was written over a place
-pub record IsNullWritten (shape : List TypeShape) (places : List ℕ) (old new : List Node) (x f b : ℕ) : Type 0 where
-  pub cleared : IsCleared (arena_at places old) (arena_at places new) x f b
+pub record IsNullWritten (shape : List TypeShape) (places : List ℕ) (old new : List Node) (x f : ℕ) (at : Place) : Type 0 where
+  pub cleared : IsCleared (arena_at places old) (arena_at places new) x f (rank places at.begin.0)
   pub grown : HasGrownBy shape old new 6
 
 -- a pointer was written over a place: the old one taken away, the new one put in
-pub record IsPointerWritten (shape : List TypeShape) (places : List ℕ) (old new : List Node) (x f b y s : ℕ) : Type 0 where
+pub record IsPointerWritten (shape : List TypeShape) (places : List ℕ) (old new : List Node) (x f : ℕ) (at : Place) (y s : ℕ) : Type 0 where
   pub mid : List Node
   pub mid_rows : AllRows (rank places) (length places) (map (λ n. n.row) mid)
   pub mid_wide : AreWide shape mid
-  pub cleared : IsCleared (arena_at places old) (arena_at places mid) x f b
-  pub put : IsPointerPut (arena_at places mid) (arena_at places new) x f y s b
+  pub cleared : IsCleared (arena_at places old) (arena_at places mid) x f (rank places at.begin.0)
+  pub put : IsPointerPut (arena_at places mid) (arena_at places new) x f y s (rank places at.begin.0)
   pub grown : HasGrownBy shape old new 6
 
 -- so many splits were made

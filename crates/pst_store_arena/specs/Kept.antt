@@ -1,5 +1,5 @@
 -- What an arena of fat nodes keeps: the nodes as a store sees them, and what is noted beside them.
-use Rattle.std.specs.Prelude.{◌≡◌, ℕ, suc, List, [], ◌∷◌, ◌++◌, None, length}
+use Rattle.std.specs.Prelude.{◌≡◌, ℕ, suc, List, [], ◌∷◌, ◌++◌, length}
 use Rattle.pst_base.specs.declared.names.Name.{Name}
 use Rattle.pst_base.specs.declared.names.TypeNo.{TypeNo}
 use Rattle.pst_base.specs.declared.shape.TypeShape.{TypeShape}
@@ -10,7 +10,7 @@ use Rattle.pst_queue.specs.declared.links.Link.{Link}
 use Rattle.pst_queue.specs.declared.links.Link.TheVariants.{Out, Last, Before}
 use Rattle.pst_queue.specs.declared.queue.Queue.{Queue}
 use Rattle.pst_nodes.specs.declared.node.Node.{Node}
-use Rattle.pst_nodes.specs.Arena.{lives, frame_at}
+use Rattle.pst_nodes.specs.Arena.{new_node, lives, frame_at}
 use Rattle.pst_mirror.specs.Lives.{IsIn as IsInLives}
 use Rattle.pst_base.specs.Name.{root_name}
 use Rattle.pst_split.specs.Steps.{Queues}
@@ -53,7 +53,7 @@ AreLinked ns queue = (xs : List ℕ) × Queues ns queue xs
 pub record IsRowAdded (shape : List TypeShape) (old new : List Node) (id : ℕ) (q : Name) (ty : TypeNo) (at : Place) : Type 0 where
   pub number : id ≡ length old
   pub row : Row
-  pub list : new ≡ old ++ record { header = record { name = q; ty = ty; later = None; link = Out }; row = row } ∷ []
+  pub list : new ≡ old ++ new_node q ty row ∷ []
   pub made : IsNewRow (type_at shape ty) at.begin at.end row
 
 -- a node is one of the root record, and lives at a position

@@ -52,8 +52,8 @@ abbrev pub HaveRoom : List Node → ℕ → Option NodeId → Option NodeId → 
 HaveRoom ns x led target = (i : ℕ) → IsOneOf x led i → HasRoomFor ns x led target i
 
 -- The pointer that a field held over a position is taken away, if it held one. What is stamped for that and what a write of
--- the field stamps afterwards are 4 values at most, since the field has its edges then.
-pub record IsFieldCleared (types : List TypeShape) (qs : List ℕ) (old new : List Node) (x f b : ℕ) (led : Option NodeId) : Type 0 where
+-- the field stamps afterwards are 4 values at most, whatever the types, since the field has its edges then.
+pub record IsFieldCleared (qs : List ℕ) (old new : List Node) (x f b : ℕ) (led : Option NodeId) : Type 0 where
   pub rows : AreRows qs new
   pub mirrored : IsMirrored (chart qs new)
   pub null : (chart qs new).holds x f b ≡ Null
@@ -63,5 +63,5 @@ pub record IsFieldCleared (types : List TypeShape) (qs : List ℕ) (old new : Li
   pub room : (i : ℕ) (d : Row) (j : ℕ) → HasRoom (row_at old i d) (j + pair_stamps x led i) → HasRoom (row_at new i d) j
   pub stamped : ℕ
   pub few : stamped + added (chart qs new) x f b ≤ 4
-  pub grown : AreGrown stamped types old new
+  pub grown : (types : List TypeShape) → AreGrown stamped types old new
   pub others : (i : ℕ) → i ≢ x → (IsNode led i → ⊥) → stamped_at new i ≡ stamped_at old i

@@ -58,7 +58,7 @@ impl Arena {
         ensures rested { IfOk result (λ more. more ≡ false → self.new.noted.queue ≡ []) }
         ensures count { IfOk result (λ more. length self.new.nodes ≡ length self.old.nodes + splits_in more) }
     {
-        split_next(order, shape, &mut self.nodes, &mut self.queue)
+        split_next(shape, order, &mut self.nodes, &mut self.queue)
     }
 }
 
@@ -138,7 +138,7 @@ impl FatNodes for Arena {
         x: NodeId,
         field: SlotNo,
     ) -> Option<SlotNo> {
-        self.nodes.open_slot(order, shape, id, at, x, field)
+        self.nodes.open_slot(shape, order, id, at, x, field)
     }
 
     fn add(
@@ -162,8 +162,8 @@ impl FatNodes for Arena {
         n: i64,
     ) -> Result<(), NoMemory> {
         writes::set_number(
-            order,
             shape,
+            order,
             &mut self.nodes,
             &mut self.queue,
             id,
@@ -182,8 +182,8 @@ impl FatNodes for Arena {
         at: Place,
     ) -> Result<(), NoMemory> {
         writes::set_null(
-            order,
             shape,
+            order,
             &mut self.nodes,
             &mut self.queue,
             id,
@@ -203,8 +203,8 @@ impl FatNodes for Arena {
         slot: SlotNo,
     ) -> Result<(), NoMemory> {
         writes::set_target(
-            order,
             shape,
+            order,
             &mut self.nodes,
             &mut self.queue,
             id,
@@ -218,8 +218,8 @@ impl FatNodes for Arena {
     #[inline(always)]
     fn repair<O: Order>(&mut self, shape: &Shape, order: &O) -> Result<(), NoMemory> {
         repair_and_hold(
-            order,
             shape,
+            order,
             &mut self.nodes,
             &mut self.queue,
             &mut self.roots,

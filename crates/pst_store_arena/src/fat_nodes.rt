@@ -1,7 +1,6 @@
 //! The arena of fat nodes, as a store uses it.
 
-ghost use Rattle.std.specs.Prelude.{◌≡◌, ◌<◌, ◌^◌, ◌↔◌, ℕ, suc, List, [], ◌∷◌, length, map, Some, IsTrue, IfOk, OnOk, OnErr, IfNone, IfSome};
-ghost use Rattle.pst_base.specs.declared.names.Kind.TheVariants.{Pointer};
+ghost use Rattle.std.specs.Prelude.{◌≡◌, ◌<◌, ◌^◌, ◌↔◌, ℕ, suc, List, [], ◌∷◌, length, map, IsTrue, IfOk, OnOk, OnErr, IfNone, IfSome};
 ghost use Rattle.pst_base.specs.Heap.{IsPointer};
 ghost use Rattle.pst_base.specs.Name.{root_name};
 ghost use Rattle.pst_base.specs.Shape.{type_at, root_type, field_kind, IsValid};
@@ -10,7 +9,7 @@ ghost use Rattle.pst_mirror.specs.Potential.{potential};
 ghost use Rattle.pst_store_meaning.specs.Arena.{IsIn, IsLive};
 ghost use Rattle.pst_store_meaning.specs.Store.{Node, Noted, of_node, width, load_of, AreHeld, AreAllHeld};
 ghost use Rattle.pst_store_meaning.specs.Steps.{IsNewNode};
-ghost use Rattle.pst_store_arena.specs.Calls.{AreNodes, AreOthers, AreWaiting, IsNodeAdded, IsNullWritten, IsNumberWritten, IsOpenTo, IsPointerWritten, IsRepaired, IsWritten, arena_at};
+ghost use Rattle.pst_store_arena.specs.Calls.{AreNodes, AreOthers, AreWaiting, IsNodeAdded, IsNullWritten, IsNumberWritten, IsOpenTo, IsPointerTo, IsPointerWritten, IsRepaired, IsWritten, arena_at};
 
 use pst_base::{Name, NoMemory, NodeId, Shape, SlotNo, TypeNo};
 use pst_order::{Order, Pos};
@@ -128,7 +127,7 @@ pub trait FatNodes: Drop {
         requires inside { IsIn (arena_at (O.places order.now) (nodes self.old)) id.0 (rank (O.places order.now) at.begin.0) }
         requires behind { rank (O.places order.now) at.end.0 ≡ suc (rank (O.places order.now) at.begin.0) }
         requires field { field.0 < (type_at shape.now ((arena_at (O.places order.now) (nodes self.old)).ty id.0)).values }
-        ensures set { OnOk result (IsNumberWritten shape.now (O.places order.now) (nodes self.old) (nodes self.new) id.0 field.0 (rank (O.places order.now) at.begin.0) n) }
+        ensures set { OnOk result (IsNumberWritten shape.now (O.places order.now) (nodes self.old) (nodes self.new) id.0 field.0 at n) }
         ensures kept { OnOk result (IsWritten shape.now (O.places order.now) (nodes self.new) (noted self.old) (noted self.new)) }
         ensures err { OnErr result ((nodes self.new ≡ nodes self.old) × (noted self.new ≡ noted self.old)) };
 
@@ -147,7 +146,7 @@ pub trait FatNodes: Drop {
         requires inside { IsIn (arena_at (O.places order.now) (nodes self.old)) id.0 (rank (O.places order.now) at.begin.0) }
         requires behind { rank (O.places order.now) at.end.0 ≡ suc (rank (O.places order.now) at.begin.0) }
         requires field { IsPointer (field_kind (type_at shape.now ((arena_at (O.places order.now) (nodes self.old)).ty id.0)) field.0) }
-        ensures set { OnOk result (IsNullWritten shape.now (O.places order.now) (nodes self.old) (nodes self.new) id.0 field.0 (rank (O.places order.now) at.begin.0)) }
+        ensures set { OnOk result (IsNullWritten shape.now (O.places order.now) (nodes self.old) (nodes self.new) id.0 field.0 at) }
         ensures kept { OnOk result (IsWritten shape.now (O.places order.now) (nodes self.new) (noted self.old) (noted self.new)) }
         ensures err { OnErr result ((nodes self.new ≡ nodes self.old) × (noted self.new ≡ noted self.old)) };
 
@@ -168,9 +167,9 @@ pub trait FatNodes: Drop {
         requires inside { IsIn (arena_at (O.places order.now) (nodes self.old)) id.0 (rank (O.places order.now) at.begin.0) }
         requires target { IsIn (arena_at (O.places order.now) (nodes self.old)) target.0 (rank (O.places order.now) at.begin.0) }
         requires behind { rank (O.places order.now) at.end.0 ≡ suc (rank (O.places order.now) at.begin.0) }
-        requires field { field_kind (type_at shape.now ((arena_at (O.places order.now) (nodes self.old)).ty id.0)) field.0 ≡ Some (Pointer ((arena_at (O.places order.now) (nodes self.old)).ty target.0)) }
+        requires field { IsPointerTo shape.now (arena_at (O.places order.now) (nodes self.old)) id.0 field.0 target.0 }
         requires slot { IsOpenTo shape.now (arena_at (O.places order.now) (nodes self.old)) target.0 (rank (O.places order.now) at.begin.0) id.0 field.0 slot.0 }
-        ensures set { OnOk result (IsPointerWritten shape.now (O.places order.now) (nodes self.old) (nodes self.new) id.0 field.0 (rank (O.places order.now) at.begin.0) target.0 slot.0) }
+        ensures set { OnOk result (IsPointerWritten shape.now (O.places order.now) (nodes self.old) (nodes self.new) id.0 field.0 at target.0 slot.0) }
         ensures kept { OnOk result (IsWritten shape.now (O.places order.now) (nodes self.new) (noted self.old) (noted self.new)) }
         ensures err { OnErr result ((nodes self.new ≡ nodes self.old) × (noted self.new ≡ noted self.old)) };
 

@@ -5,7 +5,7 @@ ghost use Rattle.pst_base.specs.Name.{root_name};
 ghost use Rattle.pst_queue.specs.declared.links.Link.TheVariants.{Out};
 ghost use Rattle.pst_nodes.specs.Arena.{link_at};
 ghost use Rattle.pst_store_meaning.specs.Store.{AreHeld, AreAllHeld};
-ghost use Rattle.pst_repair.specs.Seen.{seen};
+ghost use Rattle.pst_repair.specs.Seen.{seen_in};
 ghost use Rattle.pst_store_arena.specs.Calls.{AreNodes, AreWaiting, IsOverFull, arena_at};
 
 use crate::fat_nodes::FatNodes;
@@ -18,7 +18,7 @@ use std::alloc::Global;
 pub trait Listed: FatNodes {
     /// The nodes by their numbers, with their rows.
     fn list(&self) -> &Nodes
-        ensures { seen result.now.list.items ≡ Self.nodes self.now };
+        ensures { seen_in result.now ≡ Self.nodes self.now };
 
     /// The arena of a list of nodes that keep the rules of an arena: node 0 is the root record's first one, none waits, and
     /// none is above its capacity. All nodes of the root record are held. `NoMemory` where there is no memory for their index.
@@ -30,13 +30,13 @@ pub trait Listed: FatNodes {
     ) -> Result<Self, NoMemory>
     where
         Self: Sized,
-        requires nodes { AreNodes shape.now (O.places order.now) (seen list.list.items) }
+        requires nodes { AreNodes shape.now (O.places order.now) (seen_in list) }
         requires some { 0 < length list.list.items }
-        requires root { (arena_at (O.places order.now) (seen list.list.items)).name 0 ≡ root_name }
-        requires first { (arena_at (O.places order.now) (seen list.list.items)).lo 0 ≡ 0 }
+        requires root { (arena_at (O.places order.now) (seen_in list)).name 0 ≡ root_name }
+        requires first { (arena_at (O.places order.now) (seen_in list)).lo 0 ≡ 0 }
         requires out { (i : ℕ) → link_at list.list.items i ≡ Out }
-        requires small { (i : ℕ) → IsOverFull shape.now (seen list.list.items) i → ⊥ }
-        ensures nodes { IfOk result (λ arena. Self.nodes arena ≡ seen list.list.items) }
+        requires small { (i : ℕ) → IsOverFull shape.now (seen_in list) i → ⊥ }
+        ensures nodes { IfOk result (λ arena. Self.nodes arena ≡ seen_in list) }
         ensures rested { IfOk result (λ arena. (Self.noted arena).queue ≡ []) }
         ensures waiting { IfOk result (λ arena. AreWaiting shape.now (Self.nodes arena) (Self.noted arena).queue) }
         ensures held { IfOk result (λ arena. AreHeld (arena_at (O.places order.now) (Self.nodes arena)) (Self.noted arena)) }

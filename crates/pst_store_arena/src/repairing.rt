@@ -6,7 +6,7 @@ ghost use Rattle.pst_mirror.specs.Lives.{AreChained};
 ghost use Rattle.pst_nodes.specs.Arena.{AreRows, lives};
 ghost use Rattle.pst_split.specs.Load.{IsSound};
 ghost use Rattle.pst_repair.specs.Repair.{IsQueued};
-ghost use Rattle.pst_repair.specs.Seen.{seen};
+ghost use Rattle.pst_repair.specs.Seen.{seen_in};
 ghost use Rattle.pst_store_meaning.specs.Store.{AreHeld, AreAllHeld};
 ghost use Rattle.pst_store_arena.specs.Calls.{arena_at, IsRepaired};
 ghost use Rattle.pst_store_arena.specs.Kept.{waiting_of, noted_of};
@@ -22,8 +22,8 @@ use pst_roots::RootIndex;
 /// are made, the rest waits, and what is not held yet is held by the next call.
 #[inline(always)]
 pub fn repair_and_hold<O: Order>(
-    order: &O,
     shape: &Shape,
+    order: &O,
     nodes: &mut Nodes,
     queue: &mut Queue,
     roots: &mut RootIndex,
@@ -31,16 +31,16 @@ pub fn repair_and_hold<O: Order>(
 ) -> Result<(), NoMemory>
     requires sound { IsSound shape.now (O.places order.now) nodes.old.list.items }
     requires queued { (xs : List ℕ) × IsQueued shape.now nodes.old.list.items queue.old xs }
-    requires held { AreHeld (arena_at (O.places order.now) (seen nodes.old.list.items)) (noted_of nodes.old.list.items roots.old looked_at.old) }
-    requires first { (arena_at (O.places order.now) (seen nodes.old.list.items)).lo 0 ≡ 0 }
-    ensures repaired { IsRepaired shape.now (O.places order.now) (seen nodes.old.list.items) (seen nodes.new.list.items) }
+    requires held { AreHeld (arena_at (O.places order.now) (seen_in nodes.old)) (noted_of nodes.old.list.items roots.old looked_at.old) }
+    requires first { (arena_at (O.places order.now) (seen_in nodes.old)).lo 0 ≡ 0 }
+    ensures repaired { IsRepaired shape.now (O.places order.now) (seen_in nodes.old) (seen_in nodes.new) }
     ensures queued { (xs : List ℕ) × IsQueued shape.now nodes.new.list.items queue.new xs }
-    ensures held { AreHeld (arena_at (O.places order.now) (seen nodes.new.list.items)) (noted_of nodes.new.list.items roots.new looked_at.new) }
+    ensures held { AreHeld (arena_at (O.places order.now) (seen_in nodes.new)) (noted_of nodes.new.list.items roots.new looked_at.new) }
     ensures rested { OnOk result (waiting_of nodes.new.list.items ≡ []) }
-    ensures all { OnOk result (AreAllHeld (arena_at (O.places order.now) (seen nodes.new.list.items)) (noted_of nodes.new.list.items roots.new looked_at.new)) }
+    ensures all { OnOk result (AreAllHeld (arena_at (O.places order.now) (seen_in nodes.new)) (noted_of nodes.new.list.items roots.new looked_at.new)) }
 {
     let first = first_of(queue);
-    repair(order, shape, nodes, queue)?;
+    repair(shape, order, nodes, queue)?;
     hold_new(order, nodes, first, roots, looked_at)
 }
 
@@ -65,9 +65,9 @@ pub fn hold_new<O: Order>(
 ) -> Result<(), NoMemory>
     requires rows { AreRows (O.places order.now) nodes.now.list.items }
     requires chained { AreChained (lives (O.places order.now) nodes.now.list.items) }
-    requires first { (arena_at (O.places order.now) (seen nodes.now.list.items)).lo 0 ≡ 0 }
-    requires held { AreHeld (arena_at (O.places order.now) (seen nodes.now.list.items)) (noted_of nodes.now.list.items roots.old looked_at.old) }
-    ensures held { AreHeld (arena_at (O.places order.now) (seen nodes.now.list.items)) (noted_of nodes.now.list.items roots.new looked_at.new) }
+    requires first { (arena_at (O.places order.now) (seen_in nodes.now)).lo 0 ≡ 0 }
+    requires held { AreHeld (arena_at (O.places order.now) (seen_in nodes.now)) (noted_of nodes.now.list.items roots.old looked_at.old) }
+    ensures held { AreHeld (arena_at (O.places order.now) (seen_in nodes.now)) (noted_of nodes.now.list.items roots.new looked_at.new) }
     ensures all { OnOk result (looked_at.new ≡ length nodes.now.list.items) }
 {
     for index in *looked_at..nodes.count() {
@@ -88,11 +88,11 @@ fn hold<O: Order>(
 ) -> Result<(), NoMemory>
     requires rows { AreRows (O.places order.now) nodes.now.list.items }
     requires chained { AreChained (lives (O.places order.now) nodes.now.list.items) }
-    requires first { (arena_at (O.places order.now) (seen nodes.now.list.items)).lo 0 ≡ 0 }
+    requires first { (arena_at (O.places order.now) (seen_in nodes.now)).lo 0 ≡ 0 }
     requires there { id.0 < length nodes.now.list.items }
-    requires held { AreHeld (arena_at (O.places order.now) (seen nodes.now.list.items)) (noted_of nodes.now.list.items roots.old id.0) }
-    ensures held { OnOk result (AreHeld (arena_at (O.places order.now) (seen nodes.now.list.items)) (noted_of nodes.now.list.items roots.new (suc id.0))) }
-    ensures err { OnErr result (AreHeld (arena_at (O.places order.now) (seen nodes.now.list.items)) (noted_of nodes.now.list.items roots.new id.0)) }
+    requires held { AreHeld (arena_at (O.places order.now) (seen_in nodes.now)) (noted_of nodes.now.list.items roots.old id.0) }
+    ensures held { OnOk result (AreHeld (arena_at (O.places order.now) (seen_in nodes.now)) (noted_of nodes.now.list.items roots.new (suc id.0))) }
+    ensures err { OnErr result (AreHeld (arena_at (O.places order.now) (seen_in nodes.now)) (noted_of nodes.now.list.items roots.new id.0)) }
 {
     if nodes.name(id) == ROOT {
         roots.reserve(1)?;

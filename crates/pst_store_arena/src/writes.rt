@@ -2,7 +2,6 @@
 
 ghost use Rattle.std.specs.Prelude.{◌≡◌, ℕ, suc, ◌<◌, ◌≤◌, ◌⊎◌, List, length, map, Some, None, OnOk, OnErr};
 ghost use Rattle.pst_base.specs.declared.names.Kind.TheVariants.{Pointer};
-ghost use Rattle.pst_base.specs.declared.shape.TypeShape.{TypeShape};
 ghost use Rattle.pst_base.specs.Heap.{IsPointer};
 ghost use Rattle.pst_base.specs.Shape.{field_kind};
 ghost use Rattle.pst_order.specs.Places.{rank};
@@ -14,7 +13,7 @@ ghost use Rattle.pst_nodes.specs.Changes.{AreSameNodes};
 ghost use Rattle.pst_split.specs.Load.{IsSound};
 ghost use Rattle.pst_split.specs.Steps.{Queues, KeepsQueue};
 ghost use Rattle.pst_store_meaning.specs.Store.{AreWide};
-ghost use Rattle.pst_repair.specs.Seen.{seen};
+ghost use Rattle.pst_repair.specs.Seen.{seen_in};
 ghost use Rattle.pst_repair.specs.Repair.{IsQueued};
 ghost use Rattle.pst_store_arena.specs.Calls.{IsNumberWritten, IsNullWritten, IsPointerWritten};
 ghost use Rattle.pst_store_arena.specs.Writes.{HoldsPointer, LeadsTo, IsNode, IsOneOf, slot_stamps, pair_stamps, HasRoomFor, HaveRoom, IsFieldCleared};
@@ -30,8 +29,8 @@ use pst_store_meaning::place::Place;
 /// Writes a number over a place, in a node that lives there. All memory is taken first; the node waits where it is above its
 /// capacity then. A refusal changes nothing but room.
 pub fn set_number<O: Order>(
-    order: &O,
     shape: &Shape,
+    order: &O,
     nodes: &mut Nodes,
     queue: &mut Queue,
     id: NodeId,
@@ -44,9 +43,9 @@ pub fn set_number<O: Order>(
     requires inside { IsIn (lives (O.places order.now) nodes.old.list.items) id.0 (rank (O.places order.now) at.begin.0) }
     requires behind { rank (O.places order.now) at.end.0 ≡ suc (rank (O.places order.now) at.begin.0) }
     requires field { field.0 < (type_of shape.now nodes.old.list.items id.0).values }
-    ensures set { OnOk result (IsNumberWritten shape.now (O.places order.now) (seen nodes.old.list.items) (seen nodes.new.list.items) id.0 field.0 (rank (O.places order.now) at.begin.0) n) }
-    ensures rows { OnOk result (AllRows (rank (O.places order.now)) (length (O.places order.now)) (map (λ k. k.row) (seen nodes.new.list.items))) }
-    ensures wide { OnOk result (AreWide shape.now (seen nodes.new.list.items)) }
+    ensures set { OnOk result (IsNumberWritten shape.now (O.places order.now) (seen_in nodes.old) (seen_in nodes.new) id.0 field.0 at n) }
+    ensures rows { OnOk result (AllRows (rank (O.places order.now)) (length (O.places order.now)) (map (λ k. k.row) (seen_in nodes.new))) }
+    ensures wide { OnOk result (AreWide shape.now (seen_in nodes.new)) }
     ensures sound { OnOk result (IsSound shape.now (O.places order.now) nodes.new.list.items) }
     ensures queued { (xs : List ℕ) × IsQueued shape.now nodes.new.list.items queue.new xs }
     ensures err_nodes { OnErr result (AreSameNodes nodes.old.list.items nodes.new.list.items) }
@@ -62,8 +61,8 @@ pub fn set_number<O: Order>(
 /// entry of it are taken away. All memory is taken first; what is above its capacity then waits. A refusal changes nothing but
 /// room.
 pub fn set_null<O: Order>(
-    order: &O,
     shape: &Shape,
+    order: &O,
     nodes: &mut Nodes,
     queue: &mut Queue,
     id: NodeId,
@@ -75,9 +74,9 @@ pub fn set_null<O: Order>(
     requires inside { IsIn (lives (O.places order.now) nodes.old.list.items) id.0 (rank (O.places order.now) at.begin.0) }
     requires behind { rank (O.places order.now) at.end.0 ≡ suc (rank (O.places order.now) at.begin.0) }
     requires field { IsPointer (field_kind (type_of shape.now nodes.old.list.items id.0) field.0) }
-    ensures set { OnOk result (IsNullWritten shape.now (O.places order.now) (seen nodes.old.list.items) (seen nodes.new.list.items) id.0 field.0 (rank (O.places order.now) at.begin.0)) }
-    ensures rows { OnOk result (AllRows (rank (O.places order.now)) (length (O.places order.now)) (map (λ k. k.row) (seen nodes.new.list.items))) }
-    ensures wide { OnOk result (AreWide shape.now (seen nodes.new.list.items)) }
+    ensures set { OnOk result (IsNullWritten shape.now (O.places order.now) (seen_in nodes.old) (seen_in nodes.new) id.0 field.0 at) }
+    ensures rows { OnOk result (AllRows (rank (O.places order.now)) (length (O.places order.now)) (map (λ k. k.row) (seen_in nodes.new))) }
+    ensures wide { OnOk result (AreWide shape.now (seen_in nodes.new)) }
     ensures sound { OnOk result (IsSound shape.now (O.places order.now) nodes.new.list.items) }
     ensures queued { (xs : List ℕ) × IsQueued shape.now nodes.new.list.items queue.new xs }
     ensures err_nodes { OnErr result (AreSameNodes nodes.old.list.items nodes.new.list.items) }
@@ -97,8 +96,8 @@ pub fn set_null<O: Order>(
 /// is put in by an inverse slot of the target, which lives there too. All memory is taken first; what is above its capacity
 /// then waits. A refusal changes nothing but room.
 pub fn set_target<O: Order>(
-    order: &O,
     shape: &Shape,
+    order: &O,
     nodes: &mut Nodes,
     queue: &mut Queue,
     id: NodeId,
@@ -114,9 +113,9 @@ pub fn set_target<O: Order>(
     requires behind { rank (O.places order.now) at.end.0 ≡ suc (rank (O.places order.now) at.begin.0) }
     requires field { field_kind (type_of shape.now nodes.old.list.items id.0) field.0 ≡ Some (Pointer (type_no nodes.old.list.items target.0)) }
     requires slot { IsOpenSlot shape.now (O.places order.now) nodes.old.list.items target.0 (rank (O.places order.now) at.begin.0) id.0 field.0 slot.0 }
-    ensures set { let ps = O.places order.now in OnOk result (IsPointerWritten shape.now ps (seen nodes.old.list.items) (seen nodes.new.list.items) id.0 field.0 (rank ps at.begin.0) target.0 slot.0) }
-    ensures rows { OnOk result (AllRows (rank (O.places order.now)) (length (O.places order.now)) (map (λ k. k.row) (seen nodes.new.list.items))) }
-    ensures wide { OnOk result (AreWide shape.now (seen nodes.new.list.items)) }
+    ensures set { OnOk result (IsPointerWritten shape.now (O.places order.now) (seen_in nodes.old) (seen_in nodes.new) id.0 field.0 at target.0 slot.0) }
+    ensures rows { OnOk result (AllRows (rank (O.places order.now)) (length (O.places order.now)) (map (λ k. k.row) (seen_in nodes.new))) }
+    ensures wide { OnOk result (AreWide shape.now (seen_in nodes.new)) }
     ensures sound { OnOk result (IsSound shape.now (O.places order.now) nodes.new.list.items) }
     ensures queued { (xs : List ℕ) × IsQueued shape.now nodes.new.list.items queue.new xs }
     ensures err_nodes { OnErr result (AreSameNodes nodes.old.list.items nodes.new.list.items) }
@@ -219,7 +218,7 @@ fn clear<O: Order>(
     requires there { id.0 < length nodes.old.list.items }
     requires led { LeadsTo (chart (O.places order.now) nodes.old.list.items) id.0 field.0 (rank (O.places order.now) at.begin.0) led }
     requires room { HaveRoom nodes.old.list.items id.0 led None }
-    ensures { (types : List TypeShape) → IsFieldCleared types (O.places order.now) nodes.old.list.items nodes.new.list.items id.0 field.0 (rank (O.places order.now) at.begin.0) led }
+    ensures { IsFieldCleared (O.places order.now) nodes.old.list.items nodes.new.list.items id.0 field.0 (rank (O.places order.now) at.begin.0) led }
 {
     if led.is_some() {
         nodes.unlink(order, at.begin, at.end, id, field);

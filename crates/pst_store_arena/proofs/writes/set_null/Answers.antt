@@ -1,4 +1,4 @@
-use Rattle.std.proofs.Common.{◌∙◌, ℕ, ◌<◌, List, length, arith}
+use Rattle.std.proofs.Common.{◌∙◌, ℕ, ◌<◌, List, length, refl, arith}
 use Rattle.pst_base.specs.Shape.{field_kind}
 use Rattle.pst_nodes.specs.declared.node.Node.{Node}
 use Rattle.pst_nodes.specs.Arena.{chart, type_of, IsTyped}
@@ -32,7 +32,7 @@ pub returns-then-is_none-clause-set : goal.returns-then-is_none-clause-set
 returns-then-is_none-clause-set g c =
     let qs : List ℕ = g.O.Order.places c.args.order.now in
     let b : ℕ = rank qs c.args.at.begin.0 in
-    null_kept c.args.shape.now qs c.args.nodes.now.list.items c.args.id.0 c.args.field.0 b c.requires.sound.rows c.requires.sound.mirrored
+    null_kept c.args.shape.now qs c.args.nodes.now.list.items c.args.id.0 c.args.field.0 c.args.at c.requires.sound.rows c.requires.sound.mirrored
     (null_at (chart qs c.args.nodes.now.list.items) c.args.id.0 c.args.field.0 b c.led_to-led.result c.if-is_none.ensures c.led_to-led.ensures)
 
 pub returns-then-is_none-clause-rows : goal.returns-then-is_none-clause-rows
@@ -74,19 +74,19 @@ pub queue_pair-requires-clause-there : goal.queue_pair-requires-clause-there
 queue_pair-requires-clause-there g c i o =
     let qs : List ℕ = g.O.Order.places c.args.order.now in
     let l : i < length c.reserve_pair.new.nodes.list.items = one_taken c.args.shape.now qs c.args.nodes.now.list.items c.reserve_pair.new.nodes.list.items c.args.id.0 c.args.field.0 (rank qs c.args.at.begin.0) c.led_to-led.result c.requires.sound c.reserve_pair.ensures.same c.requires.inside.there c.led_to-led.ensures i o in
-    let is = c.clear.ensures c.args.shape.now in
-    omega (arith, l, is.grown.count)
+    let is = c.clear.ensures.grown c.args.shape.now in
+    omega (arith, l, is.count)
 
 pub queue_pair-requires-clause-typed : goal.queue_pair-requires-clause-typed
 queue_pair-requires-clause-typed g c =
     let qs : List ℕ = g.O.Order.places c.args.order.now in
     let s = sound_taken c.args.shape.now qs c.args.nodes.now.list.items c.reserve_pair.new.nodes.list.items c.args.id.0 c.args.field.0 (rank qs c.args.at.begin.0) c.led_to-led.result c.requires.sound c.reserve_pair.ensures.same c.requires.inside.there c.led_to-led.ensures in
-    cleared_typed c.args.shape.now qs c.reserve_pair.new.nodes.list.items c.clear.new.nodes.list.items c.args.id.0 c.args.field.0 (rank qs c.args.at.begin.0) c.led_to-led.result (c.clear.ensures c.args.shape.now) s.typed
+    cleared_typed c.args.shape.now qs c.reserve_pair.new.nodes.list.items c.clear.new.nodes.list.items c.args.id.0 c.args.field.0 (rank qs c.args.at.begin.0) c.led_to-led.result c.clear.ensures s.typed
 
 pub queue_pair-requires-clause-held : goal.queue_pair-requires-clause-held
 queue_pair-requires-clause-held g c =
-    let is = c.clear.ensures c.args.shape.now in
-    held_on c.args.nodes.now.list.items c.clear.new.nodes.list.items c.args.queue.now (is.grown.count ∙ c.reserve_pair.ensures.same.count) (λ i. is.links i ∙ c.reserve_pair.ensures.same.links i) (c.requires.queued.0, c.requires.queued.1.held)
+    let is = c.clear.ensures in
+    held_on c.args.nodes.now.list.items c.clear.new.nodes.list.items c.args.queue.now ((is.grown c.args.shape.now).count ∙ c.reserve_pair.ensures.same.count) (λ i. is.links i ∙ c.reserve_pair.ensures.same.links i) (c.requires.queued.0, c.requires.queued.1.held)
 
 -- in the end
 
@@ -106,8 +106,8 @@ module _ (g : Over) (c : goal.After-queue_pair g) where
   abbrev mid : List Node
   mid = c.clear.new.nodes.list.items
 
-  is : IsFieldCleared c.args.shape.now (g.O.Order.places c.args.order.now) c.reserve_pair.new.nodes.list.items c.clear.new.nodes.list.items c.args.id.0 c.args.field.0 (rank (g.O.Order.places c.args.order.now) c.args.at.begin.0) c.led_to-led.result
-  is = c.clear.ensures c.args.shape.now
+  is : IsFieldCleared (g.O.Order.places c.args.order.now) c.reserve_pair.new.nodes.list.items c.clear.new.nodes.list.items c.args.id.0 c.args.field.0 (rank (g.O.Order.places c.args.order.now) c.args.at.begin.0) c.led_to-led.result
+  is = c.clear.ensures
 
   typed : (i : ℕ) → i < length c.clear.new.nodes.list.items → IsTyped c.args.shape.now c.clear.new.nodes.list.items i
   typed = cleared_typed c.args.shape.now qs r mid c.args.id.0 c.args.field.0 b c.led_to-led.result is
@@ -115,7 +115,7 @@ module _ (g : Over) (c : goal.After-queue_pair g) where
 
 pub returns-clause-set : goal.returns-clause-set
 returns-clause-set g c =
-    null_written c.args.shape.now (qs g c) (r g c) (mid g c) c.args.id.0 c.args.field.0 (b g c) c.led_to-led.result (is g c) (old g c) c.queue_pair.new.nodes.list.items
+    null_written c.args.shape.now (qs g c) (r g c) (mid g c) c.args.id.0 c.args.field.0 (b g c) c.led_to-led.result (is g c) c.args.at (old g c) c.queue_pair.new.nodes.list.items refl
     (seen_taken c.args.shape.now (qs g c) (old g c) (r g c) c.args.id.0 c.args.field.0 (b g c) c.led_to-led.result c.requires.sound c.reserve_pair.ensures.same c.requires.inside.there c.led_to-led.ensures)
     (seen_links (mid g c) c.queue_pair.new.nodes.list.items c.queue_pair.ensures.rows c.queue_pair.ensures.frames)
 

@@ -1,6 +1,5 @@
-use Rattle.std.proofs.Common.{◌<◌, ◌∙◌, refl, sym, subst, arith, List, Some}
+use Rattle.std.proofs.Common.{◌<◌, ◌∙◌, refl, sym, subst, arith, List}
 use Rattle.pst_order.specs.Places.{rank}
-use Rattle.pst_queue.specs.declared.links.Link.TheVariants.{Out}
 use Rattle.pst_nodes.specs.declared.node.Node.{Node}
 use Rattle.pst_nodes.specs.Arena.{AreRows}
 use Rattle.pst_nodes.specs.Changes.{IsCutInTwo}

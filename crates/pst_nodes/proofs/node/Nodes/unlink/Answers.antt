@@ -48,7 +48,7 @@ returns-clause-mirrored g c =
 pub returns-clause-unlinked : goal.returns-clause-unlinked
 returns-clause-unlinked g c y e =
     let same : c.in-Target.y.0 ≡ y = target_node c.in-Target.y.0 y (sym (sym c.read.ensures ∙ c.in-Target.is) ∙ e) in
-    subst (λ (k : ℕ). (s : ℕ) × IsUnlinked (chart (g.O.Order.places c.args.order.now) c.args.self.now.list.items) (chart (g.O.Order.places c.args.order.now) c.set_over-in-Target.new.self.list.items) c.args.x.0 c.args.field.0 k s ((rank (g.O.Order.places c.args.order.now)) c.args.from.0) × AreTouched (chart (g.O.Order.places c.args.order.now) c.args.self.now.list.items) c.args.self.now.list.items c.set_over-in-Target.new.self.list.items c.args.x.0 c.args.field.0 k s ((rank (g.O.Order.places c.args.order.now)) c.args.from.0)) same (
+    subst (λ (k : ℕ). (s : ℕ) × IsUnlinked (chart (g.O.Order.places c.args.order.now) c.args.self.now.list.items) (chart (g.O.Order.places c.args.order.now) c.set_over-in-Target.new.self.list.items) c.args.x.0 c.args.field.0 k s ((rank (g.O.Order.places c.args.order.now)) c.args.from.0) × AreTouched (g.O.Order.places c.args.order.now) c.args.self.now.list.items c.set_over-in-Target.new.self.list.items c.args.x.0 c.args.field.0 k s ((rank (g.O.Order.places c.args.order.now)) c.args.from.0)) same (
       c.entry_slot-slot.result.0,
       unlinked (chart (g.O.Order.places c.args.order.now) c.args.self.now.list.items) (chart (g.O.Order.places c.args.order.now) c.set_over.new.self.list.items) (chart (g.O.Order.places c.args.order.now) c.set_over-in-Target.new.self.list.items) c.args.x.0 c.args.field.0 c.in-Target.y.0 c.entry_slot-slot.result.0 ((rank (g.O.Order.places c.args.order.now)) c.args.from.0) c.requires.mirrored (sym (renamed_itself c.args.x.0 ((chart (g.O.Order.places c.args.order.now) c.args.self.now.list.items).holds c.in-Target.y.0 c.entry_slot-slot.result.0 ((rank (g.O.Order.places c.args.order.now)) c.args.from.0))) ∙ c.entry_slot-slot.ensures.entry) c.set_over.ensures.set c.set_over-in-Target.ensures.set,
       record {

@@ -1,4 +1,4 @@
-use Rattle.std.proofs.Common.{◌≡◌, List, [], ◌∷◌, ◌++◌, sym, ap, ◌∙◌, subst}
+use Rattle.std.proofs.Common.{List, [], ◌∷◌, ◌++◌, sym, ap, ◌∙◌, subst}
 use Rattle.pst_store.specs.declared.fork_list.ForkRow.{ForkRow}
 use Rattle.pst_store.specs.ForkLists.{Held, forks_of, AreCoded, IsRowFor}
 use Rattle.pst_store.proofs.ForkListLemmas.{pushed_coded, pushed_forks}
