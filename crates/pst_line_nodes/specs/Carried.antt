@@ -113,6 +113,10 @@ HasComeTo w t z x f = (s : ℕ) × IsRedirecting w t z s × (w.entry z s ≡ Som
 abbrev pub Settles : Line → Line → ℕ → ℕ → ℕ → ℕ → Type 0
 Settles old new t z x f = (s : ℕ) → IsRedirecting old t z s → old.entry z s ≡ Some (x, f) → IsRedirecting new t z (s + 1)
 
--- the nodes are a line in which an inverse slot of z is open for the field (x, f)
-abbrev pub MayPoint : ℕ → List Seen → ℕ → ℕ → ℕ → ℕ → Type 0
+-- the nodes are kept, and a line, of some record types and in some way to tell which records are made
+abbrev pub AreSomeLine : (t : ℕ) → List Seen → Type 0
+AreSomeLine t nodes = (shape : List TypeShape) × (made : ℕ → Bool) × AreKept shape t nodes × IsLine shape t (line_of made nodes)
+
+-- so they are, and an inverse slot of z is open for the field (x, f)
+abbrev pub MayPoint : (t : ℕ) → List Seen → (z x f u : ℕ) → Type 0
 MayPoint t nodes z x f u = (shape : List TypeShape) × (made : ℕ → Bool) × AreKept shape t nodes × IsLine shape t (line_of made nodes) × IsOpenSlot shape (line_of made nodes) z x f u

@@ -9,6 +9,7 @@ ghost use Rattle.pst_line_nodes.specs.Line.{IsNewest, IsLine, newest};
 ghost use Rattle.pst_line_nodes.specs.Changes.{IsCopied, redirected};
 ghost use Rattle.pst_line_nodes.specs.Rows.{base_of};
 ghost use Rattle.pst_line_nodes.specs.Nodes.{line_of, AreKept};
+ghost use Rattle.pst_line_nodes.specs.Carried.{AreSomeLine};
 ghost use Rattle.pst_line_nodes.specs.Copying.{AreContents, IsHandedOver, AreRenamed, IsTargetBelow, node_at};
 
 use crate::content::{Content, Stamp};
@@ -20,7 +21,7 @@ impl Nodes {
     /// Copies a newest node that began before a stamp, the newest one. The copy is the next node, begins at the stamp, has
     /// the contents in force with each pointer redirected, and the entries. A refusal changes nothing.
     pub fn copy(&mut self, x: NodeId, stamp: Stamp) -> Result<(), NoMemory>
-        requires line { (shape : List TypeShape) × (made : ℕ → Bool) × AreKept shape stamp.0 self.old × IsLine shape stamp.0 (line_of made self.old) }
+        requires line { AreSomeLine stamp.0 self.old }
         requires newest { IsNewest (line_of (λ _. true) self.old) x.0 }
         requires before { (line_of (λ _. true) self.old).first x.0 < stamp.0 }
         ensures copied { OnOk result ((made : ℕ → Bool) → IsCopied (line_of made self.old) (line_of made self.new) x.0 stamp.0) }

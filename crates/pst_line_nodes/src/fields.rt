@@ -9,7 +9,7 @@ ghost use Rattle.pst_line_nodes.specs.Changes.{IsMade};
 ghost use Rattle.pst_line_nodes.specs.Nodes.{line_of, AreKept, HasSlot};
 ghost use Rattle.pst_line_nodes.specs.Copying.{node_at};
 ghost use Rattle.pst_line_nodes.specs.Making.{AreFreed, entered};
-ghost use Rattle.pst_line_nodes.specs.Carried.{IsFieldNulled, IsFieldPointed, MayPoint, HasOpenSlot, HasNoOpenSlot, HasNewRecord};
+ghost use Rattle.pst_line_nodes.specs.Carried.{IsFieldNulled, IsFieldPointed, AreSomeLine, MayPoint, HasOpenSlot, HasNoOpenSlot, HasNewRecord};
 
 use crate::content::{Content, Entry, InverseNo, Stamp};
 use crate::node::Node;
@@ -30,7 +30,7 @@ impl Nodes {
     /// Writes null into a field of a newest node, at the newest stamp. A refusal changes nothing, and where the content is
     /// replaced there is none.
     pub fn set_null(&mut self, x: NodeId, field: SlotNo, stamp: Stamp) -> Result<(), NoMemory>
-        requires line { (shape : List TypeShape) × (made : ℕ → Bool) × AreKept shape stamp.0 self.old × IsLine shape stamp.0 (line_of made self.old) }
+        requires line { AreSomeLine stamp.0 self.old }
         requires newest { IsNewest (line_of (λ _. true) self.old) x.0 }
         requires field { HasSlot self.old x.0 field.0 }
         ensures ok { OnOk result ((made : ℕ → Bool) → IsFieldNulled (line_of made self.old) (line_of made self.new) x.0 field.0 stamp.0) }
