@@ -9,12 +9,14 @@ use Rattle.pst_base.specs.declared.names.TypeNo.{TypeNo}
 use Rattle.pst_base.specs.declared.shape.TypeShape.{TypeShape}
 use Rattle.pst_base.specs.Shape.{type_at, field_kind}
 use Rattle.pst_line_nodes.specs.declared.content.Content.{Content}
-use Rattle.pst_line_nodes.specs.declared.content.Content.TheVariants.{Number, Null, Target}
+use Rattle.pst_line_nodes.specs.declared.content.Content.TheVariants.{Number, Null, Target as TargetOf}
+use Rattle.pst_line_nodes.specs.Contents.{Target}
 use Rattle.pst_line_nodes.specs.Line.{Covers, IsNewest, IsLive, IsLine}
 use Rattle.pst_line_nodes.specs.Changes.{IsSet, IsNulled, IsPointed}
+use Rattle.pst_line_nodes.specs.declared.content.InverseNo.{InverseNo}
 use Rattle.pst_line_nodes.specs.Seen.{Seen}
 use Rattle.pst_line_nodes.specs.Nodes.{line_of, AreKept, IsFieldSet}
-use Rattle.pst_line_nodes.specs.Carried.{IsFieldNulled, IsFieldPointed, IsOpenSlot, AreAllOthers}
+use Rattle.pst_line_nodes.specs.Carried.{IsFieldNulled, IsFieldPointed, HasOpenSlot, HasNoOpenSlot, MayPoint}
 use Rattle.pst_line_nodes.proofs.Copy.{covers_last}
 use Rattle.pst_line_nodes.proofs.Degree.{full_law}
 use Rattle.pst_line.specs.declared.place.Undo.{Undo}
@@ -43,20 +45,20 @@ module _ (shape : List TypeShape) (made : ℕ → Bool) (t : ℕ) (nodes : List 
   -- ---- a number or null
 
   module _ (ms : List Seen) (kept : (shape : List TypeShape) → AreKept shape t nodes → AreKept shape t ms) where
-    pub number_back_put : (n : ℤ) → u.content ≡ Number n → ((made : ℕ → Bool) → IsFieldSet (line_of made nodes) (line_of made ms) x u.slot t u.content) → HasPutBack shape made t nodes ms x u
+    pub number_back_put : (n : ℤ) → u.content ≡ Number n → ((made : ℕ → Bool) → IsFieldSet (line_of made nodes) (line_of made ms) x u.slot.0 t u.content) → HasPutBack shape made t nodes ms x u
     number_back_put n e d = record {
-      put = subst (λ (c : Content). IsPut shape (line_of made nodes) (line_of made ms) x u.slot t c) (sym e) (record {
-        set = subst (λ (k : ℕ). IsSet (line_of made nodes) (line_of made ms) x u.slot t (Number n) k) ((d made).replaced m.since)
-            (subst (λ (c : Content). IsSet (line_of made nodes) (line_of made ms) x u.slot t c (d made).more) e (d made).set);
+      put = subst (λ (c : Content). IsPut shape (line_of made nodes) (line_of made ms) x u.slot.0 t c) (sym e) (record {
+        set = subst (λ (k : ℕ). IsSet (line_of made nodes) (line_of made ms) x u.slot.0 t (Number n) k) ((d made).replaced m.since)
+            (subst (λ (c : Content). IsSet (line_of made nodes) (line_of made ms) x u.slot.0 t c (d made).more) e (d made).set);
         entry = (d made).entry;
       });
       kept = kept shape m.kept;
     }
 
-    pub null_back_put : u.content ≡ Null → ((made : ℕ → Bool) → IsFieldNulled (line_of made nodes) (line_of made ms) x u.slot t) → HasPutBack shape made t nodes ms x u
+    pub null_back_put : u.content ≡ Null → ((made : ℕ → Bool) → IsFieldNulled (line_of made nodes) (line_of made ms) x u.slot.0 t) → HasPutBack shape made t nodes ms x u
     null_back_put e d = record {
-      put = subst (λ (c : Content). IsPut shape (line_of made nodes) (line_of made ms) x u.slot t c) (sym e)
-          (subst (λ (k : ℕ). IsNulled (line_of made nodes) (line_of made ms) x u.slot t k) ((d made).replaced m.since) (d made).nulled);
+      put = subst (λ (c : Content). IsPut shape (line_of made nodes) (line_of made ms) x u.slot.0 t c) (sym e)
+          (subst (λ (k : ℕ). IsNulled (line_of made nodes) (line_of made ms) x u.slot.0 t k) ((d made).replaced m.since) (d made).nulled);
       kept = kept shape m.kept;
     }
 
@@ -77,23 +79,23 @@ module _ (shape : List TypeShape) (made : ℕ → Bool) (t : ℕ) (nodes : List 
       pub last_z : IsNewest (line_of (λ i. true) nodes) z
       last_z = newest_all made (λ i. true) nodes z newest_z.last
 
-      pub slot_back : (o : Option ℕ) → IfNone o ((shape : List TypeShape) (t : ℕ) → AreKept shape t nodes → AreAllOthers shape (line_of (λ i. true) nodes) z x u.slot) → IsSome o
+      pub slot_back : (o : Option InverseNo) → IfNone o (HasNoOpenSlot nodes z x u.slot.0) → IsSome o
       slot_back (Some k) none = refl
-      slot_back None none = absurd ((m.target y e).room z newest_z (record { others = (none shape t m.kept).others }))
+      slot_back None none = absurd ((m.target y e).room z newest_z (record { others = (none shape t (λ i. true) m.kept).others }))
 
-      module _ (k : ℕ) (o : (shape : List TypeShape) (t : ℕ) → AreKept shape t nodes → IsOpenSlot shape (line_of (λ i. true) nodes) z x u.slot k) where
-        pub open_back : (shape : List TypeShape) × (made : ℕ → Bool) × AreKept shape t nodes × IsLine shape t (line_of made nodes) × IsOpenSlot shape (line_of made nodes) z x u.slot k
-        open_back = (shape, made, m.kept, m.line, (let p = o shape t m.kept in record { below = p.below; free = p.free }))
+      module _ (k : ℕ) (o : HasOpenSlot nodes z x u.slot.0 k) where
+        pub open_back : MayPoint t nodes z x u.slot.0 k
+        open_back = (shape, made, m.kept, m.line, o shape t made m.kept)
 
         pub target_back_put : (ms : List Seen) → ((shape : List TypeShape) → AreKept shape t nodes → AreKept shape t ms)
-            → ((made : ℕ → Bool) → IsFieldPointed (line_of made nodes) (line_of made ms) x u.slot t z k) → HasPutBack shape made t nodes ms x u
+            → ((made : ℕ → Bool) → IsFieldPointed (line_of made nodes) (line_of made ms) x u.slot.0 t z k) → HasPutBack shape made t nodes ms x u
         target_back_put ms kept d = record {
-          put = subst (λ (c : Content). IsPut shape (line_of made nodes) (line_of made ms) x u.slot t c) (sym e) (record {
+          put = subst (λ (c : Content). IsPut shape (line_of made nodes) (line_of made ms) x u.slot.0 t c) (sym e) (record {
             node = z;
             newest = newest_z;
             slot = k;
-            below = (o shape t m.kept).below;
-            pointed = subst (λ (n : ℕ). IsPointed (line_of made nodes) (line_of made ms) x u.slot t z k n) ((d made).replaced m.since) (d made).pointed;
+            below = (o shape t made m.kept).below;
+            pointed = subst (λ (n : ℕ). IsPointed (line_of made nodes) (line_of made ms) x u.slot.0 t z k n) ((d made).replaced m.since) (d made).pointed;
           });
           kept = kept shape m.kept;
         }
@@ -104,7 +106,7 @@ module _ (shape : List TypeShape) (made : ℕ → Bool) (t : ℕ) (nodes : List 
 fits_kind : (s : Stored) (x g : ℕ) (c : Content) → Fits s x g c → (k : Kind) × (field_kind (type_at s.shape (s.line.ty x)) g ≡ Some k)
 fits_kind s x g (Number n) f = (Int, f)
 fits_kind s x g Null f = let p = pointer_kind (field_kind (type_at s.shape (s.line.ty x)) g) f in (Pointer p.0, p.1)
-fits_kind s x g (Target y) f = (Pointer (s.line.ty y), f.1)
+fits_kind s x g (TargetOf y) f = (Pointer (s.line.ty y.0), f.1)
 
 pub some_is : {A : Type 0} (o : Option A) → IsSome o → (a : A) × (o ≡ Some a)
 some_is None k = absurd (false≢true k)
@@ -138,19 +140,19 @@ module _ (s : Held) (ns : List Seen) (t : ℕ) (v : Undo) (es : List Undo) (i : 
     same_ty : (line_in now).ty x ≡ (line_in now).ty v.node.0
     same_ty = (i.stored.line.chained.same x v.node.0 cover_s.there live.there home).1
 
-    kind : (k : Kind) × (field_kind (type_at s.shape ((line_in now).ty x)) v.slot ≡ Some k)
-    kind = let k = fits_kind (stored_of now) v.node.0 v.slot v.content (i.can.entered 0 v (omega arith)).fits in (k.0, ap (λ (u : TypeNo). field_kind (type_at s.shape u) v.slot) same_ty ∙ k.1)
+    kind : (k : Kind) × (field_kind (type_at s.shape ((line_in now).ty x)) v.slot.0 ≡ Some k)
+    kind = let k = fits_kind (stored_of now) v.node.0 v.slot.0 v.content (i.can.entered 0 v (omega arith)).fits in (k.0, ap (λ (u : TypeNo). field_kind (type_at s.shape u) v.slot.0) same_ty ∙ k.1)
 
-    held : (y : ℕ) → v.content ≡ Target y → CanBeHeld s.shape (is_made s.versions s.opened) (length s.versions) ns x v.slot y
+    held : (y : ℕ) → v.content ≡ Target y → CanBeHeld s.shape (is_made s.versions s.opened) (length s.versions) ns x v.slot.0 y
     held y is =
-        let f : IsLive (line_in now) y (length s.versions) × (field_kind (type_at s.shape ((line_in now).ty v.node.0)) v.slot ≡ Some (Pointer ((line_in now).ty y))) = subst (Fits (stored_of now) v.node.0 v.slot) is (i.can.entered 0 v (omega arith)).fits in
+        let f : IsLive (line_in now) y (length s.versions) × (field_kind (type_at s.shape ((line_in now).ty v.node.0)) v.slot.0 ≡ Some (Pointer ((line_in now).ty y))) = subst (Fits (stored_of now) v.node.0 v.slot.0) is (i.can.entered 0 v (omega arith)).fits in
         record {
           live = f.0;
           room = λ z n a.
               let typed : (line_in now).ty z ≡ (line_in now).ty y = (i.stored.line.chained.same z y n.there.covers.there f.0.there n.home).1 in
-              let field : field_kind (type_at s.shape ((line_in now).ty x)) v.slot ≡ Some (Pointer ((line_in now).ty z)) = ap (λ (u : TypeNo). field_kind (type_at s.shape u) v.slot) same_ty ∙ f.1 ∙ ap (λ (u : TypeNo). Some (Pointer u)) (sym typed) in
+              let field : field_kind (type_at s.shape ((line_in now).ty x)) v.slot.0 ≡ Some (Pointer ((line_in now).ty z)) = ap (λ (u : TypeNo). field_kind (type_at s.shape u) v.slot.0) same_ty ∙ f.1 ∙ ap (λ (u : TypeNo). Some (Pointer u)) (sym typed) in
               room_law (stored_of now) i.begun x y z v es i.stored i.can is newest n
-              ((full_law s.shape (length s.versions) (line_in now) x v.slot z i.stored.line newest.there n.there field).1 a.others);
+              ((full_law s.shape (length s.versions) (line_in now) x v.slot.0 z i.stored.line newest.there n.there field).1 a.others);
         }
 
     may_put : MayPutBack s.shape (is_made s.versions s.opened) t ns x v
@@ -158,7 +160,7 @@ module _ (s : Held) (ns : List Seen) (t : ℕ) (v : Undo) (es : List Undo) (i : 
       kept = i.kept;
       line = i.stored.line;
       newest = newest.last;
-      slot = slot_there s.shape (length s.versions) (is_made s.versions s.opened) ns x v.slot i.kept (kind_below (type_at s.shape ((line_in now).ty x)) v.slot kind.0 kind.1);
+      slot = slot_there s.shape (length s.versions) (is_made s.versions s.opened) ns x v.slot.0 i.kept (kind_below (type_at s.shape ((line_in now).ty x)) v.slot.0 kind.0 kind.1);
       since = (i.can.entered 0 v (omega arith)).since x newest.last home;
       target = held;
     })
@@ -291,7 +293,7 @@ module _ (s g : Held) (e : s ≡ g) (h : IsHeld s) (some : IsSome g.opened) (who
       root = stays (length s.versions) s.root h.root;
     }
 
-    below : (p : LinePlace) → IsPlace (stored_of (record s { nodes = ms; undo = us; opened = None })) p → p.stamp < length s.versions
+    below : (p : LinePlace) → IsPlace (stored_of (record s { nodes = ms; undo = us; opened = None })) p → p.stamp.0 < length s.versions
     below p k = elim k [ inl l ↦ l | inr r ↦ absurd (let q : None ≡ Some r.begun = r.opened in cc) ]
 
     undone_s : Undone (state_of (stored_of s)) (state_of (stored_of (record s { nodes = ms; undo = us; opened = None })))
@@ -299,8 +301,8 @@ module _ (s g : Held) (e : s ≡ g) (h : IsHeld s) (some : IsSome g.opened) (who
       shape = u.shape;
       has = u.has;
       back = u.back;
-      heaps = λ p k. u.heaps p k ∙ i.stay.heaps p.stamp (below p k);
-      live = λ p r k l. u.live p r k (inl (below p k), (i.stay.live r.0 p.stamp (let m = below p k in omega (arith, m)) l.1).0);
+      heaps = λ p k. u.heaps p k ∙ i.stay.heaps p.stamp.0 (below p k);
+      live = λ p r k l. u.live p r k (inl (below p k), (i.stay.live r.0 p.stamp.0 (let m = below p k in omega (arith, m)) l.1).0);
       name = λ r. u.name r ∙ i.same.name r.0;
       versions = u.versions;
       closed = u.closed;

@@ -12,7 +12,8 @@ use Rattle.pst_base.specs.Heap.{Rec, Heap, IsWellFormed, with_record, value_set,
 use Rattle.pst_base.proofs.NameLemmas.{name_eq-true, name_eq-same}
 use Rattle.pst_base.proofs.WellFormed.{IsWellFormed-with_value, IsWellFormed-with_pointer}
 use Rattle.pst_line_nodes.specs.declared.content.Content.{Content}
-use Rattle.pst_line_nodes.specs.declared.content.Content.TheVariants.{Number, Null, Target}
+use Rattle.pst_line_nodes.specs.declared.content.Content.TheVariants.{Number, Null, Target as TargetOf}
+use Rattle.pst_line_nodes.specs.Contents.{Target}
 use Rattle.pst_line.specs.Undo.{Mark, put_back, blank, LeadsBack}
 use Rattle.pst_line.proofs.Undo.{back_in, back_is, get_changed, changed_swap, put-twice, there}
 
@@ -26,7 +27,7 @@ widths_of r = (length r.values, length r.pointers)
 abbrev pub IsIn : Content → ℕ → ℕ × ℕ → Type 0
 IsIn (Number v) g w = g < w.0
 IsIn Null g w = (w.0 ≤ g) × (g < w.0 + w.1)
-IsIn (Target y) g w = (w.0 ≤ g) × (g < w.0 + w.1)
+IsIn (TargetOf y) g w = (w.0 ≤ g) × (g < w.0 + w.1)
 
 abbrev pub IsInSome : Content → ℕ → Option (ℕ × ℕ) → Type 0
 IsInSome c g None = ⊤
@@ -70,7 +71,7 @@ module _ (name : ℕ → Name) where
   widths_back : (c : Content) (g : ℕ) (r : Rec) → widths_of (back_in name g c r) ≡ widths_of r
   widths_back (Number v) g r = ap (λ n. (n, length r.pointers)) (length-set r.values g v)
   widths_back Null g r = ap (λ n. (length r.values, n)) (length-set r.pointers (g - length r.values) None)
-  widths_back (Target y) g r = ap (λ n. (length r.values, n)) (length-set r.pointers (g - length r.values) (Some (name y)))
+  widths_back (TargetOf y) g r = ap (λ n. (length r.values, n)) (length-set r.pointers (g - length r.values) (Some (name y.0)))
 
   -- ---- contents of a record
 
@@ -78,13 +79,13 @@ module _ (name : ℕ → Name) where
   over : (c d : Content) (g : ℕ) (r : Rec) → IsIn c g (widths_of r) → IsIn d g (widths_of r) → back_in name g d (back_in name g c r) ≡ back_in name g d r
   over (Number v) (Number u) g r a b = λ i. record { ty = r.ty; values = set-set r.values g v u i; pointers = r.pointers }
   over (Number v) Null g r a b = absurd (omega (arith, a, b.0))
-  over (Number v) (Target z) g r a b = absurd (omega (arith, a, b.0))
+  over (Number v) (TargetOf z) g r a b = absurd (omega (arith, a, b.0))
   over Null (Number u) g r a b = absurd (omega (arith, b, a.0))
-  over (Target y) (Number u) g r a b = absurd (omega (arith, b, a.0))
+  over (TargetOf y) (Number u) g r a b = absurd (omega (arith, b, a.0))
   over Null Null g r a b = λ i. record { ty = r.ty; values = r.values; pointers = set-set r.pointers (g - length r.values) None None i }
-  over Null (Target z) g r a b = λ i. record { ty = r.ty; values = r.values; pointers = set-set r.pointers (g - length r.values) None (Some (name z)) i }
-  over (Target y) Null g r a b = λ i. record { ty = r.ty; values = r.values; pointers = set-set r.pointers (g - length r.values) (Some (name y)) None i }
-  over (Target y) (Target z) g r a b = λ i. record { ty = r.ty; values = r.values; pointers = set-set r.pointers (g - length r.values) (Some (name y)) (Some (name z)) i }
+  over Null (TargetOf z) g r a b = λ i. record { ty = r.ty; values = r.values; pointers = set-set r.pointers (g - length r.values) None (Some (name z.0)) i }
+  over (TargetOf y) Null g r a b = λ i. record { ty = r.ty; values = r.values; pointers = set-set r.pointers (g - length r.values) (Some (name y.0)) None i }
+  over (TargetOf y) (TargetOf z) g r a b = λ i. record { ty = r.ty; values = r.values; pointers = set-set r.pointers (g - length r.values) (Some (name y.0)) (Some (name z.0)) i }
 
   -- contents of two fields may be put in either order
   two_values : (r : Rec) (f g : ℕ) (v u : ℤ) → f ≢ g → value_set (value_set r f v) g u ≡ value_set (value_set r g u) f v
@@ -99,13 +100,13 @@ module _ (name : ℕ → Name) where
   either : (c d : Content) (f g : ℕ) (r : Rec) → IsIn c f (widths_of r) → IsIn d g (widths_of r) → f ≢ g → back_in name g d (back_in name f c r) ≡ back_in name f c (back_in name g d r)
   either (Number v) (Number u) f g r a b ne = two_values r f g v u ne
   either (Number v) Null f g r a b ne = one_each r f g v None
-  either (Number v) (Target z) f g r a b ne = one_each r f g v (Some (name z))
+  either (Number v) (TargetOf z) f g r a b ne = one_each r f g v (Some (name z.0))
   either Null (Number u) f g r a b ne = sym (one_each r g f u None)
-  either (Target y) (Number u) f g r a b ne = sym (one_each r g f u (Some (name y)))
+  either (TargetOf y) (Number u) f g r a b ne = sym (one_each r g f u (Some (name y.0)))
   either Null Null f g r a b ne = two_pointers r f g None None a.0 b.0 ne
-  either Null (Target z) f g r a b ne = two_pointers r f g None (Some (name z)) a.0 b.0 ne
-  either (Target y) Null f g r a b ne = two_pointers r f g (Some (name y)) None a.0 b.0 ne
-  either (Target y) (Target z) f g r a b ne = two_pointers r f g (Some (name y)) (Some (name z)) a.0 b.0 ne
+  either Null (TargetOf z) f g r a b ne = two_pointers r f g None (Some (name z.0)) a.0 b.0 ne
+  either (TargetOf y) Null f g r a b ne = two_pointers r f g (Some (name y.0)) None a.0 b.0 ne
+  either (TargetOf y) (TargetOf z) f g r a b ne = two_pointers r f g (Some (name y.0)) (Some (name z.0)) a.0 b.0 ne
 
   -- ---- contents of a heap
 
@@ -238,7 +239,7 @@ module _ (name : ℕ → Name) where
       by c None s = tt
       by (Number v) (Some w) s = s
       by Null (Some w) s = s
-      by (Target y) (Some w) s = s
+      by (TargetOf y) (Some w) s = s
 
   pub all_suit_blanks : (h : Heap) (ms : List Mark) → AllSuit h ms → AllSuit h (blanks ms)
   all_suit_blanks h [] s = tt
@@ -261,7 +262,7 @@ module _ (name : ℕ → Name) where
         by c None e s = subst (IsWellFormed shape) (sym (back_is name h m.name m.slot (blank c) ∙ ap (changed (back_in name m.slot (blank c)) h m.name) e)) w
         by (Number v) (Some r) e s = IsWellFormed-with_value shape h m.name m.slot v r w e
         by Null (Some r) e s = let i = at_rec h Null m.slot m.name r e s in IsWellFormed-with_pointer shape h m.name m.slot None r w e (record { from = i.0; below = i.1 }) (λ y q. absurd (cc))
-        by (Target z) (Some r) e s = let i = at_rec h (Target z) m.slot m.name r e s in IsWellFormed-with_pointer shape h m.name m.slot None r w e (record { from = i.0; below = i.1 }) (λ y q. absurd (cc))
+        by (TargetOf z) (Some r) e s = let i = at_rec h (Target z.0) m.slot m.name r e s in IsWellFormed-with_pointer shape h m.name m.slot None r w e (record { from = i.0; below = i.1 }) (λ y q. absurd (cc))
 
     pub formed_blanks : (h : Heap) (ms : List Mark) → IsWellFormed shape h → AllSuit h ms → IsWellFormed shape (puts h (blanks ms))
     formed_blanks h [] w s = w

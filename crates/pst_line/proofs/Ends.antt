@@ -33,11 +33,11 @@ kind_below t f (Pointer ty) e = (pointer_field t f ty e).1
 
 -- the open run's place is that of the newest stamp
 pub at_stamp : (g : Held) (at : LinePlace) → IsWritable (stored_of g) at → (r : NodeId) (f : ℕ) (k : Kind) → kind_in g.shape ((state_of (stored_of g)).heap at) ((line_in g).name r.0) f ≡ Some k
-    → kind_in g.shape ((state_of (stored_of g)).heap (record { stamp = length g.versions })) ((line_in g).name r.0) f ≡ Some k
+    → kind_in g.shape ((state_of (stored_of g)).heap (record { stamp = record { 0 = length g.versions } })) ((line_in g).name r.0) f ≡ Some k
 at_stamp g at wr r f k e = subst (λ (n : ℕ). kind_in g.shape (heap_at g.shape (line_in g) n) ((line_in g).name r.0) f ≡ Some k) wr.run.newest e
 
 pub at_stamp_pointer : (g : Held) (at : LinePlace) → IsWritable (stored_of g) at → (r : NodeId) (f : ℕ) → IsPointer (kind_in g.shape ((state_of (stored_of g)).heap at) ((line_in g).name r.0) f)
-    → (k : Kind) × (kind_in g.shape ((state_of (stored_of g)).heap (record { stamp = length g.versions })) ((line_in g).name r.0) f ≡ Some k)
+    → (k : Kind) × (kind_in g.shape ((state_of (stored_of g)).heap (record { stamp = record { 0 = length g.versions } })) ((line_in g).name r.0) f ≡ Some k)
 at_stamp_pointer g at wr r f e = let p = pointer_kind (kind_in g.shape ((state_of (stored_of g)).heap at) ((line_in g).name r.0) f) e in (Pointer p.0, at_stamp g at wr r f (Pointer p.0) p.1)
 
 -- g is the store before, and k that after the write was entered

@@ -79,11 +79,11 @@ module _ (s g : Held) (e : s ≡ g) (h : IsHeld s) (t : ℕ) (t_is : t ≡ lengt
     pub enter_unchanged : (us : List Undo) → Unchanged (state_of (stored_of g)) (state_of (stored_of (record s { nodes = ns; undo = us; failed = true })))
     enter_unchanged us = subst (λ (g : Held). Unchanged (state_of (stored_of g)) (state_of (stored_of (record s { nodes = ns; undo = us; failed = true })))) e (failed_unchanged s h ns carried_s us)
 
-    module _ (r f found x : ℕ) (live : (state_of (stored_of g)).live (record { stamp = length g.versions }) (record { 0 = r }))
-        (kind : (k : Kind) × (kind_in g.shape ((state_of (stored_of g)).heap (record { stamp = length g.versions })) ((line_in g).name r) f ≡ Some k))
+    module _ (r f found x : ℕ) (live : (state_of (stored_of g)).live (record { stamp = record { 0 = length g.versions } }) (record { 0 = r }))
+        (kind : (k : Kind) × (kind_in g.shape ((state_of (stored_of g)).heap (record { stamp = record { 0 = length g.versions } })) ((line_in g).name r) f ≡ Some k))
         (c : Covers (line_of (λ i. true) s.nodes) found t) (home : (line_of (λ i. true) s.nodes).home found ≡ (line_of (λ i. true) s.nodes).home r) (room : HasRoomFor s.shape (line_of (λ i. true) ns) found f t x) (quiet : IsQuiet (line_of (λ i. true) ns) t) where
-      live_s : (state_of (stored_of s)).live (record { stamp = length s.versions }) (record { 0 = r })
-      live_s = subst (λ (g : Held). (state_of (stored_of g)).live (record { stamp = length g.versions }) (record { 0 = r })) (sym e) live
+      live_s : (state_of (stored_of s)).live (record { stamp = record { 0 = length s.versions } }) (record { 0 = r })
+      live_s = subst (λ (g : Held). (state_of (stored_of g)).live (record { stamp = record { 0 = length g.versions } }) (record { 0 = r })) (sym e) live
 
       -- x is of the record of r
       home_x : (line_with s ns).home x ≡ (line_with s ns).home r
@@ -113,13 +113,13 @@ module _ (s g : Held) (e : s ≡ g) (h : IsHeld s) (t : ℕ) (t_is : t ≡ lengt
       pub slot_entered : HasSlot ns x f
       slot_entered =
           let n = cover s.shape (length s.versions) (line_in s) (length s.versions) r h.stored.line live_s.1 in
-          let is = subst (λ (g : Held). kind_in g.shape ((state_of (stored_of g)).heap (record { stamp = length g.versions })) ((line_in g).name r) f ≡ Some kind.0) (sym e) kind.1 in
-          let below = field_there (stored_of s) h.stored (record { stamp = length s.versions }) r n.node live_s n.alive.covers n.home f kind.0 is in
+          let is = subst (λ (g : Held). kind_in g.shape ((state_of (stored_of g)).heap (record { stamp = record { 0 = length g.versions } })) ((line_in g).name r) f ≡ Some kind.0) (sym e) kind.1 in
+          let below = field_there (stored_of s) h.stored (record { stamp = record { 0 = length s.versions } }) r n.node live_s n.alive.covers n.home f kind.0 is in
           let same : (line_with s ns).ty x ≡ (line_in s).ty n.node = (carried_s.line.chained.same x r x_covers.there there_r home_x).1 ∙ carried_s.went.nodes.ty r live_s.1.there ∙ sym n.ty in
           slot_there s.shape (length s.versions) (is_made s.versions s.opened) ns x f kept_s (let q : element_count (type_at s.shape ((line_with s ns).ty x)) ≡ element_count (type_at s.shape ((line_in s).ty n.node)) = ap (λ (u : TypeNo). element_count (type_at s.shape u)) same in omega (arith, q, below))
 
       pub entered : (y : ℕ) → Covers (line_of (λ i. true) ns) y t → (line_of (λ i. true) ns).home y ≡ (line_of (λ i. true) ns).home s.root.0 → (us : List Undo) (content : Content) (first : ℕ) → content ≡ (line_of (λ i. true) ns).holds x f t → first ≡ (line_of (λ i. true) ns).home x
-          → us ≡ with_entry (record { node = record { 0 = first }; slot = f; content = content }) s.undo
+          → us ≡ with_entry (record { node = record { 0 = first }; slot = record { 0 = f }; content = content }) s.undo
           → HasEntered g (record s { nodes = ns; undo = us; failed = true; root = record { 0 = y } }) r f x
       entered y cy hy us content first is home_is all = subst (λ (g : Held). HasEntered g (record s { nodes = ns; undo = us; failed = true; root = record { 0 = y } }) r f x) e (record {
         nodes = ns;
@@ -127,6 +127,6 @@ module _ (s g : Held) (e : s ≡ g) (h : IsHeld s) (t : ℕ) (t_is : t ≡ lengt
         root = record { 0 = y };
         rooted = root_found y cy hy;
         is = ap (λ (us : List Undo). record s { nodes = ns; undo = us; failed = true; root = record { 0 = y } }) (all
-            ∙ ap (λ (n : ℕ). with_entry (record { node = record { 0 = n }; slot = f; content = content }) s.undo) home_is
-            ∙ ap (λ (c : Content). with_entry (record { node = record { 0 = (line_with s ns).home x }; slot = f; content = c }) s.undo) (is ∙ ap ((line_with s ns).holds x f) stamp_is));
+            ∙ ap (λ (n : ℕ). with_entry (record { node = record { 0 = n }; slot = record { 0 = f }; content = content }) s.undo) home_is
+            ∙ ap (λ (c : Content). with_entry (record { node = record { 0 = (line_with s ns).home x }; slot = record { 0 = f }; content = c }) s.undo) (is ∙ ap ((line_with s ns).holds x f) stamp_is));
       })

@@ -16,7 +16,7 @@ use Rattle.pst_base.specs.Heap.{Rec, Heap, IsPointer, IsPointerSlot, with_value,
 use Rattle.pst_base.proofs.NameLemmas.{name_eq-true, name_eq-same}
 use Rattle.pst_base.proofs.Degrees.{get-with_record}
 use Rattle.pst_line_nodes.specs.declared.content.Content.{Content}
-use Rattle.pst_line_nodes.specs.declared.content.Content.TheVariants.{Number, Null, Target}
+use Rattle.pst_line_nodes.specs.declared.content.Content.TheVariants.{Number, Null, Target as TargetOf}
 use Rattle.pst_line_nodes.specs.Line.{Line, IsIn, denoted, number, heap_at, record_at}
 use Rattle.pst_line_nodes.specs.Changes.{IsMade, VersionsStay}
 use Rattle.pst_line_nodes.proofs.HeapLaws.{heap_has}
@@ -52,9 +52,9 @@ behind_values t g (Pointer ty) l e = subst IsPointer (sym e) tt
 pub fits_held : (s : Stored) (x f : ℕ) (k : Kind) → IsStored s → IsIn s.line x (stamp s) → field_kind (type_at s.shape (s.line.ty x)) f ≡ Some k → (c : Content) → s.line.holds x f (stamp s) ≡ c → Fits s x f c
 fits_held s x f k h a e (Number v) q = int_field (type_at s.shape (s.line.ty x)) f (rw q at (h.line.kinds x f (stamp s) (omega arith) a.covers))
 fits_held s x f k h a e Null q = behind_values (type_at s.shape (s.line.ty x)) f k (rw q at (h.line.kinds x f (stamp s) (omega arith) a.covers)) e
-fits_held s x f k h a e (Target y) q =
-    let there = h.line.newest x f y (covers_last s.shape (stamp s) s.line x h.line a.covers) q in
-    (record { there = there.0; made = (h.line.lives x f (stamp s) y (omega arith) a.covers q).1; begun = h.line.first y there.0 }, rw q at (h.line.kinds x f (stamp s) (omega arith) a.covers))
+fits_held s x f k h a e (TargetOf y) q =
+    let there = h.line.newest x f y.0 (covers_last s.shape (stamp s) s.line x h.line a.covers) q in
+    (record { there = there.0; made = (h.line.lives x f (stamp s) y.0 (omega arith) a.covers q).1; begun = h.line.first y.0 there.0 }, rw q at (h.line.kinds x f (stamp s) (omega arith) a.covers))
 
 module _ (s : Stored) (x f : ℕ) (h : IsStored s) (a : IsIn s.line x (stamp s)) where
   shown : get (heap_at s.shape s.line (stamp s)) (s.line.name x) ≡ Some (record_at s.shape s.line x (stamp s))
@@ -78,9 +78,9 @@ module _ (s : Stored) (x f : ℕ) (h : IsStored s) (a : IsIn s.line x (stamp s))
       let below : f < (type_at s.shape (s.line.ty x)).values = value_below (type_at s.shape (s.line.ty x)) f e in
       let behind : (type_at s.shape (s.line.ty x)).values ≤ f = rw q at (h.line.kinds x f (stamp s) (omega arith) a.covers) in
       absurd (omega (arith, below, behind))
-  number_back names v e (Target y) q =
-      let kind : field_kind (type_at s.shape (s.line.ty x)) f ≡ Some (Pointer (s.line.ty y)) = rw q at (h.line.kinds x f (stamp s) (omega arith) a.covers) in
-      absurd (let no : Some Int ≡ Some (Pointer (s.line.ty y)) = sym e ∙ kind in cc)
+  number_back names v e (TargetOf y) q =
+      let kind : field_kind (type_at s.shape (s.line.ty x)) f ≡ Some (Pointer (s.line.ty y.0)) = rw q at (h.line.kinds x f (stamp s) (omega arith) a.covers) in
+      absurd (let no : Some Int ≡ Some (Pointer (s.line.ty y.0)) = sym e ∙ kind in cc)
 
   pub pointer_slot_at : (ty : TypeNo) → field_kind (type_at s.shape (s.line.ty x)) f ≡ Some (Pointer ty) → IsPointerSlot (record_at s.shape s.line x (stamp s)) f
   pointer_slot_at ty e = let at = pointer_field (type_at s.shape (s.line.ty x)) f ty e in record { from = omega (arith, at.0, many_values); below = omega (arith, at.1, many_values, many_pointers) }
@@ -106,7 +106,7 @@ module _ (s : Stored) (x f : ℕ) (h : IsStored s) (a : IsIn s.line x (stamp s))
           let below : f < (type_at s.shape (s.line.ty x)).values = rw q at (h.line.kinds x f (stamp s) (omega arith) a.covers) in
           absurd (let at = pointer_field (type_at s.shape (s.line.ty x)) f ty e in omega (arith, below, at.0))
       put Null q d is back = ap (with_pointer (with_pointer (heap_at s.shape s.line (stamp s)) (s.line.name x) f p) (s.line.name x) f) (sym is) ∙ back
-      put (Target y) q d is back = ap (with_pointer (with_pointer (heap_at s.shape s.line (stamp s)) (s.line.name x) f p) (s.line.name x) f) (d ∙ sym is) ∙ back
+      put (TargetOf y) q d is back = ap (with_pointer (with_pointer (heap_at s.shape s.line (stamp s)) (s.line.name x) f p) (s.line.name x) f) (d ∙ sym is) ∙ back
 
 -- ---- a run begins
 

@@ -9,12 +9,14 @@ use Rattle.pst_base.specs.Heap.{Heap, IsPointer, IsFull, kind_in, kind_from, wit
 use Rattle.pst_places.specs.State.{HasRoom, WritesStay, ValueStored, PointerStored}
 use Rattle.pst_places.proofs.StateLemmas.{WritesStay_trans}
 use Rattle.pst_line_nodes.specs.declared.content.Content.{Content}
-use Rattle.pst_line_nodes.specs.declared.content.Content.TheVariants.{Number, Null, Target}
+use Rattle.pst_line_nodes.specs.declared.content.Content.TheVariants.{Number, Null}
+use Rattle.pst_line_nodes.specs.Contents.{Target}
 use Rattle.pst_line_nodes.specs.Line.{IsLive, IsLine, heap_at, denoted}
 use Rattle.pst_line_nodes.specs.Changes.{IsNumberSet, VersionsStay}
 use Rattle.pst_line_nodes.specs.Seen.{Seen}
 use Rattle.pst_line_nodes.specs.Nodes.{AreKept, IsFieldSet}
 use Rattle.pst_line_nodes.specs.Carried.{IsFieldNulled, IsFieldPointed}
+use Rattle.pst_line_nodes.proofs.Contents.{one_target}
 use Rattle.pst_line_nodes.proofs.RecordLaws.{denoted-names}
 use Rattle.pst_line_nodes.proofs.Writes.{number_law, null_law, point_law}
 use Rattle.pst_line.specs.declared.place.LinePlace.{LinePlace}
@@ -32,8 +34,8 @@ use Rattle.pst_line.proofs.Answered.{type_of_ref}
 use Rattle.pst_line.proofs.Writing.{value_after, pointer_after, carried_stored, carried_unchanged, carried_writes, written_held}
 
 module _ (g : Held) (h : IsHeld g) (at : LinePlace) (wr : IsWritable (stored_of g) at) (r : NodeId) (f : ℕ) (live : (state_of (stored_of g)).live at r) (room : HasRoom (state_of (stored_of g))) (ns : List Seen) (x : ℕ) (m : HasMadeRoom g ns r.0 f x) where
-  there : IsLive (line_with g ns) r.0 at.stamp
-  there = (m.carried.stay.live r.0 at.stamp (omega (arith, wr.run.newest)) live.1).0
+  there : IsLive (line_with g ns) r.0 at.stamp.0
+  there = (m.carried.stay.live r.0 at.stamp.0 (omega (arith, wr.run.newest)) live.1).0
 
   pub same_name : (line_with g ns).name x ≡ (line_in g).name r.0
   same_name = (m.carried.line.chained.same x r.0 m.newest.there.covers.there there.there m.newest.home).0 ∙ m.carried.went.nodes.name r.0 live.1.there
@@ -41,7 +43,7 @@ module _ (g : Held) (h : IsHeld g) (at : LinePlace) (wr : IsWritable (stored_of 
   same_type : (line_with g ns).ty x ≡ (line_in g).ty r.0
   same_type = (m.carried.line.chained.same x r.0 m.newest.there.covers.there there.there m.newest.home).1 ∙ m.carried.went.nodes.ty r.0 live.1.there
 
-  pub field_of : kind_in g.shape (heap_at g.shape (line_in g) at.stamp) ((line_in g).name r.0) f ≡ field_kind (type_at g.shape ((line_with g ns).ty x)) f
+  pub field_of : kind_in g.shape (heap_at g.shape (line_in g) at.stamp.0) ((line_in g).name r.0) f ≡ field_kind (type_at g.shape ((line_with g ns).ty x)) f
   field_of = ap (kind_from g.shape f) (type_of_ref g g refl h r at live) ∙ ap (λ (u : TypeNo). field_kind (type_at g.shape u) f) (sym same_type)
 
   abbrev mid : Stored
@@ -58,7 +60,7 @@ module _ (g : Held) (h : IsHeld g) (at : LinePlace) (wr : IsWritable (stored_of 
 
   -- ---- a number
 
-  module _ (v : ℤ) (ms : List Seen) (kind : kind_in g.shape (heap_at g.shape (line_in g) at.stamp) ((line_in g).name r.0) f ≡ Some Int) (d : IsFieldSet (line_with g ns) (line_with g ms) x f (length g.versions) (Number v)) (kept : AreKept g.shape (length g.versions) ms) where
+  module _ (v : ℤ) (ms : List Seen) (kind : kind_in g.shape (heap_at g.shape (line_in g) at.stamp.0) ((line_in g).name r.0) f ≡ Some Int) (d : IsFieldSet (line_with g ns) (line_with g ms) x f (length g.versions) (Number v)) (kept : AreKept g.shape (length g.versions) ms) where
     field : field_kind (type_at g.shape ((line_with g ns).ty x)) f ≡ Some Int
     field = sym field_of ∙ kind
 
@@ -104,7 +106,7 @@ module _ (g : Held) (h : IsHeld g) (at : LinePlace) (wr : IsWritable (stored_of 
 
   -- ---- null
 
-  module _ (ms : List Seen) (kind : IsPointer (kind_in g.shape (heap_at g.shape (line_in g) at.stamp) ((line_in g).name r.0) f)) (d : IsFieldNulled (line_with g ns) (line_with g ms) x f (length g.versions)) (kept : AreKept g.shape (length g.versions) ms) where
+  module _ (ms : List Seen) (kind : IsPointer (kind_in g.shape (heap_at g.shape (line_in g) at.stamp.0) ((line_in g).name r.0) f)) (d : IsFieldNulled (line_with g ns) (line_with g ms) x f (length g.versions)) (kept : AreKept g.shape (length g.versions) ms) where
     null_field : (ty : TypeNo) × (field_kind (type_at g.shape ((line_with g ns).ty x)) f ≡ Some (Pointer ty))
     null_field = pointer_kind (field_kind (type_at g.shape ((line_with g ns).ty x)) f) (subst IsPointer field_of kind)
 
@@ -134,10 +136,10 @@ module _ (g : Held) (h : IsHeld g) (at : LinePlace) (wr : IsWritable (stored_of 
 
   -- ---- a pointer
 
-  module _ (q : NodeId) (q_live : (state_of (stored_of g)).live at q) (kind : kind_in g.shape (heap_at g.shape (line_in g) at.stamp) ((line_in g).name r.0) f ≡ Some (Pointer ((line_in g).ty q.0)))
-      (roomy : ¬ (IsFull g.shape (heap_at g.shape (line_in g) at.stamp) ((line_in g).name r.0) f (Some ((line_in g).name q.0)))) (z u : ℕ) (n : IsNewestOf (line_with g ns) (length g.versions) q.0 z) where
-    q_there : IsLive (line_with g ns) q.0 at.stamp
-    q_there = (m.carried.stay.live q.0 at.stamp (omega (arith, wr.run.newest)) q_live.1).0
+  module _ (q : NodeId) (q_live : (state_of (stored_of g)).live at q) (kind : kind_in g.shape (heap_at g.shape (line_in g) at.stamp.0) ((line_in g).name r.0) f ≡ Some (Pointer ((line_in g).ty q.0)))
+      (roomy : ¬ (IsFull g.shape (heap_at g.shape (line_in g) at.stamp.0) ((line_in g).name r.0) f (Some ((line_in g).name q.0)))) (z u : ℕ) (n : IsNewestOf (line_with g ns) (length g.versions) q.0 z) where
+    q_there : IsLive (line_with g ns) q.0 at.stamp.0
+    q_there = (m.carried.stay.live q.0 at.stamp.0 (omega (arith, wr.run.newest)) q_live.1).0
 
     q_name : (line_with g ns).name z ≡ (line_in g).name q.0
     q_name = (m.carried.line.chained.same z q.0 n.there.covers.there q_there.there n.home).0 ∙ m.carried.went.nodes.name q.0 q_live.1.there
@@ -170,7 +172,7 @@ module _ (g : Held) (h : IsHeld g) (at : LinePlace) (wr : IsWritable (stored_of 
 
       pub target_held : IsHeld (record g { nodes = ms; undo = with_entry (entry_at g ns x f) g.undo; failed = false; counts = one_pointer g.counts })
       target_held = written_held g h wr.run.begun wr.run.opened wr.whole ns r.0 f x m ms (Target z) d.more (Pointer ((line_with g ns).ty z)) (one_pointer g.counts) target_field d.pointed.set d.replaced target_nodes.0 target_nodes.1 kept
-          (λ y e. let same : z ≡ y = cc in ap (line_with g ns).later (sym same) ∙ n.last.last) target_back target_stored.0 one_more
+          (λ y e. let same : z ≡ y = one_target z y e in ap (line_with g ns).later (sym same) ∙ n.last.last) target_back target_stored.0 one_more
 
       pub target_done : PointerStored (state_of (stored_of g)) at ((line_in g).name r.0) f (Some ((line_in g).name q.0)) (state_of (stored_of (record g { nodes = ms; undo = with_entry (entry_at g ns x f) g.undo; failed = false; counts = one_pointer g.counts })))
           × WritesStay (state_of (stored_of g)) (state_of (stored_of (record g { nodes = ms; undo = with_entry (entry_at g ns x f) g.undo; failed = false; counts = one_pointer g.counts })))

@@ -13,9 +13,10 @@ use Rattle.pst_places.specs.State.{WritesStay, PointerStored}
 use Rattle.pst_places.specs.Store.{MayStorePointer}
 use Rattle.pst_line_nodes.specs.Line.{Covers, IsIn, IsNewest, IsLine, heap_at}
 use Rattle.pst_line_nodes.specs.Full.{is_other_entry}
+use Rattle.pst_line_nodes.specs.declared.content.InverseNo.{InverseNo}
 use Rattle.pst_line_nodes.specs.Seen.{Seen}
 use Rattle.pst_line_nodes.specs.Nodes.{line_of, AreKept}
-use Rattle.pst_line_nodes.specs.Carried.{IsOpenSlot, AreAllOthers, IsFieldPointed}
+use Rattle.pst_line_nodes.specs.Carried.{IsOpenSlot, AreAllOthers, HasOpenSlot, HasNoOpenSlot, MayPoint, IsFieldPointed}
 use Rattle.pst_line_nodes.proofs.Copy.{covers_last}
 use Rattle.pst_line_nodes.proofs.Degree.{full_law}
 use Rattle.pst_line.specs.declared.place.LinePlace.{LinePlace}
@@ -31,7 +32,7 @@ use Rattle.pst_line.proofs.Roots.{stay_same, root_anew}
 use Rattle.pst_line.proofs.Fields.{still_roomy, target_field, target_held, target_done}
 
 -- what a pointer write may be asked for: the field's kind is that of a pointer to the target's type
-pub kind_of : (g : Held) → IsHeld g → (at : LinePlace) (r : NodeId) (f : ℕ) (q : NodeId) → MayStorePointer (state_of (stored_of g)) at r f (Some q) → kind_in g.shape (heap_at g.shape (line_in g) at.stamp) ((line_in g).name r.0) f ≡ Some (Pointer ((line_in g).ty q.0))
+pub kind_of : (g : Held) → IsHeld g → (at : LinePlace) (r : NodeId) (f : ℕ) (q : NodeId) → MayStorePointer (state_of (stored_of g)) at r f (Some q) → kind_in g.shape (heap_at g.shape (line_in g) at.stamp.0) ((line_in g).name r.0) f ≡ Some (Pointer ((line_in g).ty q.0))
 kind_of g h at r f q may = may.fits.1 ∙ ap (option_map Pointer) (type_of_ref g g refl h q at may.target_live)
 
 -- ---- whether there is room
@@ -62,12 +63,12 @@ module _ (s : Held) (h : IsHeld s) (at : LinePlace) (r : NodeId) (f : ℕ) (q : 
       ∙ ap (λ n. IsFull s.shape (heap_at s.shape (line_in s) (length s.versions)) ((line_in s).name r.0) f (Some n)) same_q.0
       ∙ ap (λ n. IsFull s.shape (heap_at s.shape (line_in s) n) ((line_in s).name r.0) f (Some ((line_in s).name q.0))) (sym may.writable.run.newest)
 
-  pub room_is : (o : Option ℕ) → IfSome o (λ u. (shape : List TypeShape) (t : ℕ) → AreKept shape t s.nodes → IsOpenSlot shape (line_of (λ i. true) s.nodes) z x f u)
-      → IfNone o ((shape : List TypeShape) (t : ℕ) → AreKept shape t s.nodes → AreAllOthers shape (line_of (λ i. true) s.nodes) z x f) → IsTrue (is_some o) ↔ ¬ (HasNoRoom s at r f q)
-  room_is None some none = ((λ t. absurd (false≢true t)), λ no. absurd (no (subst (λ (A : Type 0). A) there (full.1 (none s.shape (length s.versions) h.kept).others))))
+  pub room_is : (o : Option InverseNo) → IfSome o (λ u. HasOpenSlot s.nodes z x f u.0)
+      → IfNone o (HasNoOpenSlot s.nodes z x f) → IsTrue (is_some o) ↔ ¬ (HasNoRoom s at r f q)
+  room_is None some none = ((λ t. absurd (false≢true t)), λ no. absurd (no (subst (λ (A : Type 0). A) there (full.1 (none s.shape (length s.versions) (λ i. true) h.kept).others))))
   room_is (Some u) some none =
-      let o = some s.shape (length s.versions) h.kept in
-      ((λ t k. false≢true (sym o.free ∙ full.0 (subst (λ (A : Type 0). A) (sym there) k) u o.below)), λ no. refl)
+      let o = some s.shape (length s.versions) (λ i. true) h.kept in
+      ((λ t k. false≢true (sym o.free ∙ full.0 (subst (λ (A : Type 0). A) (sym there) k) u.0 o.below)), λ no. refl)
 
 -- ---- a pointer is written
 
@@ -100,28 +101,27 @@ module _ (k n g : Held) (e : k ≡ n) (h : IsHeld g) (at : LinePlace) (r : NodeI
   kept_k = subst (λ (ns : List Seen). AreKept g.shape t ns) (sym nodes_are) (subst (λ (t : ℕ). AreKept g.shape t en.nodes) (sym t_is) en.room.kept)
 
   -- an inverse slot is free
-  pub some_slot : (o : Option ℕ) → IfNone o ((shape : List TypeShape) (t : ℕ) → AreKept shape t k.nodes → AreAllOthers shape (line_of (λ i. true) k.nodes) z x f) → IsSome o
+  pub some_slot : (o : Option InverseNo) → IfNone o (HasNoOpenSlot k.nodes z x f) → IsSome o
   some_slot (Some u) none = refl
   some_slot None none =
-      let others = subst (λ (ns : List Seen). AreAllOthers g.shape (line_of (λ i. true) ns) z x f) nodes_are (none g.shape t kept_k) in
+      let others = subst (λ (ns : List Seen). AreAllOthers g.shape (line_of (λ i. true) ns) z x f) nodes_are (none g.shape t (λ i. true) kept_k) in
       let field = target_field g h at may.writable r f may.live may.room en.nodes x en.room q may.target_live (kind_of g h at r f q may) roomy z 0 newest_z in
       absurd (still_roomy g h at may.writable r f may.live may.room en.nodes x en.room q may.target_live (kind_of g h at r f q may) roomy z 0 newest_z
       ((full_law g.shape (length g.versions) (line_with g en.nodes) x f z en.room.carried.line en.room.newest.there newest_z.there field).1 others.others))
 
-  pub open_line : (u : ℕ) → ((shape : List TypeShape) (t : ℕ) → AreKept shape t k.nodes → IsOpenSlot shape (line_of (λ i. true) k.nodes) z x f u)
-      → (shape : List TypeShape) × (made : ℕ → Bool) × AreKept shape t k.nodes × IsLine shape t (line_of made k.nodes) × IsOpenSlot shape (line_of made k.nodes) z x f u
+  pub open_line : (u : ℕ) → HasOpenSlot k.nodes z x f u → MayPoint t k.nodes z x f u
   open_line u o = (
     g.shape,
     is_made g.versions g.opened,
     kept_k,
     subst (λ (ns : List Seen). IsLine g.shape t (line_with g ns)) (sym nodes_are) (subst (λ (t : ℕ). IsLine g.shape t (line_with g en.nodes)) (sym t_is) en.room.carried.line),
-    (let p = o g.shape t kept_k in record { below = p.below; free = p.free }),
+    o g.shape t (is_made g.versions g.opened) kept_k,
   )
 
-  module _ (u : ℕ) (o : (shape : List TypeShape) (t : ℕ) → AreKept shape t k.nodes → IsOpenSlot shape (line_of (λ i. true) k.nodes) z x f u) (ms : List Seen) (kept : (shape : List TypeShape) → AreKept shape t k.nodes → AreKept shape t ms)
+  module _ (u : ℕ) (o : HasOpenSlot k.nodes z x f u) (ms : List Seen) (kept : (shape : List TypeShape) → AreKept shape t k.nodes → AreKept shape t ms)
       (d : (made : ℕ → Bool) → IsFieldPointed (line_of made k.nodes) (line_of made ms) x f t z u) where
     below_u : u < (type_at g.shape ((line_with g en.nodes).ty z)).limit
-    below_u = (subst (λ (ns : List Seen). IsOpenSlot g.shape (line_of (λ i. true) ns) z x f u) nodes_are (o g.shape t kept_k)).below
+    below_u = (subst (λ (ns : List Seen). IsOpenSlot g.shape (line_of (λ i. true) ns) z x f u) nodes_are (o g.shape t (λ i. true) kept_k)).below
 
     kept_m : AreKept g.shape (length g.versions) ms
     kept_m = subst (λ (t : ℕ). AreKept g.shape t ms) t_is (kept g.shape kept_k)
@@ -142,8 +142,8 @@ module _ (k n g : Held) (e : k ≡ n) (h : IsHeld g) (at : LinePlace) (r : NodeI
 pub room_seen : (s g : Held) → s ≡ g → IsHeld s → (at : LinePlace) (r : NodeId) (f : ℕ) (q : NodeId) → MayStorePointer (state_of (stored_of g)) at r f (Some q) → (t : ℕ) → t ≡ length g.versions → (x z : ℕ)
     → Covers (line_of (λ i. true) s.nodes) x t → (line_of (λ i. true) s.nodes).home x ≡ (line_of (λ i. true) s.nodes).home r.0
     → Covers (line_of (λ i. true) s.nodes) z t → (line_of (λ i. true) s.nodes).home z ≡ (line_of (λ i. true) s.nodes).home q.0
-    → (o : Option ℕ) → IfSome o (λ u. (shape : List TypeShape) (t : ℕ) → AreKept shape t s.nodes → IsOpenSlot shape (line_of (λ i. true) s.nodes) z x f u)
-    → IfNone o ((shape : List TypeShape) (t : ℕ) → AreKept shape t s.nodes → AreAllOthers shape (line_of (λ i. true) s.nodes) z x f) → (b : Bool) → b ≡ is_some o → IsTrue b ↔ ¬ (HasNoRoom g at r f q)
+    → (o : Option InverseNo) → IfSome o (λ u. HasOpenSlot s.nodes z x f u.0)
+    → IfNone o (HasNoOpenSlot s.nodes z x f) → (b : Bool) → b ≡ is_some o → IsTrue b ↔ ¬ (HasNoRoom g at r f q)
 room_seen s g e h at r f q may t t_is x z cx hx cz hz o some none b is =
     let may_s = subst (λ (g : Held). MayStorePointer (state_of (stored_of g)) at r f (Some q)) (sym e) may in
     let n : t ≡ length s.versions = t_is ∙ ap (λ (g : Held). length g.versions) (sym e) in

@@ -42,17 +42,17 @@ appended (e ∷ es) k v n = elim (same_key k e.0) as (λ b. is_some (cond b (Som
 
 -- us is what is seen of the map with the entries es
 module _ (es : List ((ℕ × ℕ) × Content)) (us : List Undo) (view : reverse (entries_in es) ≡ us) where
-  module _ (u : Undo) (b : Bool) (is : b ≡ is_some (lookup (same_key (u.node.0, u.slot)) es)) where
-    noted : is_noted us (u.node.0, u.slot) ≡ b
-    noted = ap (λ us. is_noted us (u.node.0, u.slot)) (sym view) ∙ any_reverse (is_of (u.node.0, u.slot)) (entries_in es) ∙ noted_by_key (u.node.0, u.slot) es ∙ sym is
+  module _ (u : Undo) (b : Bool) (is : b ≡ is_some (lookup (same_key (u.node.0, u.slot.0)) es)) where
+    noted : is_noted us (u.node.0, u.slot.0) ≡ b
+    noted = ap (λ us. is_noted us (u.node.0, u.slot.0)) (sym view) ∙ any_reverse (is_of (u.node.0, u.slot.0)) (entries_in es) ∙ noted_by_key (u.node.0, u.slot.0) es ∙ sym is
 
     pub noted_before : b ≡ true → us ≡ with_entry u us
     noted_before n = sym (ap (λ c. if c then us else u ∷ us) (noted ∙ n))
 
-    pub noted_now : b ≡ false → (fs : List ((ℕ × ℕ) × Content)) → fs ≡ insert_entry same_key es (u.node.0, u.slot) u.content → reverse (entries_in fs) ≡ with_entry u us
+    pub noted_now : b ≡ false → (fs : List ((ℕ × ℕ) × Content)) → fs ≡ insert_entry same_key es (u.node.0, u.slot.0) u.content → reverse (entries_in fs) ≡ with_entry u us
     noted_now n fs e =
-        ap (λ fs. reverse (entries_in fs)) (e ∙ appended es (u.node.0, u.slot) u.content (sym is ∙ n))
-        ∙ ap reverse (map-append entry_in es (((u.node.0, u.slot), u.content) ∷ [])) ∙ reverse-append (entries_in es) (u ∷ []) ∙ ap (λ us. u ∷ us) view
+        ap (λ fs. reverse (entries_in fs)) (e ∙ appended es (u.node.0, u.slot.0) u.content (sym is ∙ n))
+        ∙ ap reverse (map-append entry_in es (((u.node.0, u.slot.0), u.content) ∷ [])) ∙ reverse-append (entries_in es) (u ∷ []) ∙ ap (λ us. u ∷ us) view
         ∙ sym (ap (λ c. if c then us else u ∷ us) (noted ∙ n))
 
   pub long : length es ≡ length us

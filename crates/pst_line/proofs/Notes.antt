@@ -13,7 +13,7 @@ use Rattle.pst_base.specs.declared.names.Counts.{Counts}
 use Rattle.pst_base.specs.Shape.{type_at, field_kind}
 use Rattle.pst_base.specs.Heap.{IsWellFormed, IsPointer}
 use Rattle.pst_line_nodes.specs.declared.content.Content.{Content}
-use Rattle.pst_line_nodes.specs.declared.content.Content.TheVariants.{Number, Null, Target}
+use Rattle.pst_line_nodes.specs.declared.content.Content.TheVariants.{Number, Null, Target as TargetOf}
 use Rattle.pst_line_nodes.specs.Line.{Line, IsLine, heap_at, record_at, number, denoted}
 use Rattle.pst_line_nodes.specs.Changes.{VersionsStay}
 use Rattle.pst_line_nodes.specs.Carried.{Went}
@@ -41,10 +41,10 @@ and_parts false b e = absurd (false≢true e)
 pub entered_blank : (s : Stored) (u : Undo) → IsEntered s u → IsEntered s (blanked u)
 entered_blank s u e = record { live = e.live; home = e.home; fits = by u.content e.fits; since = e.since }
   where
-    by : (c : Content) → Fits s u.node.0 u.slot c → Fits s u.node.0 u.slot (blank c)
+    by : (c : Content) → Fits s u.node.0 u.slot.0 c → Fits s u.node.0 u.slot.0 (blank c)
     by (Number v) f = f
     by Null f = f
-    by (Target y) f = subst IsPointer (sym f.1) tt
+    by (TargetOf y) f = subst IsPointer (sym f.1) tt
 
 pub all_plan : (s : Stored) (es : List Undo) → All (IsEntered s) es → All (IsEntered s) (plan es)
 all_plan s es a = All-append (IsEntered s) (map blanked es) es (All-map (IsEntered s) blanked es (λ k d m. entered_blank s _ (a k d m))) a
@@ -73,10 +73,10 @@ module _ (s : Stored) (line : IsLine s.shape (stamp s) s.line) where
   is_in : (x g : ℕ) (c : Content) → Fits s x g c → IsIn c g ((type_at s.shape (s.line.ty x)).values, length (type_at s.shape (s.line.ty x)).targets)
   is_in x g (Number v) f = value_below (type_at s.shape (s.line.ty x)) g f
   is_in x g Null f = let k = pointer_kind (field_kind (type_at s.shape (s.line.ty x)) g) f in pointer_field (type_at s.shape (s.line.ty x)) g k.0 k.1
-  is_in x g (Target y) f = pointer_field (type_at s.shape (s.line.ty x)) g (s.line.ty y) f.1
+  is_in x g (TargetOf y) f = pointer_field (type_at s.shape (s.line.ty x)) g (s.line.ty y.0) f.1
 
   pub suits : (u : Undo) → IsEntered s u → Suits (heap_at s.shape s.line (stamp s)) (mark_of s.line.name u)
-  suits u e = subst (IsInSome u.content u.slot) (sym (widths_at u e)) (is_in u.node.0 u.slot u.content e.fits)
+  suits u e = subst (IsInSome u.content u.slot.0) (sym (widths_at u e)) (is_in u.node.0 u.slot.0 u.content e.fits)
 
   pub all_suit : (es : List Undo) → All (IsEntered s) es → AllSuit (heap_at s.shape s.line (stamp s)) (map (mark_of s.line.name) es)
   all_suit [] a = tt
@@ -88,26 +88,26 @@ module _ (s : Stored) (line : IsLine s.shape (stamp s) s.line) where
 
   -- ---- whether a field is noted
 
-  is_of_same : (u v : Undo) → v.node.0 ≡ u.node.0 → v.slot ≡ u.slot → is_of (v.node.0, v.slot) u ≡ true
-  is_of_same u v n f = ap (λ b. b && (v.slot == u.slot)) (eq-eqb v.node.0 u.node.0 n) ∙ eq-eqb v.slot u.slot f
+  is_of_same : (u v : Undo) → v.node.0 ≡ u.node.0 → v.slot.0 ≡ u.slot.0 → is_of (v.node.0, v.slot.0) u ≡ true
+  is_of_same u v n f = ap (λ b. b && (v.slot.0 == u.slot.0)) (eq-eqb v.node.0 u.node.0 n) ∙ eq-eqb v.slot.0 u.slot.0 f
 
-  pub none_apart : (v : Undo) (es : List Undo) → IsEntered s v → All (IsEntered s) es → is_noted es (v.node.0, v.slot) ≡ false → AreApart (mark_of s.line.name v) (map (mark_of s.line.name) es)
+  pub none_apart : (v : Undo) (es : List Undo) → IsEntered s v → All (IsEntered s) es → is_noted es (v.node.0, v.slot.0) ≡ false → AreApart (mark_of s.line.name v) (map (mark_of s.line.name) es)
   none_apart v [] e a n = tt
   none_apart v (u ∷ es) e a n = (
-    λ m f. false≢true (sym ((or_parts (is_of (v.node.0, v.slot) u) (is_noted es (v.node.0, v.slot)) n).0) ∙ is_of_same u v (same_node v u e (a 0 u (omega arith)) m) f),
-    none_apart v es e (λ k d m. a (suc k) d (omega arith)) (or_parts (is_of (v.node.0, v.slot) u) (is_noted es (v.node.0, v.slot)) n).1,
+    λ m f. false≢true (sym ((or_parts (is_of (v.node.0, v.slot.0) u) (is_noted es (v.node.0, v.slot.0)) n).0) ∙ is_of_same u v (same_node v u e (a 0 u (omega arith)) m) f),
+    none_apart v es e (λ k d m. a (suc k) d (omega arith)) (or_parts (is_of (v.node.0, v.slot.0) u) (is_noted es (v.node.0, v.slot.0)) n).1,
   )
 
-pub some_among : (name : ℕ → Name) (v : Undo) (es : List Undo) → is_noted es (v.node.0, v.slot) ≡ true → AreAmong (mark_of name v) (map (mark_of name) es)
+pub some_among : (name : ℕ → Name) (v : Undo) (es : List Undo) → is_noted es (v.node.0, v.slot.0) ≡ true → AreAmong (mark_of name v) (map (mark_of name) es)
 some_among name v [] n = absurd (false≢true n)
 some_among name v (u ∷ es) n = ⊎_elim
-    (λ (t : is_of (v.node.0, v.slot) u ≡ true). let e = and_parts (v.node.0 == u.node.0) (v.slot == u.slot) t in inl (ap name (eqb-true v.node.0 u.node.0 e.0), eqb-true v.slot u.slot e.1))
-    (λ (t : is_of (v.node.0, v.slot) u ≡ false). inr (some_among name v es (sym (ap (λ b. b || is_noted es (v.node.0, v.slot)) t) ∙ n)))
-    (cases_Bool (is_of (v.node.0, v.slot) u))
+    (λ (t : is_of (v.node.0, v.slot.0) u ≡ true). let e = and_parts (v.node.0 == u.node.0) (v.slot.0 == u.slot.0) t in inl (ap name (eqb-true v.node.0 u.node.0 e.0), eqb-true v.slot.0 u.slot.0 e.1))
+    (λ (t : is_of (v.node.0, v.slot.0) u ≡ false). inr (some_among name v es (sym (ap (λ b. b || is_noted es (v.node.0, v.slot.0)) t) ∙ n)))
+    (cases_Bool (is_of (v.node.0, v.slot.0) u))
 
 -- each field is noted once
 pub once_more : (v : Undo) (us : List Undo) → IsOnce us → IsOnce (with_entry v us)
-once_more v us d = elim (is_noted us (v.node.0, v.slot)) as (λ b. is_noted us (v.node.0, v.slot) ≡ b → IsOnce (if b then us else v ∷ us)) [ true ↦ λ e. d | false ↦ λ e. (e, d) ] refl
+once_more v us d = elim (is_noted us (v.node.0, v.slot.0)) as (λ b. is_noted us (v.node.0, v.slot.0) ≡ b → IsOnce (if b then us else v ∷ us)) [ true ↦ λ e. d | false ↦ λ e. (e, d) ] refl
 
 -- ---- the plan
 
@@ -122,7 +122,7 @@ marks_plan name es = map-append (mark_of name) (map blanked es) es ∙ ap (λ (m
 -- else by one more.
 module _ (s : Stored) (w : Line) (c : Counts) (b : ℕ) (went : Went s.line w (stamp s)) (stay : VersionsStay s.shape (stamp s) s.line w) (es : List Undo) (u : CanUndo s b (plan es)) (v : Undo)
     (line : IsLine s.shape (stamp s) w) (i : IsEntered (after s w c) v) (formed : IsWellFormed s.shape (heap_at s.shape w (stamp s))) (was : IsWellFormed s.shape (heap_at s.shape s.line (stamp s)))
-    (back : put_back w.name (heap_at s.shape w (stamp s)) (w.name v.node.0) v.slot v.content ≡ heap_at s.shape s.line (stamp s)) where
+    (back : put_back w.name (heap_at s.shape w (stamp s)) (w.name v.node.0) v.slot.0 v.content ≡ heap_at s.shape s.line (stamp s)) where
   all : All (IsEntered (after s w c)) es
   all k d m = entered_after s w c went.nodes stay _ (entered_plan s es u.entered k d m)
 
@@ -136,7 +136,7 @@ module _ (s : Stored) (w : Line) (c : Counts) (b : ℕ) (went : Went s.line w (s
   leads = subst (LeadsBack s.shape w.name u.base (blanks ms ++ ms)) (sym back)
       (subst (λ (ks : List Mark). LeadsBack s.shape w.name u.base ks (heap_at s.shape s.line (stamp s))) (marks_plan w.name es) (leads_after s w c b went stay (plan es) u))
 
-  can_again : is_noted es (v.node.0, v.slot) ≡ true → CanUndo (after s w c) b (plan es)
+  can_again : is_noted es (v.node.0, v.slot.0) ≡ true → CanUndo (after s w c) b (plan es)
   can_again n = with_leads s w c b went stay (plan es) u (plan es)
       (subst (λ (ks : List Mark). LeadsBack s.shape w.name u.base ks (heap_at s.shape w (stamp s))) (sym (marks_plan w.name es))
       (leads_again w.name s.shape u.base (heap_at s.shape w (stamp s)) (mark_of w.name v) ms formed was_back (suits (after s w c) line v i) (all_suit (after s w c) line es all) leads (some_among w.name v es n)))
@@ -146,7 +146,7 @@ module _ (s : Stored) (w : Line) (c : Counts) (b : ℕ) (went : Went s.line w (s
   all_more zero d m = i
   all_more (suc k) d m = all k d (omega arith)
 
-  can_more : is_noted es (v.node.0, v.slot) ≡ false → CanUndo (after s w c) b (plan (v ∷ es))
+  can_more : is_noted es (v.node.0, v.slot.0) ≡ false → CanUndo (after s w c) b (plan (v ∷ es))
   can_more n = with_leads s w c b went stay (plan es) u (plan (v ∷ es))
       (subst (λ (ks : List Mark). LeadsBack s.shape w.name u.base ks (heap_at s.shape w (stamp s))) (sym (marks_plan w.name (v ∷ es)))
       (leads_more w.name s.shape u.base (heap_at s.shape w (stamp s)) (mark_of w.name v) ms formed was_back (suits (after s w c) line v i) (all_suit (after s w c) line es all) leads
@@ -154,7 +154,7 @@ module _ (s : Stored) (w : Line) (c : Counts) (b : ℕ) (went : Went s.line w (s
       (all_plan (after s w c) (v ∷ es) all_more)
 
   pub can_undo_written : CanUndo (after s w c) b (plan (with_entry v es))
-  can_undo_written = elim (is_noted es (v.node.0, v.slot)) as (λ t. is_noted es (v.node.0, v.slot) ≡ t → CanUndo (after s w c) b (plan (if t then es else v ∷ es))) [
+  can_undo_written = elim (is_noted es (v.node.0, v.slot.0)) as (λ t. is_noted es (v.node.0, v.slot.0) ≡ t → CanUndo (after s w c) b (plan (if t then es else v ∷ es))) [
     | true ↦ λ e. can_again e
     | false ↦ λ e. can_more e
   ] refl

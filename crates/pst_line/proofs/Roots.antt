@@ -79,17 +79,17 @@ root_anew h k i r = record {
 -- ---- it has the root record's name, and is live
 
 module _ (s g : Held) (e : s ≡ g) (h : IsHeld s) (at : LinePlace) (p : (state_of (stored_of g)).has at) where
-  named : (i : NodeId) → IsRootAt s.nodes at.stamp i → (state_of (stored_of g)).name i ≡ root_name
+  named : (i : NodeId) → IsRootAt s.nodes at.stamp.0 i → (state_of (stored_of g)).name i ≡ root_name
   named i r = let o = h.stored.line.root in
       subst (λ (g : Held). (state_of (stored_of g)).name i ≡ root_name) e ((h.stored.line.chained.same i.0 0 r.there o.0 (r.home ∙ sym o.1)).0 ∙ o.3)
 
-  lives : (i : NodeId) → IsRootAt s.nodes at.stamp i → (state_of (stored_of g)).live at i
+  lives : (i : NodeId) → IsRootAt s.nodes at.stamp.0 i → (state_of (stored_of g)).live at i
   lives i r = let o = h.stored.line.root in
-      (p, subst (λ (g : Held). IsLive (line_in g) i.0 at.stamp) e (record { there = r.there; made = (h.stored.line.chained.same i.0 0 r.there o.0 (r.home ∙ sym o.1)).2 ∙ o.5; begun = r.begun }))
+      (p, subst (λ (g : Held). IsLive (line_in g) i.0 at.stamp.0) e (record { there = r.there; made = (h.stored.line.chained.same i.0 0 r.there o.0 (r.home ∙ sym o.1)).2 ∙ o.5; begun = r.begun }))
 
   module _ (vs : List Stretch) (vs_is : vs ≡ s.versions) where
-    module _ (past : length vs ≤ at.stamp) where
-      of_run : IsRootAt s.nodes at.stamp s.root
+    module _ (past : length vs ≤ at.stamp.0) where
+      of_run : IsRootAt s.nodes at.stamp.0 s.root
       of_run = elim (subst (λ (g : Held). IsPlace (stored_of g) at) (sym e) p) [
         | inl a ↦ absurd (let n : length vs ≡ length s.versions = ap length vs_is in omega (arith, a, n, past))
         | inr r ↦ subst (λ (n : ℕ). IsRootAt s.nodes n s.root) (sym r.newest) h.root
@@ -101,11 +101,11 @@ module _ (s g : Held) (e : s ≡ g) (h : IsHeld s) (at : LinePlace) (p : (state_
       pub run_root_lives : (state_of (stored_of g)).live at s.root
       run_root_lives = lives s.root of_run
 
-    module _ (x : Stretch) (l : at.stamp < length vs) (x_is : x ≡ get_or vs at.stamp x) where
-      of_version : IsRootAt s.nodes at.stamp x.root
+    module _ (x : Stretch) (l : at.stamp.0 < length vs) (x_is : x ≡ get_or vs at.stamp.0 x) where
+      of_version : IsRootAt s.nodes at.stamp.0 x.root
       of_version =
-          let there : slice_get s.versions at.stamp ≡ Some x = ap (λ (vs : List Stretch). slice_get vs at.stamp) (sym vs_is) ∙ slice_get-get_or vs at.stamp x l ∙ ap (λ (x : Stretch). Some x) (sym x_is) in
-          subst (λ (n : ℕ). IsRootAt s.nodes n x.root) (let e : 0 + at.stamp ≡ at.stamp = omega arith in e) (root_of_version s.nodes 0 s.versions at.stamp x h.roots there)
+          let there : slice_get s.versions at.stamp.0 ≡ Some x = ap (λ (vs : List Stretch). slice_get vs at.stamp.0) (sym vs_is) ∙ slice_get-get_or vs at.stamp.0 x l ∙ ap (λ (x : Stretch). Some x) (sym x_is) in
+          subst (λ (n : ℕ). IsRootAt s.nodes n x.root) (let e : 0 + at.stamp.0 ≡ at.stamp.0 = omega arith in e) (root_of_version s.nodes 0 s.versions at.stamp.0 x h.roots there)
 
       pub version_root_named : (state_of (stored_of g)).name x.root ≡ root_name
       version_root_named = named x.root of_version

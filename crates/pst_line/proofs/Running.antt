@@ -4,7 +4,7 @@ use Rattle.std.proofs.lemmas.Bool.{cases_lt, false≢true}
 use Rattle.pst_base.specs.declared.names.NodeId.{NodeId}
 use Rattle.pst_base.specs.declared.names.RunNo.{RunNo}
 use Rattle.pst_base.specs.declared.shape.TypeShape.{TypeShape}
-use Rattle.pst_line_nodes.specs.declared.content.Stamp.{Stamp}
+use Rattle.pst_line_nodes.specs.declared.content.StampedContent.{StampedContent}
 use Rattle.pst_line_nodes.specs.Line.{Line}
 use Rattle.pst_line_nodes.specs.Seen.{Seen}
 use Rattle.pst_line_nodes.specs.Rows.{AreRising}
@@ -46,7 +46,7 @@ module _ (s g : Held) (e : s ≡ g) (h : IsHeld s) (none : g.opened ≡ None) wh
   begun_line = same_line (is_made s.versions (Some (length s.nodes))) (is_made s.versions s.opened) s.nodes
       (λ i. ap (λ b. in_stretch s.versions ((line_in s).home i) || b) (run_none (length s.nodes) ((line_in s).home i) (home_below s h i) ∙ sym (ap (λ o. in_run o ((line_in s).home i)) was_none)))
 
-  law : IsStored (record (stored_of s) { opened = Some (length s.nodes) }) × IsRested (record (stored_of s) { opened = Some (length s.nodes) }) × Began (state_of (stored_of s)) (state_of (record (stored_of s) { opened = Some (length s.nodes) })) (record { stamp = length s.versions })
+  law : IsStored (record (stored_of s) { opened = Some (length s.nodes) }) × IsRested (record (stored_of s) { opened = Some (length s.nodes) }) × Began (state_of (stored_of s)) (state_of (record (stored_of s) { opened = Some (length s.nodes) })) (record { stamp = record { 0 = length s.versions } })
   law = begin_law (stored_of s) h.stored (h.closed (ap (λ (g : Held). g.opened) e ∙ none)) (h.whole (ap (λ (g : Held). g.opened) e ∙ none)) h.some
 
   to_line : (P : Stored → Type 0) → P (record (stored_of s) { opened = Some (length s.nodes) }) → P (stored_of (record s { opened = Some (length s.nodes) }))
@@ -75,16 +75,16 @@ module _ (s g : Held) (e : s ≡ g) (h : IsHeld s) (none : g.opened ≡ None) wh
   pub begun_held : (k : ℕ) → k ≡ length s.nodes → IsHeld (record s { opened = Some k })
   begun_held k is = subst (λ (k : ℕ). IsHeld (record s { opened = Some k })) (sym is) held_begun
 
-  pub begun_done : (k : ℕ) → k ≡ length s.nodes → (n : ℕ) → n ≡ length s.versions → Began (state_of (stored_of g)) (state_of (stored_of (record s { opened = Some k }))) (record { stamp = n })
+  pub begun_done : (k : ℕ) → k ≡ length s.nodes → (n : ℕ) → n ≡ length s.versions → Began (state_of (stored_of g)) (state_of (stored_of (record s { opened = Some k }))) (record { stamp = record { 0 = n } })
   begun_done k k_is n is =
-      subst (λ (k : ℕ). Began (state_of (stored_of g)) (state_of (stored_of (record s { opened = Some k }))) (record { stamp = n })) (sym k_is)
-      (subst (λ (n : ℕ). Began (state_of (stored_of g)) (state_of (stored_of (record s { opened = Some (length s.nodes) }))) (record { stamp = n })) (sym is)
-      (subst (λ (g : Held). Began (state_of (stored_of g)) (state_of (stored_of (record s { opened = Some (length s.nodes) }))) (record { stamp = length s.versions })) e
-      (to_line (λ t. Began (state_of (stored_of s)) (state_of t) (record { stamp = length s.versions })) law.2)))
+      subst (λ (k : ℕ). Began (state_of (stored_of g)) (state_of (stored_of (record s { opened = Some k }))) (record { stamp = record { 0 = n } })) (sym k_is)
+      (subst (λ (n : ℕ). Began (state_of (stored_of g)) (state_of (stored_of (record s { opened = Some (length s.nodes) }))) (record { stamp = record { 0 = n } })) (sym is)
+      (subst (λ (g : Held). Began (state_of (stored_of g)) (state_of (stored_of (record s { opened = Some (length s.nodes) }))) (record { stamp = record { 0 = length s.versions } })) e
+      (to_line (λ t. Began (state_of (stored_of s)) (state_of t) (record { stamp = record { 0 = length s.versions } })) law.2)))
 
 -- ---- a run is published
 
-rising_next : (first newest : ℕ) (es : List Stamp) → AreRising first newest es → AreRising first (suc newest) es
+rising_next : (first newest : ℕ) (es : List StampedContent) → AreRising first newest es → AreRising first (suc newest) es
 rising_next first newest [] r = r
 rising_next first newest (e ∷ es) r = (r.0, omega (arith, r.1), r.2, rising_next first newest es r.3)
 

@@ -11,7 +11,7 @@ use Rattle.pst_base.specs.Name.{root_name}
 use Rattle.pst_base.specs.Shape.{IsValid, type_at, root_type}
 use Rattle.pst_base.specs.Heap.{Rec, IsWellFormed, initial_heap, new_record}
 use Rattle.pst_base.proofs.WellFormed.{IsWellFormed-initial}
-use Rattle.pst_line_nodes.specs.declared.content.Content.TheVariants.{Target}
+use Rattle.pst_line_nodes.specs.Contents.{Target}
 use Rattle.pst_line_nodes.specs.Line.{Line, IsIn, IsLine, IsQuiet, HasKind, ends_by, if_newest, if_stale, stale_at, stale, potential, load, number, denoted, heap_at, showing, record_at, record_of}
 use Rattle.pst_line_nodes.specs.Changes.{default_content}
 use Rattle.pst_line_nodes.proofs.HeapLaws.{true-is_in}
@@ -105,7 +105,7 @@ module _ (shape : List TypeShape) (valid : IsValid shape) (w : Line) (d : IsRoot
   next : IsLine shape 1 w × (heap_at shape w 1 ≡ heap_at shape w 0) × (load shape w 1 ≡ load shape w 0)
   next = next_law shape 0 w line_0 (quiet_0 0)
 
-  place_0 : (p : LinePlace) → IsPlace (first_store shape w) p → p.stamp ≡ 0
+  place_0 : (p : LinePlace) → IsPlace (first_store shape w) p → p.stamp.0 ≡ 0
   place_0 p k = elim k [ inl a ↦ omega (arith, a) | inr r ↦ absurd (let none : None ≡ Some r.begun = r.opened in cc) ]
 
   first_stored : IsStored (first_store shape w)

@@ -64,14 +64,14 @@ cover shape t w n i l h = covering shape t w n n i l h (omega arith)
 
 -- ---- places
 
-pub at_most : (s : Stored) (p : LinePlace) → IsPlace s p → p.stamp ≤ stamp s
+pub at_most : (s : Stored) (p : LinePlace) → IsPlace s p → p.stamp.0 ≤ stamp s
 at_most s p h = elim h [ inl a ↦ omega arith | inr r ↦ omega (arith, r.newest) ]
 
 -- the parent of a version is the one before it
 rows_parent : (vs : List Stretch) (k v : ℕ) (row : VersionRow LinePlace) → slice_get (rows_from k vs) v ≡ Some row → row.parent.0 ≡ (k + v) - 1
 rows_parent [] k v row e = absurd (cc)
 rows_parent (x ∷ xs) k zero row e =
-    let same : record { parent = record { 0 = k - 1 }; run = x.run; place = record { stamp = k } } ≡ row = cc in
+    let same : record { parent = record { 0 = k - 1 }; run = x.run; place = record { stamp = record { 0 = k } } } ≡ row = cc in
     let is : k - 1 ≡ row.parent.0 = ap (λ (r : VersionRow LinePlace). r.parent.0) same in
     omega (arith, is)
 rows_parent (x ∷ xs) k (suc v) row e = let is = rows_parent xs (suc k) v row e in omega (arith, is)
@@ -82,8 +82,8 @@ sound_law s h = record {
   well_formed = h.well_formed;
   placed = λ p r l. l.0;
   found = λ p r l.
-      let c = cover s.shape (stamp s) s.line p.stamp r.0 h.line l.1 in
-      let there : get (heap_at s.shape s.line p.stamp) (s.line.name r.0) ≡ Some (record_at s.shape s.line c.node p.stamp) = ap (get (heap_at s.shape s.line p.stamp)) (sym c.name) ∙ heap_has s.shape s.line p.stamp h.line.chained c.node c.alive in
+      let c = cover s.shape (stamp s) s.line p.stamp.0 r.0 h.line l.1 in
+      let there : get (heap_at s.shape s.line p.stamp.0) (s.line.name r.0) ≡ Some (record_at s.shape s.line c.node p.stamp.0) = ap (get (heap_at s.shape s.line p.stamp.0)) (sym c.name) ∙ heap_has s.shape s.line p.stamp.0 h.line.chained c.node c.alive in
       subst IsSome (sym there) refl;
   written = λ p k. inr k.run;
   parents = λ v row e. let is = rows_parent s.versions 0 (v + 1) row e in omega (arith, is);
@@ -104,8 +104,8 @@ module _ (s : Stored) (w : Line) (c : Counts) (h : IsStored s) (stay : VersionsS
       shape = refl;
       spent = refl;
       has = place;
-      live = λ p r l. (place p l.0, (stay.live r.0 p.stamp (at_most s p l.0) l.1).0);
-      name = λ p r l. (stay.live r.0 p.stamp (at_most s p l.0) l.1).1;
+      live = λ p r l. (place p l.0, (stay.live r.0 p.stamp.0 (at_most s p l.0) l.1).0);
+      name = λ p r l. (stay.live r.0 p.stamp.0 (at_most s p l.0) l.1).1;
     };
     back = back;
     versions = refl;
@@ -119,13 +119,13 @@ module _ (s : Stored) (w : Line) (c : Counts) (h : IsStored s) (stay : VersionsS
     back = λ p k. record { run = record { begun = k.run.begun; opened = k.run.opened; newest = k.run.newest }; whole = k.whole };
   }
 
-  pub others : (at : LinePlace) → at.stamp ≡ stamp s → OthersStay at (state_of s) (state_of (after s w c))
-  others at e = record { stay = λ p k. elim k [ inl a ↦ inr (stay.heaps p.stamp a) | inr r ↦ inl (λ i. record { stamp = (r.newest ∙ sym e) i }) ] }
+  pub others : (at : LinePlace) → at.stamp.0 ≡ stamp s → OthersStay at (state_of s) (state_of (after s w c))
+  others at e = record { stay = λ p k. elim k [ inl a ↦ inr (stay.heaps p.stamp.0 a) | inr r ↦ inl (λ i. record { stamp = record { 0 = (r.newest ∙ sym e) i } }) ] }
 
   pub unchanged : heap_at s.shape w (stamp s) ≡ heap_at s.shape s.line (stamp s) → c ≡ s.counts → Unchanged (state_of s) (state_of (after s w c))
   unchanged same e = record {
     keeps = keeps;
-    heaps = λ p k. elim k [ inl a ↦ stay.heaps p.stamp a | inr r ↦ ap (heap_at s.shape w) r.newest ∙ same ∙ ap (heap_at s.shape s.line) (sym r.newest) ];
+    heaps = λ p k. elim k [ inl a ↦ stay.heaps p.stamp.0 a | inr r ↦ ap (heap_at s.shape w) r.newest ∙ same ∙ ap (heap_at s.shape s.line) (sym r.newest) ];
     counts = e;
   }
 
@@ -140,7 +140,7 @@ module _ (s : Stored) (w : Line) (c : Counts) (h : IsStored s) (stay : VersionsS
     begun = λ b e. omega (arith, h.begun b e, grows);
     ended = λ i l. h.ended i (elim s.opened as (λ (o : Option ℕ). unwrap_or o w.count ≤ i → unwrap_or o s.line.count ≤ i) [ None ↦ λ m. omega (arith, m, grows) | Some b ↦ λ m. m ] l);
     well_formed = λ p k. elim k [
-      | inl a ↦ subst (IsWellFormed s.shape) (sym (stay.heaps p.stamp a)) (h.well_formed p (inl a))
+      | inl a ↦ subst (IsWellFormed s.shape) (sym (stay.heaps p.stamp.0 a)) (h.well_formed p (inl a))
       | inr r ↦ subst (λ (n : ℕ). IsWellFormed s.shape (heap_at s.shape w n)) (sym r.newest) (formed p (record { begun = r.begun; opened = r.opened; newest = r.newest }))
     ];
     bounded = bounded;
@@ -254,8 +254,8 @@ allocate_law s w at q ty h open' new fresh d =
     let e = open'.run.newest in
     let free : (i : ℕ) → i < s.line.count → s.line.made i ≡ true → s.line.name i ≢ q = λ i m a named.
     let c = cover s.shape (stamp s) s.line (stamp s) i h.line (record { there = m; made = a; begun = h.line.first i m }) in
-    let there : get (heap_at s.shape s.line at.stamp) q ≡ Some (record_at s.shape s.line c.node (stamp s)) = ap (λ n. get (heap_at s.shape s.line n) q) e ∙ ap (get (heap_at s.shape s.line (stamp s))) (sym (c.name ∙ named)) ∙ heap_has s.shape s.line (stamp s) h.line.chained c.node c.alive in
-    let none : get (heap_at s.shape s.line at.stamp) q ≡ None = fresh.fresh at (inr open'.run) in cc in
+    let there : get (heap_at s.shape s.line at.stamp.0) q ≡ Some (record_at s.shape s.line c.node (stamp s)) = ap (λ n. get (heap_at s.shape s.line n) q) e ∙ ap (get (heap_at s.shape s.line (stamp s))) (sym (c.name ∙ named)) ∙ heap_has s.shape s.line (stamp s) h.line.chained c.node c.alive in
+    let none : get (heap_at s.shape s.line at.stamp.0) q ≡ None = fresh.fresh at (inr open'.run) in cc in
     let n = made.made_law s.shape s.line w q ty (stamp s) h.line new.above new.below free h.homes d in
     let lacks : get (heap_at s.shape s.line (stamp s)) q ≡ None = ap (λ n. get (heap_at s.shape s.line n) q) (sym e) ∙ fresh.fresh at (inr open'.run) in (
       stored_after s w (one_record s.counts) h n.1 n.0
@@ -329,7 +329,7 @@ begin_law s h c ok some =
     let to : (p : LinePlace) → IsPlace s p → IsPlace t p = λ p k. elim k [ inl a ↦ inl a | inr r ↦ absurd (none p r) ] in
     let last : suc (stamp s - 1) ≡ stamp s = omega (arith, some) in
     let same : heap_at s.shape s.line (stamp s) ≡ heap_at s.shape s.line (stamp s - 1) = c.same (stamp s - 1) last in
-    let newest : LinePlace = record { stamp = stamp s - 1 } in
+    let newest : LinePlace = record { stamp = record { 0 = stamp s - 1 } } in
     let place : IsPlace s newest = inl (omega (arith, some)) in (
       record {
         valid = λ p k. h.valid newest place;
@@ -348,12 +348,12 @@ begin_law s h c ok some =
       record { quiet = c.rested.quiet; small = c.rested.small },
       record {
         shape = refl;
-        fresh = λ k. elim k [ inl a ↦ absurd (omega arith) | inr r ↦ none (record { stamp = stamp s }) r ];
+        fresh = λ k. elim k [ inl a ↦ absurd (omega arith) | inr r ↦ none (record { stamp = record { 0 = stamp s } }) r ];
         has = to;
-        only = λ p k. elim k [ inl a ↦ inr (inl a) | inr r ↦ inl (λ i. record { stamp = r.newest i }) ];
+        only = λ p k. elim k [ inl a ↦ inr (inl a) | inr r ↦ inl (λ i. record { stamp = record { 0 = r.newest i } }) ];
         writable = record { run = record { begun = s.line.count; opened = refl; newest = refl }; whole = ok };
         place = sym (rows_length s.versions 0);
-        newest = λ v e. c.same v.stamp (e ∙ rows_length s.versions 0);
+        newest = λ v e. c.same v.stamp.0 (e ∙ rows_length s.versions 0);
         heaps = λ p k. refl;
         live = λ p r l. (to p l.0, l.1);
         name = λ r. refl;
@@ -370,12 +370,12 @@ length-one : (vs : List Stretch) (v : Stretch) → length (vs ++ v ∷ []) ≡ s
 length-one [] v = refl
 length-one (x ∷ xs) v = ap suc (length-one xs v)
 
-rows-one : (vs : List Stretch) (v : Stretch) (k : ℕ) → rows_from k (vs ++ v ∷ []) ≡ rows_from k vs ++ record { parent = record { 0 = (k + length vs) - 1 }; run = v.run; place = record { stamp = k + length vs } } ∷ []
-rows-one [] v k = let e : k ≡ k + 0 = omega arith in λ i. record { parent = record { 0 = e i - 1 }; run = v.run; place = record { stamp = e i } } ∷ []
+rows-one : (vs : List Stretch) (v : Stretch) (k : ℕ) → rows_from k (vs ++ v ∷ []) ≡ rows_from k vs ++ record { parent = record { 0 = (k + length vs) - 1 }; run = v.run; place = record { stamp = record { 0 = k + length vs } } } ∷ []
+rows-one [] v k = let e : k ≡ k + 0 = omega arith in λ i. record { parent = record { 0 = e i - 1 }; run = v.run; place = record { stamp = record { 0 = e i } } } ∷ []
 rows-one (x ∷ xs) v k =
     let e : suc k + length xs ≡ k + suc (length xs) = omega arith in
-    ap (λ rs. record { parent = record { 0 = k - 1 }; run = x.run; place = record { stamp = k } } ∷ rs) (rows-one xs v (suc k)
-    ∙ ap (λ n. rows_from (suc k) xs ++ record { parent = record { 0 = n - 1 }; run = v.run; place = record { stamp = n } } ∷ []) e)
+    ap (λ rs. record { parent = record { 0 = k - 1 }; run = x.run; place = record { stamp = record { 0 = k } } } ∷ rs) (rows-one xs v (suc k)
+    ∙ ap (λ n. rows_from (suc k) xs ++ record { parent = record { 0 = n - 1 }; run = v.run; place = record { stamp = record { 0 = n } } } ∷ []) e)
 
 pub rows_count : (vs : List Stretch) (k : ℕ) → length (rows_from k vs) ≡ length vs
 rows_count [] k = refl
@@ -411,15 +411,15 @@ publish_law s b run root h r e =
     let t : Stored = record s { versions = s.versions ++ record { run = run; from = b; to = s.line.count; root = root } ∷ []; opened = None } in
     let n = next_law s.shape (stamp s) s.line h.line r.quiet in
     let len : stamp t ≡ suc (stamp s) = length-one s.versions v in
-    let place : IsPlace s (record { stamp = stamp s }) = inr (record { begun = b; opened = e; newest = refl }) in
+    let place : IsPlace s (record { stamp = record { 0 = stamp s } }) = inr (record { begun = b; opened = e; newest = refl }) in
     let to : (p : LinePlace) → IsPlace s p → IsPlace t p = λ p k. let m = at_most s p k in inl (omega (arith, m, len)) in
     let of : (p : LinePlace) → IsPlace t p → IsPlace s p = λ p k. elim k [
-      | inl a ↦ ⊎_elim (λ (q : p.stamp < stamp s). inl q) (λ (q : stamp s ≤ p.stamp). inr (record { begun = b; opened = e; newest = omega (arith, a, len) })) (cases_lt p.stamp (stamp s))
+      | inl a ↦ ⊎_elim (λ (q : p.stamp.0 < stamp s). inl q) (λ (q : stamp s ≤ p.stamp.0). inr (record { begun = b; opened = e; newest = omega (arith, a, len) })) (cases_lt p.stamp.0 (stamp s))
       | inr q ↦ absurd (let none : None ≡ Some q.begun = q.opened in cc)
     ] in
     let count : length (rows_from 0 s.versions) ≡ stamp s = rows_count s.versions 0 in
-    let rows : rows_from 0 t.versions ≡ rows_from 0 s.versions ++ record { parent = record { 0 = length (rows_from 0 s.versions) - 1 }; run = run; place = record { stamp = length (rows_from 0 s.versions) } } ∷ []
-    = rows-one s.versions v 0 ∙ ap (λ m. rows_from 0 s.versions ++ record { parent = record { 0 = m - 1 }; run = run; place = record { stamp = m } } ∷ []) (let z : 0 + length s.versions ≡ length (rows_from 0 s.versions) = omega (arith, count) in z) in (
+    let rows : rows_from 0 t.versions ≡ rows_from 0 s.versions ++ record { parent = record { 0 = length (rows_from 0 s.versions) - 1 }; run = run; place = record { stamp = record { 0 = length (rows_from 0 s.versions) } } } ∷ []
+    = rows-one s.versions v 0 ∙ ap (λ m. rows_from 0 s.versions ++ record { parent = record { 0 = m - 1 }; run = run; place = record { stamp = record { 0 = m } } } ∷ []) (let z : 0 + length s.versions ≡ length (rows_from 0 s.versions) = omega (arith, count) in z) in (
       record {
         valid = λ p k. h.valid p (of p k);
         line = subst (λ (m : ℕ). IsLine s.shape m s.line) (sym len) n.0;
@@ -454,7 +454,7 @@ pub undone_law : UndoneLaw
 undone_law s w b h r e d young old same =
     let t : Stored = record s { line = w; opened = None } in
     let n = drop_law s.shape (stamp s) s.line w h.line d in
-    let of : (p : LinePlace) → IsPlace t p → p.stamp < stamp s = λ p k. elim k [ inl a ↦ a | inr q ↦ absurd (let none : None ≡ Some q.begun = q.opened in cc) ] in
+    let of : (p : LinePlace) → IsPlace t p → p.stamp.0 < stamp s = λ p k. elim k [ inl a ↦ a | inr q ↦ absurd (let none : None ≡ Some q.begun = q.opened in cc) ] in
     let count : length (rows_from 0 s.versions) ≡ stamp s = rows_count s.versions 0 in
     let was : (i : ℕ) → i < w.count → i < s.line.count = λ i m. omega (arith, d.count) in
     let made : (i : ℕ) → i < w.count → w.made i ≡ is_made s.versions None (w.home i) = λ i m.
@@ -473,7 +473,7 @@ undone_law s w b h r e d young old same =
         made = made;
         begun = λ b e. absurd (cc);
         ended = λ i m. h.ended i (rw e (let k = h.begun b e in omega (arith, k, m, d.count)));
-        well_formed = λ p k. let a = of p k in subst (IsWellFormed s.shape) (sym (n.1 p.stamp a)) (h.well_formed p (inl a));
+        well_formed = λ p k. let a = of p k in subst (IsWellFormed s.shape) (sym (n.1 p.stamp.0 a)) (h.well_formed p (inl a));
         bounded = omega (arith, n.3, h.bounded);
       },
       record {
@@ -488,8 +488,8 @@ undone_law s w b h r e d young old same =
         shape = refl;
         has = λ p a. inl (omega (arith, a, count));
         back = λ p k. let a = of p k in omega (arith, a, count);
-        heaps = λ p k. n.1 p.stamp (of p k);
-        live = λ p r k l. (k, n.2 r.0 p.stamp (of p k) l.1);
+        heaps = λ p k. n.1 p.stamp.0 (of p k);
+        live = λ p r k l. (k, n.2 r.0 p.stamp.0 (of p k) l.1);
         name = λ r. d.name r.0;
         versions = refl;
         closed = λ p k. let none : None ≡ Some k.run.begun = k.run.opened in cc;

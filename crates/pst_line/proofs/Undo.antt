@@ -11,7 +11,7 @@ use Rattle.pst_base.proofs.NameLemmas.{name_eq-true, name_eq-same}
 use Rattle.pst_base.proofs.Degrees.{get-with_record, with_value-at, with_pointer-at}
 use Rattle.pst_line.specs.Undo.{put_back, LeadsBack, ValueBackLaw, PointerBackLaw, EntryLaw, RecordBackLaw}
 use Rattle.pst_line_nodes.specs.declared.content.Content.{Content}
-use Rattle.pst_line_nodes.specs.declared.content.Content.TheVariants.{Number, Null, Target}
+use Rattle.pst_line_nodes.specs.declared.content.Content.TheVariants.{Number, Null, Target as TargetOf}
 use Rattle.pst_base.proofs.WellFormed.{IsWellFormed-with_new}
 
 set-back : {A : Type 0} (xs : List A) (k : ℕ) (a d : A) → k < length xs → set (set xs k a) k (get_or xs k d) ≡ xs
@@ -63,12 +63,12 @@ entry_law shape name base h new m ms formed back leads = (subst (IsWellFormed sh
 abbrev pub back_in : (ℕ → Name) → ℕ → Content → Rec → Rec
 back_in name slot (Number v) r = value_set r slot v
 back_in name slot Null r = pointer_set r slot None
-back_in name slot (Target y) r = pointer_set r slot (Some (name y))
+back_in name slot (TargetOf y) r = pointer_set r slot (Some (name y.0))
 
 pub back_is : (name : ℕ → Name) (h : Heap) (n : Name) (slot : ℕ) (c : Content) → put_back name h n slot c ≡ changed (back_in name slot c) h n (get h n)
 back_is name h n slot (Number v) = refl
 back_is name h n slot Null = refl
-back_is name h n slot (Target y) = refl
+back_is name h n slot (TargetOf y) = refl
 
 pub off_name : (q n : Name) → n ≢ q → name_eq q n ≡ false
 off_name q n ne = ⊎_elim (λ (t : name_eq q n ≡ true). absurd (ne (sym (name_eq-true q n t)))) (λ (t : name_eq q n ≡ false). t) (cases_Bool (name_eq q n))

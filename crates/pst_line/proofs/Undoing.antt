@@ -7,7 +7,7 @@ use Rattle.pst_base.specs.declared.names.Name.{Name}
 use Rattle.pst_base.specs.Shape.{type_at}
 use Rattle.pst_base.specs.Heap.{Rec, new_record}
 use Rattle.pst_base.proofs.Fields.{found}
-use Rattle.pst_line_nodes.specs.declared.content.Content.TheVariants.{Target}
+use Rattle.pst_line_nodes.specs.Contents.{Target}
 use Rattle.pst_line_nodes.specs.Line.{AreChained, Covers, IsIn, heap_at, record_at, denoted}
 use Rattle.pst_line_nodes.specs.Runs.{IsDropped}
 use Rattle.pst_line_nodes.proofs.HeapLaws.{heap_has, heap_shows, same_heaps}
@@ -86,7 +86,7 @@ module _ (s : Stored) (b : ℕ) (h : IsStored s) (open' : s.opened ≡ Some b) (
         ⊎_elim
             (λ (r : s.line.home y < b). keeps y there v.1 r)
             (λ (r : b ≤ s.line.home y).
-            let formed = h.well_formed (record { stamp = stamp s - 1 }) (inl (omega (arith, u.some))) in
+            let formed = h.well_formed (record { stamp = record { 0 = stamp s - 1 } }) (inl (omega (arith, u.some))) in
             let typed = formed.targets (s.line.name i) (record_at s.shape s.line i (stamp s)) (shown_at i a l) k (s.line.name y) holds in
             let f = found (heap_at s.shape s.line (stamp s - 1)) (s.line.name y) _ typed in
             let j = heap_shows s.shape s.line (stamp s - 1) (s.line.name y) f.rec f.at in

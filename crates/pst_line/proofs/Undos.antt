@@ -11,7 +11,7 @@ use Rattle.pst_base.specs.declared.shape.TypeShape.{TypeShape}
 use Rattle.pst_base.specs.Shape.{type_at, field_kind}
 use Rattle.pst_base.specs.Heap.{Heap, IsWellFormed, IsPointer, with_value, with_pointer, new_record}
 use Rattle.pst_line_nodes.specs.declared.content.Content.{Content}
-use Rattle.pst_line_nodes.specs.declared.content.Content.TheVariants.{Number, Null, Target}
+use Rattle.pst_line_nodes.specs.declared.content.Content.TheVariants.{Number, Null, Target as TargetOf}
 use Rattle.pst_line_nodes.specs.Line.{Line, denoted, heap_at}
 use Rattle.pst_line_nodes.specs.Changes.{VersionsStay}
 use Rattle.pst_line.specs.declared.place.Undo.{Undo}
@@ -29,13 +29,13 @@ SameNames name new u = (new u.node.0 ≡ name u.node.0) × (denoted new u.conten
 put-same : (name new : ℕ → Name) (h : Heap) (n m : Name) (slot : ℕ) (c : Content) → m ≡ n → denoted new c ≡ denoted name c → put_back new h m slot c ≡ put_back name h n slot c
 put-same name new h n m slot (Number v) e d = ap (λ k. with_value h k slot v) e
 put-same name new h n m slot Null e d = ap (λ k. with_pointer h k slot None) e
-put-same name new h n m slot (Target y) e d = ap (λ k. with_pointer h k slot (Some (new y))) e ∙ ap (with_pointer h n slot) d
+put-same name new h n m slot (TargetOf y) e d = ap (λ k. with_pointer h k slot (Some (new y.0))) e ∙ ap (with_pointer h n slot) d
 
 pub leads-same : (shape : List TypeShape) (name new : ℕ → Name) (base : Heap) (us : List Undo) (h : Heap) → All (SameNames name new) us → LeadsBack shape name base (map (mark_of name) us) h → LeadsBack shape new base (map (mark_of new) us) h
 leads-same shape name new base [] h a l = l
 leads-same shape name new base (u ∷ us) h a l =
-    let e : put_back new h (new u.node.0) u.slot u.content ≡ put_back name h (name u.node.0) u.slot u.content = put-same name new h (name u.node.0) (new u.node.0) u.slot u.content (a 0 u (omega arith)).0 (a 0 u (omega arith)).1 in
-    (subst (IsWellFormed shape) (sym e) l.0, leads-same shape name new base us (put_back new h (new u.node.0) u.slot u.content) (λ k d m. a (suc k) d (omega arith)) (subst (LeadsBack shape name base (map (mark_of name) us)) (sym e) l.1))
+    let e : put_back new h (new u.node.0) u.slot.0 u.content ≡ put_back name h (name u.node.0) u.slot.0 u.content = put-same name new h (name u.node.0) (new u.node.0) u.slot.0 u.content (a 0 u (omega arith)).0 (a 0 u (omega arith)).1 in
+    (subst (IsWellFormed shape) (sym e) l.0, leads-same shape name new base us (put_back new h (new u.node.0) u.slot.0 u.content) (λ k d m. a (suc k) d (omega arith)) (subst (LeadsBack shape name base (map (mark_of name) us)) (sym e) l.1))
 
 -- ---- what a change of nodes keeps
 
@@ -43,24 +43,24 @@ module _ (s : Stored) (w : Line) (c : Counts) (nodes : NodesStay s.line w (stamp
   pub fits_after : (x g : ℕ) (k : Content) → x < s.line.count → Fits s x g k → Fits (after s w c) x g k
   fits_after x g (Number v) m f = ap (λ (u : TypeNo). field_kind (type_at s.shape u) g) (nodes.ty x m) ∙ f
   fits_after x g Null m f = subst (λ (u : TypeNo). IsPointer (field_kind (type_at s.shape u) g)) (sym (nodes.ty x m)) f
-  fits_after x g (Target y) m f = ((stay.live y (stamp s) (omega arith) f.0).0, ap (λ (u : TypeNo). field_kind (type_at s.shape u) g) (nodes.ty x m) ∙ f.1 ∙ ap (λ u. Some (Pointer u)) (sym (nodes.ty y f.0.there)))
+  fits_after x g (TargetOf y) m f = ((stay.live y.0 (stamp s) (omega arith) f.0).0, ap (λ (u : TypeNo). field_kind (type_at s.shape u) g) (nodes.ty x m) ∙ f.1 ∙ ap (λ u. Some (Pointer u)) (sym (nodes.ty y.0 f.0.there)))
 
   pub entered_after : (u : Undo) → IsEntered s u → IsEntered (after s w c) u
   entered_after u e = record {
     live = (stay.live u.node.0 (stamp s) (omega arith) e.live).0;
     home = nodes.home u.node.0 e.live.there ∙ e.home;
-    fits = fits_after u.node.0 u.slot u.content e.live.there e.fits;
-    since = subst (λ (n : ℕ). IsSince w n u.slot (stamp s)) (sym (nodes.home u.node.0 e.live.there)) (nodes.since (s.line.home u.node.0) u.slot e.since);
+    fits = fits_after u.node.0 u.slot.0 u.content e.live.there e.fits;
+    since = subst (λ (n : ℕ). IsSince w n u.slot.0 (stamp s)) (sym (nodes.home u.node.0 e.live.there)) (nodes.since (s.line.home u.node.0) u.slot.0 e.since);
   }
 
   -- the names in an entry are those of before
   named_after : (k : Content) (x g : ℕ) → Fits s x g k → denoted w.name k ≡ denoted s.line.name k
   named_after (Number v) x g f = refl
   named_after Null x g f = refl
-  named_after (Target y) x g f = ap Some (nodes.name y f.0.there)
+  named_after (TargetOf y) x g f = ap Some (nodes.name y.0 f.0.there)
 
   pub names_after : (u : Undo) → IsEntered s u → SameNames s.line.name w.name u
-  names_after u e = (nodes.name u.node.0 e.live.there, named_after u.content u.node.0 u.slot e.fits)
+  names_after u e = (nodes.name u.node.0 e.live.there, named_after u.content u.node.0 u.slot.0 e.fits)
 
 module _ (s : Stored) (w : Line) (c : Counts) (b : ℕ) (went : Went s.line w (stamp s)) (stay : VersionsStay s.shape (stamp s) s.line w) where
   module _ (es : List Undo) (u : CanUndo s b es) where
@@ -99,7 +99,7 @@ module _ (s : Stored) (w : Line) (c : Counts) (b : ℕ) (went : Went s.line w (s
     can_undo_same e = with_leads es (subst (LeadsBack s.shape w.name u.base (map (mark_of w.name) es)) (sym e) leads_after) (λ k d m. entered_after s w c went.nodes stay _ (u.entered k d m))
 
   -- a write that is undone
-  pub can_undo_less : (v : Undo) (es : List Undo) → CanUndo s b (v ∷ es) → heap_at s.shape w (stamp s) ≡ put_back s.line.name (heap_at s.shape s.line (stamp s)) (s.line.name v.node.0) v.slot v.content → CanUndo (after s w c) b es
+  pub can_undo_less : (v : Undo) (es : List Undo) → CanUndo s b (v ∷ es) → heap_at s.shape w (stamp s) ≡ put_back s.line.name (heap_at s.shape s.line (stamp s)) (s.line.name v.node.0) v.slot.0 v.content → CanUndo (after s w c) b es
   can_undo_less v es u e = with_leads (v ∷ es) u es
-      (subst (LeadsBack s.shape w.name u.base (map (mark_of w.name) es)) (sym e) (leads-same s.shape s.line.name w.name u.base es (put_back s.line.name (heap_at s.shape s.line (stamp s)) (s.line.name v.node.0) v.slot v.content) (λ k d m. names_after s w c went.nodes stay _ (u.entered (suc k) d (omega arith))) u.leads.1))
+      (subst (LeadsBack s.shape w.name u.base (map (mark_of w.name) es)) (sym e) (leads-same s.shape s.line.name w.name u.base es (put_back s.line.name (heap_at s.shape s.line (stamp s)) (s.line.name v.node.0) v.slot.0 v.content) (λ k d m. names_after s w c went.nodes stay _ (u.entered (suc k) d (omega arith))) u.leads.1))
       (λ k d m. entered_after s w c went.nodes stay _ (u.entered (suc k) d (omega arith)))

@@ -15,23 +15,23 @@ use Rattle.pst_line.proofs.Notes.{entered_plan}
 
 -- ---- the versions
 
-rows_are : (vs : List Stretch) (k v : ℕ) (row : VersionRow LinePlace) → slice_get (rows_from k vs) v ≡ Some row → (row.place ≡ record { stamp = k + v }) × (row.parent ≡ record { 0 = (k + v) - 1 }) × (v < length vs)
+rows_are : (vs : List Stretch) (k v : ℕ) (row : VersionRow LinePlace) → slice_get (rows_from k vs) v ≡ Some row → (row.place ≡ record { stamp = record { 0 = k + v } }) × (row.parent ≡ record { 0 = (k + v) - 1 }) × (v < length vs)
 rows_are [] k v row e = absurd (cc)
 rows_are (x ∷ xs) k zero row e =
-    let same : record { parent = record { 0 = k - 1 }; run = x.run; place = record { stamp = k } } ≡ row = cc in
+    let same : record { parent = record { 0 = k - 1 }; run = x.run; place = record { stamp = record { 0 = k } } } ≡ row = cc in
     let n : k ≡ k + 0 = omega arith in (
-      sym (ap (λ (r : VersionRow LinePlace). r.place) same) ∙ ap (λ (n : ℕ). record { stamp = n }) n,
+      sym (ap (λ (r : VersionRow LinePlace). r.place) same) ∙ ap (λ (n : ℕ). record { stamp = record { 0 = n } }) n,
       sym (ap (λ (r : VersionRow LinePlace). r.parent) same) ∙ ap (λ (n : ℕ). record { 0 = n - 1 }) n,
       omega arith,
     )
 rows_are (x ∷ xs) k (suc v) row e =
     let is = rows_are xs (suc k) v row e in
-    let n : suc k + v ≡ k + suc v = omega arith in (is.0 ∙ ap (λ (n : ℕ). record { stamp = n }) n, is.1 ∙ ap (λ (n : ℕ). record { 0 = n - 1 }) n, omega (arith, is.2))
+    let n : suc k + v ≡ k + suc v = omega arith in (is.0 ∙ ap (λ (n : ℕ). record { stamp = record { 0 = n } }) n, is.1 ∙ ap (λ (n : ℕ). record { 0 = n - 1 }) n, omega (arith, is.2))
 
-rows_place : (vs : List Stretch) (k v : ℕ) → v < length vs → option_map (λ row. row.place) (slice_get (rows_from k vs) v) ≡ Some (record { stamp = k + v })
+rows_place : (vs : List Stretch) (k v : ℕ) → v < length vs → option_map (λ row. row.place) (slice_get (rows_from k vs) v) ≡ Some (record { stamp = record { 0 = k + v } })
 rows_place [] k v l = absurd (omega (arith, l))
-rows_place (x ∷ xs) k zero l = ap (λ (n : ℕ). Some (record { stamp = n })) (let n : k ≡ k + 0 = omega arith in n)
-rows_place (x ∷ xs) k (suc v) l = rows_place xs (suc k) v (omega (arith, l)) ∙ ap (λ (n : ℕ). Some (record { stamp = n })) (let n : suc k + v ≡ k + suc v = omega arith in n)
+rows_place (x ∷ xs) k zero l = ap (λ (n : ℕ). Some (record { stamp = record { 0 = n } })) (let n : k ≡ k + 0 = omega arith in n)
+rows_place (x ∷ xs) k (suc v) l = rows_place xs (suc k) v (omega (arith, l)) ∙ ap (λ (n : ℕ). Some (record { stamp = record { 0 = n } })) (let n : suc k + v ≡ k + suc v = omega arith in n)
 
 rows_none : (vs : List Stretch) (k v : ℕ) → length vs ≤ v → option_map (λ row. row.place) (slice_get (rows_from k vs) v) ≡ None
 rows_none [] k v l = refl
@@ -40,12 +40,12 @@ rows_none (x ∷ xs) k (suc v) l = rows_none xs (suc k) v (omega (arith, l))
 
 -- the place of a version is that of its number
 abbrev place_at : ℕ → ℕ → Option LinePlace
-place_at v n = if nat_lt v n then Some (record { stamp = v }) else None
+place_at v n = if nat_lt v n then Some (record { stamp = record { 0 = v } }) else None
 
 place_of_row : (vs : List Stretch) (v : ℕ) → place_at v (length vs) ≡ option_map (λ row. row.place) (slice_get (rows_from 0 vs) v)
 place_of_row vs v = ⊎_elim
-    (λ (l : v < length vs). ap (λ b. if b then Some (record { stamp = v }) else None) (lt-ltb v (length vs) l) ∙ ap (λ (n : ℕ). Some (record { stamp = n })) (let n : v ≡ 0 + v = omega arith in n) ∙ sym (rows_place vs 0 v l))
-    (λ (l : length vs ≤ v). ap (λ b. if b then Some (record { stamp = v }) else None) (false_from_ne_true (nat_lt v (length vs)) (λ e. let m = ltb-true v (length vs) e in omega (arith, m, l))) ∙ sym (rows_none vs 0 v l))
+    (λ (l : v < length vs). ap (λ b. if b then Some (record { stamp = record { 0 = v } }) else None) (lt-ltb v (length vs) l) ∙ ap (λ (n : ℕ). Some (record { stamp = record { 0 = n } })) (let n : v ≡ 0 + v = omega arith in n) ∙ sym (rows_place vs 0 v l))
+    (λ (l : length vs ≤ v). ap (λ b. if b then Some (record { stamp = record { 0 = v } }) else None) (false_from_ne_true (nat_lt v (length vs)) (λ e. let m = ltb-true v (length vs) e in omega (arith, m, l))) ∙ sym (rows_none vs 0 v l))
     (cases_lt v (length vs))
 
 -- ---- a store, started or not
@@ -85,9 +85,9 @@ means_in (Some h) = means h
 pub chain_in : (o : Option Held) → IsChain (state_in o)
 chain_in None = record { place = λ v row e. absurd (cc); parent = λ v row e. absurd (cc); has = λ v row e. absurd (cc) }
 chain_in (Some h) = record {
-  place = λ v row e. (rows_are h.versions 0 v row e).0 ∙ ap (λ (n : ℕ). record { stamp = n }) (let n : 0 + v ≡ v = omega arith in n);
+  place = λ v row e. (rows_are h.versions 0 v row e).0 ∙ ap (λ (n : ℕ). record { stamp = record { 0 = n } }) (let n : 0 + v ≡ v = omega arith in n);
   parent = λ v row e. (rows_are h.versions 0 v row e).1 ∙ ap (λ (n : ℕ). record { 0 = n - 1 }) (let n : 0 + v ≡ v = omega arith in n);
-  has = λ v row e. let is = rows_are h.versions 0 v row e in let n : row.place.stamp ≡ 0 + v = ap (λ (p : LinePlace). p.stamp) is.0 in inl (omega (arith, is.2, n));
+  has = λ v row e. let is = rows_are h.versions 0 v row e in let n : row.place.stamp.0 ≡ 0 + v = ap (λ (p : LinePlace). p.stamp.0) is.0 in inl (omega (arith, is.2, n));
 }
 
 -- what is noted for an undo

@@ -10,7 +10,8 @@ use Rattle.pst_base.specs.Heap.{Heap, IsWellFormed, IsPointer, with_value, with_
 use Rattle.pst_places.specs.State.{State, Unchanged, WritesStay, ValueStored, PointerStored}
 use Rattle.pst_places.proofs.StateLemmas.{Keeps_trans, OthersStay_trans, OthersStay_unchanged}
 use Rattle.pst_line_nodes.specs.declared.content.Content.{Content}
-use Rattle.pst_line_nodes.specs.declared.content.Content.TheVariants.{Number, Null, Target}
+use Rattle.pst_line_nodes.specs.declared.content.Content.TheVariants.{Number, Null, Target as TargetOf}
+use Rattle.pst_line_nodes.specs.Contents.{Target}
 use Rattle.pst_line_nodes.specs.Line.{IsNewest, IsLive, IsLine, heap_at, most}
 use Rattle.pst_line_nodes.specs.Changes.{IsSet, VersionsStay}
 use Rattle.pst_line_nodes.specs.Seen.{Seen}
@@ -125,11 +126,11 @@ module _ (g : Held) (h : IsHeld g) (b : ℕ) (opened : g.opened ≡ Some b) (who
   mid_stored : IsStored mid
   mid_stored = carried_stored g h ns m.carried
 
-  run : IsRun mid (record { stamp = length g.versions })
+  run : IsRun mid (record { stamp = record { 0 = length g.versions } })
   run = record { begun = b; opened = opened; newest = refl }
 
   formed : IsWellFormed g.shape (heap_at g.shape (line_with g ns) (length g.versions))
-  formed = formed_at mid (record { stamp = length g.versions }) mid_stored run
+  formed = formed_at mid (record { stamp = record { 0 = length g.versions } }) mid_stored run
 
   x_new : IsNewest (line_with g ms) x
   x_new = record { there = omega (arith, m.newest.last.there, d.nodes.count); last = d.nodes.later x ∙ m.newest.last.last }
@@ -153,10 +154,10 @@ module _ (g : Held) (h : IsHeld g) (b : ℕ) (opened : g.opened ≡ Some b) (who
   first_same = line.chained.same ((line_with g ms).home x) x first_there x_new.there own
 
   abbrev entry : Undo
-  entry = record { node = record { 0 = (line_with g ms).home x }; slot = f; content = (line_with g ns).holds x f (length g.versions) }
+  entry = record { node = record { 0 = (line_with g ms).home x }; slot = record { 0 = f }; content = (line_with g ns).holds x f (length g.versions) }
 
   entry_is : entry_at g ns x f ≡ entry
-  entry_is = ap (λ (n : ℕ). record { node = record { 0 = n }; slot = f; content = (line_with g ns).holds x f (length g.versions) }) (sym (d.nodes.home x))
+  entry_is = ap (λ (n : ℕ). record { node = record { 0 = n }; slot = record { 0 = f }; content = (line_with g ns).holds x f (length g.versions) }) (sym (d.nodes.home x))
 
   fits_x : Fits (after mid (line_with g ms) counts) x f ((line_with g ns).holds x f (length g.versions))
   fits_x = fits_after mid (line_with g ms) counts (went_set (line_with g ns) (line_with g ms) x f (length g.versions) k c d).nodes stay x f ((line_with g ns).holds x f (length g.versions)) m.newest.there.covers.there
@@ -166,7 +167,7 @@ module _ (g : Held) (h : IsHeld g) (b : ℕ) (opened : g.opened ≡ Some b) (who
   fits_first : (e : Content) → Fits (after mid (line_with g ms) counts) x f e → Fits (after mid (line_with g ms) counts) ((line_with g ms).home x) f e
   fits_first (Number v) p = ap (λ (u : TypeNo). field_kind (type_at g.shape u) f) first_same.1 ∙ p
   fits_first Null p = subst (λ (u : TypeNo). IsPointer (field_kind (type_at g.shape u) f)) (sym first_same.1) p
-  fits_first (Target y) p = (p.0, ap (λ (u : TypeNo). field_kind (type_at g.shape u) f) first_same.1 ∙ p.1)
+  fits_first (TargetOf y) p = (p.0, ap (λ (u : TypeNo). field_kind (type_at g.shape u) f) first_same.1 ∙ p.1)
 
   entered : IsEntered (after mid (line_with g ms) counts) entry
   entered = record {
@@ -177,7 +178,7 @@ module _ (g : Held) (h : IsHeld g) (b : ℕ) (opened : g.opened ≡ Some b) (who
   }
 
   formed_now : IsWellFormed g.shape (heap_at g.shape (line_with g ms) (length g.versions))
-  formed_now = formed_at (after mid (line_with g ms) counts) (record { stamp = length g.versions }) stored (record { begun = b; opened = opened; newest = refl })
+  formed_now = formed_at (after mid (line_with g ms) counts) (record { stamp = record { 0 = length g.versions } }) stored (record { begun = b; opened = opened; newest = refl })
 
   can : CanUndo (after mid (line_with g ms) counts) b (plan (with_entry (entry_at g ns x f) g.undo))
   can = subst (λ (v : Undo). CanUndo (after mid (line_with g ms) counts) b (plan (with_entry v g.undo))) (sym entry_is)

@@ -1,7 +1,7 @@
 -- What undoing a run's writes needs of the nodes, and what it does to what a store holds.
 use Rattle.std.specs.Prelude.{◌≡◌, ℕ, ◌++◌, Bool, List, Some, length}
 use Rattle.pst_base.specs.declared.shape.TypeShape.{TypeShape}
-use Rattle.pst_line_nodes.specs.declared.content.Content.TheVariants.{Target}
+use Rattle.pst_line_nodes.specs.Contents.{Target}
 use Rattle.pst_line_nodes.specs.Line.{IsNewest, IsLive, IsLine}
 use Rattle.pst_line_nodes.specs.Changes.{HasSameNodes, VersionsStay}
 use Rattle.pst_line_nodes.specs.Seen.{Seen}
@@ -26,14 +26,18 @@ pub record MayPutBack (shape : List TypeShape) (made : ℕ → Bool) (t : ℕ) (
   pub kept : AreKept shape t nodes
   pub line : IsLine shape t (line_of made nodes)
   pub newest : IsNewest (line_of made nodes) x
-  pub slot : HasSlot nodes x u.slot
-  pub since : (line_of made nodes).since x u.slot ≡ t
-  pub target : (y : ℕ) → u.content ≡ Target y → CanBeHeld shape made t nodes x u.slot y
+  pub slot : HasSlot nodes x u.slot.0
+  pub since : (line_of made nodes).since x u.slot.0 ≡ t
+  pub target : (y : ℕ) → u.content ≡ Target y → CanBeHeld shape made t nodes x u.slot.0 y
 
 -- and is put back
 pub record HasPutBack (shape : List TypeShape) (made : ℕ → Bool) (t : ℕ) (old new : List Seen) (x : ℕ) (u : Undo) : Type 0 where
-  pub put : IsPut shape (line_of made old) (line_of made new) x u.slot t u.content
+  pub put : IsPut shape (line_of made old) (line_of made new) x u.slot.0 t u.content
   pub kept : AreKept shape t new
+
+-- Whatever the record types, and whichever records are made: an entry that can be put back into x is put back.
+abbrev pub IsEntryPutBack : (t : ℕ) → (old new : List Seen) → (x : ℕ) → Undo → Type 0
+IsEntryPutBack t old new x u = (shape : List TypeShape) (made : ℕ → Bool) → MayPutBack shape made t old x u → HasPutBack shape made t old new x u
 
 -- what a step of the undo gives a field
 abbrev pub step_of : Step → Undo → Undo

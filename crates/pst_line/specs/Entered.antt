@@ -3,7 +3,8 @@ use Rattle.std.specs.Prelude.{◌≡◌, ℕ, ◌<◌, ◌⊎◌, true, List, le
 use Rattle.pst_base.specs.declared.names.Name.{Name}
 use Rattle.pst_base.specs.declared.names.NodeId.{NodeId}
 use Rattle.pst_base.specs.Shape.{type_at}
-use Rattle.pst_base.specs.Heap.{IsFull}
+use Rattle.pst_base.specs.declared.names.Kind.{Kind}
+use Rattle.pst_base.specs.Heap.{IsFull, kind_in}
 use Rattle.pst_places.specs.State.{ValueStored, PointerStored, WritesStay}
 use Rattle.pst_line_nodes.specs.Line.{Line, IsQuiet, most}
 use Rattle.pst_line_nodes.specs.Seen.{Seen}
@@ -11,7 +12,7 @@ use Rattle.pst_line_nodes.specs.Nodes.{line_of, AreKept}
 use Rattle.pst_line_nodes.specs.Carried.{IsCarried}
 use Rattle.pst_line.specs.declared.place.LinePlace.{LinePlace}
 use Rattle.pst_line.specs.declared.place.Undo.{Undo}
-use Rattle.pst_line.specs.Store.{is_made, state_of}
+use Rattle.pst_line.specs.Store.{is_made, state_of, place_at}
 use Rattle.pst_line.specs.Undoing.{IsNewestOf}
 use Rattle.pst_line.specs.Noted.{with_entry}
 use Rattle.pst_line.specs.Held.{Held, IsRootAt, line_in, stored_of}
@@ -20,9 +21,17 @@ use Rattle.pst_line.specs.Held.{Held, IsRootAt, line_in, stored_of}
 abbrev pub line_with : Held → List Seen → Line
 line_with h nodes = line_of (is_made h.versions h.opened) nodes
 
+-- the place of the open run
+abbrev pub newest_place : Held → LinePlace
+newest_place h = place_at (length h.versions)
+
+-- the record of node r has the field, as the open run sees it
+abbrev pub HasField : Held → NodeId → (f : ℕ) → Type 0
+HasField h r f = let s = state_of (stored_of h) in (k : Kind) × (kind_in h.shape (s.heap (newest_place h)) (s.name r) f ≡ Some k)
+
 -- what a write of a field finds in a node
 abbrev pub entry_at : Held → List Seen → (x f : ℕ) → Undo
-entry_at h nodes x f = record { node = record { 0 = (line_with h nodes).home x }; slot = f; content = (line_with h nodes).holds x f (length h.versions) }
+entry_at h nodes x f = record { node = record { 0 = (line_with h nodes).home x }; slot = record { 0 = f }; content = (line_with h nodes).holds x f (length h.versions) }
 
 -- Some nodes were copied so that x, the newest node of the record of node r, has room for a write of a field; all pointers to
 -- copied nodes are redirected.

@@ -4,7 +4,7 @@ use Rattle.pst_base.specs.declared.names.Counts.{Counts}
 use Rattle.pst_base.specs.declared.names.NodeId.{NodeId}
 use Rattle.pst_base.specs.declared.shape.TypeShape.{TypeShape}
 use Rattle.pst_line_nodes.specs.declared.content.Content.{Content}
-use Rattle.pst_line_nodes.specs.declared.content.Content.TheVariants.{Number, Null, Target}
+use Rattle.pst_line_nodes.specs.declared.content.Content.TheVariants.{Number, Null, Target as TargetOf}
 use Rattle.pst_line_nodes.specs.Line.{Line}
 use Rattle.pst_line_nodes.specs.Seen.{Seen}
 use Rattle.pst_line_nodes.specs.Nodes.{line_of, AreKept}
@@ -75,7 +75,7 @@ pub record IsHeld (h : Held) : Type 0 where
 abbrev pub target : Content → Option NodeId
 target (Number n) = None
 target Null = None
-target (Target y) = Some (record { 0 = y })
+target (TargetOf y) = Some y
 
 -- ---- a store that may not be started yet
 

@@ -1,4 +1,3 @@
-pub mod Asked
 pub mod Store
 pub mod StoreLaws
 pub mod Undo

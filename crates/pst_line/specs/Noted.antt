@@ -8,14 +8,14 @@ use Rattle.pst_line.specs.Undoing.{IsEntered}
 
 -- the entry of a field, by the first node of its record and its slot, with what the field had
 abbrev pub entry_in : (ℕ × ℕ) × Content → Undo
-entry_in e = record { node = record { 0 = e.0.0 }; slot = e.0.1; content = e.1 }
+entry_in e = record { node = record { 0 = e.0.0 }; slot = record { 0 = e.0.1 }; content = e.1 }
 
 abbrev pub entries_in : List ((ℕ × ℕ) × Content) → List Undo
 entries_in es = map entry_in es
 
 -- an entry is of this field
 abbrev pub is_of : ℕ × ℕ → Undo → Bool
-is_of k u = (k.0 == u.node.0) && (k.1 == u.slot)
+is_of k u = (k.0 == u.node.0) && (k.1 == u.slot.0)
 
 -- some entry is of this field
 abbrev pub is_noted : List Undo → ℕ × ℕ → Bool
@@ -23,12 +23,12 @@ is_noted us k = list_any (is_of k) us
 
 -- what a field had is noted, unless the field is noted already
 abbrev pub with_entry : Undo → List Undo → List Undo
-with_entry u us = if is_noted us (u.node.0, u.slot) then us else u ∷ us
+with_entry u us = if is_noted us (u.node.0, u.slot.0) then us else u ∷ us
 
 -- each field is noted once: no entry is of the field of one behind it
 abbrev pub IsOnce : List Undo → Type 0
 IsOnce [] = ⊤
-IsOnce (u ∷ us) = (is_noted us (u.node.0, u.slot) ≡ false) × IsOnce us
+IsOnce (u ∷ us) = (is_noted us (u.node.0, u.slot.0) ≡ false) × IsOnce us
 
 -- What a store's undo list is: each field of a record stands in it at most once, and only one that the open run has written, so that
 -- it is never longer than the fields that the run has touched are many. It is empty while no run is open.

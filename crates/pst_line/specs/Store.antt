@@ -31,6 +31,10 @@ is_made versions opened i = in_stretch versions i || in_run opened i
 
 -- ---- a line store
 
+-- the place with a stamp
+abbrev pub place_at : ℕ → LinePlace
+place_at n = record { stamp = record { 0 = n } }
+
 -- The record types; the nodes; the stretches of the versions; how many nodes there were when the open run began, if one is
 -- open; whether a store of this run answered Memory; and what was made and written.
 pub record Stored : Type 0 where
@@ -48,11 +52,11 @@ stamp s = length s.versions
 pub record IsRun (s : Stored) (p : LinePlace) : Type 0 where
   pub begun : ℕ
   pub opened : s.opened ≡ Some begun
-  pub newest : p.stamp ≡ stamp s
+  pub newest : p.stamp.0 ≡ stamp s
 
 -- a place of the store: a version, or the open run
 abbrev pub IsPlace : Stored → LinePlace → Type 0
-IsPlace s p = (p.stamp < stamp s) ⊎ IsRun s p
+IsPlace s p = (p.stamp.0 < stamp s) ⊎ IsRun s p
 
 pub record IsWritable (s : Stored) (p : LinePlace) : Type 0 where
   pub run : IsRun s p
@@ -61,16 +65,16 @@ pub record IsWritable (s : Stored) (p : LinePlace) : Type 0 where
 -- the versions as the traits have them: each one comes from the one before it
 abbrev pub rows_from : ℕ → List Stretch → List (VersionRow LinePlace)
 rows_from v [] = []
-rows_from v (r ∷ rs) = record { parent = record { 0 = v - 1 }; run = r.run; place = record { stamp = v } } ∷ rows_from (suc v) rs
+rows_from v (r ∷ rs) = record { parent = record { 0 = v - 1 }; run = r.run; place = place_at v } ∷ rows_from (suc v) rs
 
 -- A line has no forks.
 abbrev pub state_of : Stored → State LinePlace NodeId
 state_of s = record {
   shape = s.shape;
   has = IsPlace s;
-  heap = λ p. heap_at s.shape s.line p.stamp;
+  heap = λ p. heap_at s.shape s.line p.stamp.0;
   name = λ i. s.line.name i.0;
-  live = λ p i. IsPlace s p × IsLive s.line i.0 p.stamp;
+  live = λ p i. IsPlace s p × IsLive s.line i.0 p.stamp.0;
   writable = IsWritable s;
   counts = s.counts;
   versions = rows_from 0 s.versions;
@@ -95,7 +99,7 @@ pub record IsStored (s : Stored) : Type 0 where
   pub made : (i : ℕ) → i < s.line.count → s.line.made i ≡ is_made s.versions s.opened (s.line.home i)
   pub begun : (b : ℕ) → s.opened ≡ Some b → b ≤ s.line.count
   pub ended : (i : ℕ) → unwrap_or s.opened s.line.count ≤ i → in_stretch s.versions i ≡ false
-  pub well_formed : (p : LinePlace) → IsPlace s p → IsWellFormed s.shape (heap_at s.shape s.line p.stamp)
+  pub well_formed : (p : LinePlace) → IsPlace s p → IsWellFormed s.shape (heap_at s.shape s.line p.stamp.0)
   pub bounded : load s.shape s.line (stamp s) ≤ bound s.counts
 
 -- Between two calls, unless a store answered Memory: no pointer is still to be redirected, so that the rule on pointer
@@ -115,12 +119,12 @@ pub record IsClosed (s : Stored) : Type 0 where
 -- a run is open at the place, which is that of the next version, with the newest heap, and nothing else changes
 pub record Began (old new : State LinePlace NodeId) (at : LinePlace) : Type 0 where
   pub shape : new.shape ≡ old.shape
-  pub place : at.stamp ≡ length old.versions
+  pub place : at.stamp.0 ≡ length old.versions
   pub fresh : old.has at → ⊥
   pub has : (p : LinePlace) → old.has p → new.has p
   pub only : (p : LinePlace) → new.has p → (p ≡ at) ⊎ old.has p
   pub writable : new.writable at
-  pub newest : (v : LinePlace) → suc v.stamp ≡ length old.versions → new.heap at ≡ old.heap v
+  pub newest : (v : LinePlace) → suc v.stamp.0 ≡ length old.versions → new.heap at ≡ old.heap v
   pub heaps : (p : LinePlace) → old.has p → new.heap p ≡ old.heap p
   pub live : (p : LinePlace) (r : NodeId) → old.live p r → new.live p r
   pub name : (r : NodeId) → new.name r ≡ old.name r
@@ -131,7 +135,7 @@ pub record Began (old new : State LinePlace NodeId) (at : LinePlace) : Type 0 wh
 pub record LinePublished (old new : State LinePlace NodeId) (run : RunNo) (version : VersionNo) : Type 0 where
   pub shape : new.shape ≡ old.shape
   pub number : version.0 ≡ length old.versions
-  pub versions : new.versions ≡ old.versions ++ record { parent = record { 0 = length old.versions - 1 }; run = run; place = record { stamp = length old.versions } } ∷ []
+  pub versions : new.versions ≡ old.versions ++ record { parent = record { 0 = length old.versions - 1 }; run = run; place = place_at (length old.versions) } ∷ []
   pub has : (p : LinePlace) → old.has p → new.has p
   pub back : (p : LinePlace) → new.has p → old.has p
   pub heaps : (p : LinePlace) → old.has p → new.heap p ≡ old.heap p
@@ -143,8 +147,8 @@ pub record LinePublished (old new : State LinePlace NodeId) (run : RunNo) (versi
 -- no run is open, and the versions are as they were; what was written and made stays counted
 pub record Undone (old new : State LinePlace NodeId) : Type 0 where
   pub shape : new.shape ≡ old.shape
-  pub has : (p : LinePlace) → p.stamp < length old.versions → new.has p
-  pub back : (p : LinePlace) → new.has p → p.stamp < length old.versions
+  pub has : (p : LinePlace) → p.stamp.0 < length old.versions → new.has p
+  pub back : (p : LinePlace) → new.has p → p.stamp.0 < length old.versions
   pub heaps : (p : LinePlace) → new.has p → new.heap p ≡ old.heap p
   pub live : (p : LinePlace) (r : NodeId) → new.has p → old.live p r → new.live p r
   pub name : (r : NodeId) → new.name r ≡ old.name r
@@ -163,7 +167,7 @@ pub record IsEmpty (s : Stored) : Type 0 where
 
 pub record IsStarted (shape : List TypeShape) (s : Stored) : Type 0 where
   pub shape_is : s.shape ≡ shape
-  pub rows : rows_from 0 s.versions ≡ record { parent = record { 0 = 0 }; run = record { 0 = 0 }; place = record { stamp = 0 } } ∷ []
+  pub rows : rows_from 0 s.versions ≡ record { parent = record { 0 = 0 }; run = record { 0 = 0 }; place = place_at 0 } ∷ []
   pub opened : s.opened ≡ None
   pub failed : s.failed ≡ false
   pub heap : heap_at shape s.line 0 ≡ initial_heap shape
@@ -175,9 +179,9 @@ pub record IsStarted (shape : List TypeShape) (s : Stored) : Type 0 where
 pub record Means (h : State LinePlace NodeId) (s : Stored) : Type 0 where
   pub shape : h.shape ≡ s.shape
   pub has : (p : LinePlace) → h.has p ↔ IsPlace s p
-  pub heap : (p : LinePlace) → h.heap p ≡ heap_at s.shape s.line p.stamp
+  pub heap : (p : LinePlace) → h.heap p ≡ heap_at s.shape s.line p.stamp.0
   pub name : (r : NodeId) → h.name r ≡ s.line.name r.0
-  pub live : (p : LinePlace) (r : NodeId) → h.live p r ↔ (IsPlace s p × IsLive s.line r.0 p.stamp)
+  pub live : (p : LinePlace) (r : NodeId) → h.live p r ↔ (IsPlace s p × IsLive s.line r.0 p.stamp.0)
   pub writable : (p : LinePlace) → h.writable p ↔ IsWritable s p
   pub counts : h.counts ≡ s.counts
   pub versions : h.versions ≡ rows_from 0 s.versions
@@ -186,6 +190,6 @@ pub record Means (h : State LinePlace NodeId) (s : Stored) : Type 0 where
 
 -- Each version's place is that of its number, and comes from the version before it.
 pub record IsChain (h : State LinePlace NodeId) : Type 0 where
-  pub place : (v : ℕ) (row : VersionRow LinePlace) → slice_get h.versions v ≡ Some row → row.place ≡ record { stamp = v }
+  pub place : (v : ℕ) (row : VersionRow LinePlace) → slice_get h.versions v ≡ Some row → row.place ≡ place_at v
   pub parent : (v : ℕ) (row : VersionRow LinePlace) → slice_get h.versions v ≡ Some row → row.parent ≡ record { 0 = v - 1 }
   pub has : (v : ℕ) (row : VersionRow LinePlace) → slice_get h.versions v ≡ Some row → h.has row.place

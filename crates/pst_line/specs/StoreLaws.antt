@@ -14,7 +14,7 @@ use Rattle.pst_line_nodes.specs.Line.{Line, IsIn, IsNewest, heap_at, most}
 use Rattle.pst_line_nodes.specs.Changes.{IsNumberSet, IsNulled, IsPointed, IsRedirected, IsCopied, IsMade}
 use Rattle.pst_line_nodes.specs.Runs.{IsDropped}
 use Rattle.pst_line.specs.declared.place.LinePlace.{LinePlace}
-use Rattle.pst_line.specs.Store.{Stored, state_of, stamp, IsWritable, IsStored, IsRested, IsClosed, Began, LinePublished, Undone}
+use Rattle.pst_line.specs.Store.{Stored, state_of, stamp, place_at, IsWritable, IsStored, IsRested, IsClosed, Began, LinePublished, Undone}
 
 abbrev pub after : Stored → Line → Counts → Stored
 after s w c = record s { line = w; counts = c }
@@ -73,7 +73,7 @@ FailLaw = (s : Stored) → IsStored s
 abbrev pub BeginLaw : Type 0
 BeginLaw = (s : Stored) → IsStored s → IsClosed s → s.failed ≡ false → 0 < stamp s
     → let t : Stored = record s { opened = Some s.line.count } in
-    IsStored t × IsRested t × Began (state_of s) (state_of t) (record { stamp = stamp s })
+    IsStored t × IsRested t × Began (state_of s) (state_of t) (place_at (stamp s))
 
 abbrev pub PublishLaw : Type 0
 PublishLaw = (s : Stored) (b : ℕ) (run : RunNo) (root : NodeId) → IsStored s → IsRested s → s.opened ≡ Some b

@@ -6,19 +6,19 @@ use Rattle.pst_base.specs.declared.shape.TypeShape.{TypeShape}
 use Rattle.pst_base.specs.Heap.{Rec, Heap, IsWellFormed, IsValueSlot, IsPointerSlot, with_value, with_pointer, with_record, new_record, value_at, pointer_at}
 use Rattle.pst_base.specs.declared.names.TypeNo.{TypeNo}
 use Rattle.pst_line_nodes.specs.declared.content.Content.{Content}
-use Rattle.pst_line_nodes.specs.declared.content.Content.TheVariants.{Number, Null, Target}
+use Rattle.pst_line_nodes.specs.declared.content.Content.TheVariants.{Number, Null, Target as TargetOf}
 
 -- a field with a content that was there
 abbrev pub put_back : (ℕ → Name) → Heap → Name → ℕ → Content → Heap
 put_back name h n slot (Number v) = with_value h n slot v
 put_back name h n slot Null = with_pointer h n slot None
-put_back name h n slot (Target y) = with_pointer h n slot (Some (name y))
+put_back name h n slot (TargetOf y) = with_pointer h n slot (Some (name y.0))
 
 -- what a field is given before any gets what it had: null, where that is a pointer
 abbrev pub blank : Content → Content
 blank (Number v) = Number v
 blank Null = Null
-blank (Target y) = Null
+blank (TargetOf y) = Null
 
 -- an undo entry, with the record's name in place of its node
 pub record Mark : Type 0 where

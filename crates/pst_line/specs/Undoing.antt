@@ -7,7 +7,8 @@ use Rattle.pst_base.specs.declared.shape.TypeShape.{TypeShape}
 use Rattle.pst_base.specs.Shape.{type_at, field_kind}
 use Rattle.pst_base.specs.Heap.{Heap, IsPointer, IsFull, new_record}
 use Rattle.pst_line_nodes.specs.declared.content.Content.{Content}
-use Rattle.pst_line_nodes.specs.declared.content.Content.TheVariants.{Number, Null, Target}
+use Rattle.pst_line_nodes.specs.declared.content.Content.TheVariants.{Number, Null, Target as TargetOf}
+use Rattle.pst_line_nodes.specs.Contents.{Target}
 use Rattle.pst_line_nodes.specs.Line.{Line, IsIn, IsNewest, IsLive, heap_at}
 use Rattle.pst_line_nodes.specs.Changes.{HasSameNodes, IsNumberSet, IsNulled, IsPointed, VersionsStay}
 use Rattle.pst_line_nodes.specs.Carried.{IsSince}
@@ -18,7 +19,7 @@ use Rattle.pst_line.specs.Undo.{Mark, LeadsBack, blank}
 
 -- an undo entry, with its record's name
 abbrev pub mark_of : (ℕ → Name) → Undo → Mark
-mark_of name u = record { name = name u.node.0; slot = u.slot; content = u.content }
+mark_of name u = record { name = name u.node.0; slot = u.slot.0; content = u.content }
 
 -- the entry with which the undo lets a pointer go
 abbrev pub blanked : Undo → Undo
@@ -32,15 +33,15 @@ plan es = map blanked es ++ es
 abbrev pub Fits : Stored → ℕ → ℕ → Content → Type 0
 Fits s x g (Number v) = field_kind (type_at s.shape (s.line.ty x)) g ≡ Some Int
 Fits s x g Null = IsPointer (field_kind (type_at s.shape (s.line.ty x)) g)
-Fits s x g (Target y) = IsLive s.line y (stamp s) × (field_kind (type_at s.shape (s.line.ty x)) g ≡ Some (Pointer (s.line.ty y)))
+Fits s x g (TargetOf y) = IsLive s.line y.0 (stamp s) × (field_kind (type_at s.shape (s.line.ty x)) g ≡ Some (Pointer (s.line.ty y.0)))
 
 -- An undo entry: it has the first node of a record that lives at the open run, what was in the field fits it, and what is in it now is in force from the
 -- run's stamp on, so that putting something back replaces it.
 pub record IsEntered (s : Stored) (u : Undo) : Type 0 where
   pub live : IsLive s.line u.node.0 (stamp s)
   pub home : s.line.home u.node.0 ≡ u.node.0
-  pub fits : Fits s u.node.0 u.slot u.content
-  pub since : IsSince s.line (s.line.home u.node.0) u.slot (stamp s)
+  pub fits : Fits s u.node.0 u.slot.0 u.content
+  pub since : IsSince s.line (s.line.home u.node.0) u.slot.0 (stamp s)
 
 -- The heap to which an undo leads: that of the newest version, with the records that the run has made, each with default
 -- fields.
@@ -90,7 +91,7 @@ pub record IsPointedBack (shape : List TypeShape) (old new : Line) (x f t y : �
 abbrev pub IsPut : List TypeShape → Line → Line → ℕ → ℕ → ℕ → Content → Type 0
 IsPut shape old new x f t (Number n) = IsNumberSet old new x f t n 0
 IsPut shape old new x f t Null = IsNulled old new x f t 0
-IsPut shape old new x f t (Target y) = IsPointedBack shape old new x f t y
+IsPut shape old new x f t (TargetOf y) = IsPointedBack shape old new x f t y.0
 
 -- what is so once the last write is undone
 pub record IsUndone (s : Stored) (w : Line) (b : ℕ) (entries : List Undo) : Type 0 where
@@ -101,10 +102,10 @@ pub record IsUndone (s : Stored) (w : Line) (b : ℕ) (entries : List Undo) : Ty
   pub nodes : HasSameNodes s.line w
 
 abbrev pub PutBackLaw : Type 0
-PutBackLaw = (s : Stored) (w : Line) (b x : ℕ) (v : Undo) (es : List Undo) → IsStored s → IsRested s → s.opened ≡ Some b → CanUndo s b (v ∷ es) → IsNewestOf s.line (stamp s) v.node.0 x → IsPut s.shape s.line w x v.slot (stamp s) v.content
+PutBackLaw = (s : Stored) (w : Line) (b x : ℕ) (v : Undo) (es : List Undo) → IsStored s → IsRested s → s.opened ≡ Some b → CanUndo s b (v ∷ es) → IsNewestOf s.line (stamp s) v.node.0 x → IsPut s.shape s.line w x v.slot.0 (stamp s) v.content
     → IsUndone s w b es
 
 -- no write that is undone meets a full record, since the heap that it leads to was there before
 abbrev pub RoomLaw : Type 0
 RoomLaw = (s : Stored) (b x y z : ℕ) (v : Undo) (es : List Undo) → IsStored s → CanUndo s b (v ∷ es) → v.content ≡ Target y → IsNewestOf s.line (stamp s) v.node.0 x → IsNewestOf s.line (stamp s) y z
-    → ¬ (IsFull s.shape (heap_at s.shape s.line (stamp s)) (s.line.name x) v.slot (Some (s.line.name z)))
+    → ¬ (IsFull s.shape (heap_at s.shape s.line (stamp s)) (s.line.name x) v.slot.0 (Some (s.line.name z)))

@@ -8,7 +8,7 @@ ghost use Rattle.pst_line_nodes.specs.Line.{potential};
 ghost use Rattle.pst_line.specs.declared.place.LinePlace.{LinePlace};
 ghost use Rattle.pst_line.specs.declared.place.Undo.{Undo};
 ghost use Rattle.pst_line.specs.Noted.{AreNoted};
-ghost use Rattle.pst_line.specs.Store.{Stored, stamp, IsStored, IsRested, IsClosed, IsEmpty, IsStarted, Means, IsChain, Began, LinePublished, Undone};
+ghost use Rattle.pst_line.specs.Store.{Stored, stamp, place_at, IsStored, IsRested, IsClosed, IsEmpty, IsStarted, Means, IsChain, Began, LinePublished, Undone};
 
 use crate::place::LinePlace;
 use pst_base::{Counts, NoMemory, NodeId, RunNo, Shape, VersionNo};
@@ -66,7 +66,7 @@ pub trait LineCalls: HeapAt<Ref = NodeId, Place = LinePlace> {
     /// The place of a version, or None exactly where there is none.
     fn at(&self, version: VersionNo) -> Option<LinePlace>
         ensures place { result ≡ option_map (λ row. row.place) (slice_get (Self.state self.now).versions version.0) }
-        ensures number { result ≡ (if nat_lt version.0 (length (Self.state self.now).versions) then Some (record { stamp = version.0 }) else None) };
+        ensures number { result ≡ (if nat_lt version.0 (length (Self.state self.now).versions) then Some (place_at version.0) else None) };
 
     /// How many versions there are.
     fn count(&self) -> u32

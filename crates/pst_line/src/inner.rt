@@ -4,7 +4,7 @@ use crate::line_nodes::LineNodes;
 use crate::place::{LinePlace, Stretch};
 use crate::undo_list::UndoList;
 use pst_base::{Counts, Name, NoMemory, NodeId, ROOT, RunNo, Shape, SlotNo, TypeNo, VersionNo};
-use pst_line_nodes::content::Content;
+use pst_line_nodes::content::{Content, Stamp};
 use std::alloc::Global;
 use std::marker::Model;
 
@@ -42,7 +42,7 @@ impl<N: LineNodes> Core<N> {
     ghost use Rattle.pst_places.specs.State.{Unchanged, WritesStay};
     ghost use Rattle.pst_line_nodes.specs.Line.{potential};
     ghost use Rattle.pst_base.specs.Shape.{IsValid};
-    ghost use Rattle.pst_line.specs.Store.{state_of, Began, IsStarted, LinePublished};
+    ghost use Rattle.pst_line.specs.Store.{state_of, place_at, Began, IsStarted, LinePublished};
     ghost use Rattle.pst_line.specs.Held.{IsHeld, line_in, stored_of};
 
     /// A store with version 0, which has the root record alone.
@@ -51,13 +51,13 @@ impl<N: LineNodes> Core<N> {
         ensures { IfOk result (λ core. IsStarted shape.now (stored_of core)) }
     {
         let mut nodes = N::none(alloc);
-        let root = nodes.make(shape, ROOT, TypeNo(0), 0)?;
+        let root = nodes.make(shape, ROOT, TypeNo(0), Stamp(0))?;
         let mut versions = Vec::new(alloc);
         versions.push(Stretch {
             run: RunNo(0),
-            from: root,
+            from: root.0,
             to: nodes.count(),
-            root: NodeId(root),
+            root,
         })?;
         Ok(Core {
             shape: shape.copy(alloc)?,
@@ -71,7 +71,7 @@ impl<N: LineNodes> Core<N> {
                 pointer_writes: 0,
                 value_writes: 0,
             },
-            root: NodeId(root),
+            root,
         })
     }
 
@@ -83,10 +83,10 @@ impl<N: LineNodes> Core<N> {
     }
 
     // The stamp of the open run, or of the next one.
-    pub(crate) fn stamp(&self) -> u32
-        ensures { result ≡ length self.now.versions }
+    pub(crate) fn stamp(&self) -> Stamp
+        ensures { result.0 ≡ length self.now.versions }
     {
-        self.versions.len() as u32
+        Stamp(self.versions.len() as u32)
     }
 
     /// The root record, at a place: the node that its version keeps, or the newest one.
@@ -95,7 +95,7 @@ impl<N: LineNodes> Core<N> {
         ensures name { (state_of (stored_of self.now)).name result ≡ root_name }
         ensures live { (state_of (stored_of self.now)).live at result }
     {
-        match self.versions.get(at.stamp as usize) {
+        match self.versions.get(at.stamp.0 as usize) {
             Some(version) => version.root,
             None => self.root,
         }
@@ -107,19 +107,19 @@ impl<N: LineNodes> Core<N> {
         requires field { kind_in self.now.shape ((state_of (stored_of self.now)).heap at) ((state_of (stored_of self.now)).name r) field.0 ≡ Some Int }
         ensures { result ≡ value_in ((state_of (stored_of self.now)).heap at) ((state_of (stored_of self.now)).name r) field.0 }
     {
-        let x = self.nodes.cover(r.0, at.stamp);
-        number_of(self.nodes.read(x, field.0, at.stamp))
+        let x = self.nodes.cover(r, at.stamp);
+        number_of(self.nodes.read(x, field, at.stamp))
     }
 
     /// The record that a field holds, at a place, or None exactly where the field is null.
     pub(crate) fn pointer(&self, at: LinePlace, r: NodeId, field: SlotNo) -> Option<NodeId>
         requires live { (state_of (stored_of self.now)).live at r }
         requires field { IsPointer (kind_in self.now.shape ((state_of (stored_of self.now)).heap at) ((state_of (stored_of self.now)).name r) field.0) }
-        ensures target { option_map (state_of (stored_of self.now)).name result ≡ pointer_in ((state_of (stored_of self.now)).heap at) ((state_of (stored_of self.now)).name r) field.0 }
+        ensures target { let s = state_of (stored_of self.now) in option_map s.name result ≡ pointer_in (s.heap at) (s.name r) field.0 }
         ensures live { IfSome result ((state_of (stored_of self.now)).live at) }
     {
-        let x = self.nodes.cover(r.0, at.stamp);
-        target_of(self.nodes.read(x, field.0, at.stamp))
+        let x = self.nodes.cover(r, at.stamp);
+        target_of(self.nodes.read(x, field, at.stamp))
     }
 
     /// The name of a record.
@@ -127,15 +127,15 @@ impl<N: LineNodes> Core<N> {
         requires { (p : LinePlace) × (state_of (stored_of self.now)).live p r }
         ensures { result ≡ (state_of (stored_of self.now)).name r }
     {
-        self.nodes.name(r.0)
+        self.nodes.name(r)
     }
 
     /// The type of a record.
     pub(crate) fn ty(&self, r: NodeId) -> TypeNo
         requires { (p : LinePlace) × (state_of (stored_of self.now)).live p r }
-        ensures { (p : LinePlace) → (state_of (stored_of self.now)).live p r → type_in ((state_of (stored_of self.now)).heap p) ((state_of (stored_of self.now)).name r) ≡ Some result }
+        ensures { let s = state_of (stored_of self.now) in (p : LinePlace) → s.live p r → type_in (s.heap p) (s.name r) ≡ Some result }
     {
-        self.nodes.ty(r.0)
+        self.nodes.ty(r)
     }
 
     /// Opens a run. Its place has the newest heap. It takes no memory.
@@ -158,7 +158,7 @@ impl<N: LineNodes> Core<N> {
         ensures closed { OnOk result (self.new.opened ≡ None) }
         ensures err { OnErr result (self.new ≡ self.old) }
     {
-        let version = VersionNo(self.stamp());
+        let version = VersionNo(self.stamp().0);
         let to = self.nodes.count();
         let from = self.opened.unwrap_or(to);
         self.versions.push(Stretch {
@@ -174,10 +174,12 @@ impl<N: LineNodes> Core<N> {
 
     /// The place of a version, or None exactly where there is none.
     pub(crate) fn place_of(&self, version: VersionNo) -> Option<LinePlace>
-        ensures { result ≡ (if nat_lt version.0 (length self.now.versions) then Some (record { stamp = version.0 }) else None) }
+        ensures { result ≡ (if nat_lt version.0 (length self.now.versions) then Some (place_at version.0) else None) }
     {
-        if version.0 < self.stamp() {
-            Some(LinePlace { stamp: version.0 })
+        if version.0 < self.stamp().0 {
+            Some(LinePlace {
+                stamp: Stamp(version.0),
+            })
         } else {
             None
         }
@@ -187,7 +189,7 @@ impl<N: LineNodes> Core<N> {
     pub(crate) fn count(&self) -> u32
         ensures { result ≡ length self.now.versions }
     {
-        self.stamp()
+        self.stamp().0
     }
 
     /// What was made and written.
@@ -232,7 +234,7 @@ fn target_of(content: Content) -> Option<NodeId>
     ensures { result ≡ target content }
 {
     match content {
-        Content::Target(y) => Some(NodeId(y)),
+        Content::Target(y) => Some(y),
         Content::Null | Content::Number(_) => None,
     }
 }

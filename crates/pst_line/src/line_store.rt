@@ -4,6 +4,7 @@ use crate::calls::LineCalls;
 use crate::inner::Core;
 use crate::place::LinePlace;
 use pst_base::{Counts, NoMemory, RunNo, Shape, VersionNo};
+use pst_line_nodes::content::Stamp;
 use pst_line_nodes::nodes::Nodes;
 use std::alloc::Global;
 use std::marker::Model;
@@ -66,7 +67,7 @@ impl LineCalls for LineStore {
 
     fn begin(&mut self) -> LinePlace {
         match &mut self.core {
-            None => LinePlace { stamp: 0 },
+            None => LinePlace { stamp: Stamp(0) },
             Some(core) => core.begin(),
         }
     }

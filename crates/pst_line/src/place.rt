@@ -1,16 +1,16 @@
 //! Places, and the stretches of the versions.
 
-use pst_base::{NodeId, RunNo};
-use pst_line_nodes::content::Content;
+use pst_base::{NodeId, RunNo, SlotNo};
+use pst_line_nodes::content::{Content, Stamp};
 
 /// A place of a linear history: a version, or the open run.
 #[derive(Clone, Copy, PartialEq, Eq)]
 pub struct LinePlace {
-    pub(crate) stamp: u32,
+    pub(crate) stamp: Stamp,
 }
 
-/// A version: its run, the numbers of the nodes that were made from `begin` of its run to its `publish`, and a node of the root
-/// record that is live there.
+/// A version: its run, how many nodes there were at `begin` of its run and at its `publish`, so that the nodes with numbers between are
+/// its own, and a node of the root record that is live there.
 #[derive(Clone, Copy, PartialEq, Eq)]
 pub struct Stretch {
     pub run: RunNo,
@@ -23,6 +23,6 @@ pub struct Stretch {
 #[derive(Clone, Copy, PartialEq, Eq)]
 pub struct Undo {
     pub node: NodeId,
-    pub slot: u16,
+    pub slot: SlotNo,
     pub content: Content,
 }

@@ -5,7 +5,7 @@ ghost use Rattle.pst_line.specs.Noted.{with_entry};
 
 use crate::place::Undo;
 use indexmap::IndexMap;
-use pst_base::{NoMemory, NodeId};
+use pst_base::{NoMemory, NodeId, SlotNo};
 use pst_line_nodes::content::Content;
 use std::alloc::Global;
 use std::marker::Model;
@@ -14,7 +14,7 @@ use std::marker::Model;
 /// written, it stands here once.
 #[derive(Drop)]
 pub(crate) struct UndoList {
-    /// By the first node of the record, and the slot.
+    /// By the first node of the record, and the slot, as the bare numbers that are hashed.
     fields: IndexMap<(u64, u16), Content>,
 }
 
@@ -43,7 +43,7 @@ impl UndoList {
         ensures ok { OnOk result (self.new ≡ with_entry entry self.old) }
         ensures err { OnErr result (self.new ≡ self.old) }
     {
-        let field = (entry.node.0, entry.slot);
+        let field = (entry.node.0, entry.slot.0);
         if !self.fields.contains_key(&field) {
             self.fields.insert(field, entry.content)?;
         }
@@ -66,7 +66,7 @@ impl UndoList {
         let (field, content) = self.fields.get_index(self.len() - 1 - number).unwrap();
         Undo {
             node: NodeId(field.0),
-            slot: field.1,
+            slot: SlotNo(field.1),
             content: *content,
         }
     }

@@ -4,7 +4,8 @@ use crate::inner::Core;
 use crate::line_nodes::LineNodes;
 use crate::place::Undo;
 use crate::undo_list::UndoList;
-use pst_line_nodes::content::Content;
+use pst_base::NodeId;
+use pst_line_nodes::content::{Content, Stamp};
 
 impl<N: LineNodes> Core<N> {
     ghost use Rattle.std.specs.Prelude.{◌≡◌, None, IsSome, false};
@@ -37,12 +38,12 @@ pub(crate) enum Step {
 
 ghost use Rattle.std.specs.Prelude.{◌≡◌, ℕ, Bool, List, [], ◌∷◌, map};
 ghost use Rattle.pst_base.specs.declared.shape.TypeShape.{TypeShape};
-ghost use Rattle.pst_line.specs.Back.{MayPutBack, HasPutBack, MayTake, HasTaken, step_of};
+ghost use Rattle.pst_line.specs.Back.{MayPutBack, IsEntryPutBack, MayTake, HasTaken, step_of};
 
 // Goes over the fields that the run has written.
-fn take_back<N: LineNodes>(nodes: &mut N, entries: &UndoList, step: Step, stamp: u32)
-    requires { MayTake (N.seen nodes.old) stamp (map (step_of step) entries.now) }
-    ensures { HasTaken (N.seen nodes.old) (N.seen nodes.new) stamp (map (step_of step) entries.now) }
+fn take_back<N: LineNodes>(nodes: &mut N, entries: &UndoList, step: Step, stamp: Stamp)
+    requires { MayTake (N.seen nodes.old) stamp.0 (map (step_of step) entries.now) }
+    ensures { HasTaken (N.seen nodes.old) (N.seen nodes.new) stamp.0 (map (step_of step) entries.now) }
 {
     for number in 0..entries.len() {
         let entry = entry_in(step, entries.from_last(number));
@@ -64,18 +65,18 @@ fn entry_in(step: Step, entry: Undo) -> Undo
 }
 
 // Gives the field of an entry its content.
-fn take_entry<N: LineNodes>(nodes: &mut N, entry: Undo, stamp: u32)
-    requires { MayTake (N.seen nodes.old) stamp (entry ∷ []) }
-    ensures { HasTaken (N.seen nodes.old) (N.seen nodes.new) stamp (entry ∷ []) }
+fn take_entry<N: LineNodes>(nodes: &mut N, entry: Undo, stamp: Stamp)
+    requires { MayTake (N.seen nodes.old) stamp.0 (entry ∷ []) }
+    ensures { HasTaken (N.seen nodes.old) (N.seen nodes.new) stamp.0 (entry ∷ []) }
 {
-    let x = nodes.cover(entry.node.0, stamp);
+    let x = nodes.cover(entry.node, stamp);
     put_back(nodes, x, entry, stamp);
 }
 
 // Puts back what a field had. Each content replaces one of the same stamp, so it takes no memory.
-fn put_back<N: LineNodes>(nodes: &mut N, x: u64, entry: Undo, stamp: u32)
-    requires { (shape : List TypeShape) × (made : ℕ → Bool) × MayPutBack shape made stamp (N.seen nodes.old) x entry }
-    ensures { (shape : List TypeShape) (made : ℕ → Bool) → MayPutBack shape made stamp (N.seen nodes.old) x entry → HasPutBack shape made stamp (N.seen nodes.old) (N.seen nodes.new) x entry }
+fn put_back<N: LineNodes>(nodes: &mut N, x: NodeId, entry: Undo, stamp: Stamp)
+    requires { (shape : List TypeShape) × (made : ℕ → Bool) × MayPutBack shape made stamp.0 (N.seen nodes.old) x.0 entry }
+    ensures { IsEntryPutBack stamp.0 (N.seen nodes.old) (N.seen nodes.new) x.0 entry }
 {
     match entry.content {
         Content::Number(_) => nodes.set(x, entry.slot, stamp, entry.content).unwrap(),

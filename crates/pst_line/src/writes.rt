@@ -9,14 +9,13 @@ use pst_places::StoreFault;
 
 impl<N: LineNodes> Core<N> {
     ghost use Rattle.std.specs.Prelude.{◌≡◌, ◌⊎◌, Some, None, OnOk, OnErr, IfOk, IsSome, IsTrue, true, false, length, ◌↔◌};
-    ghost use Rattle.pst_base.specs.declared.names.Kind.{Kind};
     ghost use Rattle.pst_base.specs.declared.names.Kind.TheVariants.{Int};
     ghost use Rattle.pst_base.specs.Heap.{kind_in, IsPointer};
     ghost use Rattle.pst_places.specs.State.{HasRoom, Allocated, IsNewType, IsFresh, Unchanged};
     ghost use Rattle.pst_places.specs.Store.{MayStorePointer, PointerOutcome};
     ghost use Rattle.pst_line.specs.Store.{state_of};
     ghost use Rattle.pst_line.specs.Held.{stored_of};
-    ghost use Rattle.pst_line.specs.Entered.{HasEntered, HasNoRoom, IsLinked, IsNumberStored, IsPointerStored, Stays};
+    ghost use Rattle.pst_line.specs.Entered.{newest_place, HasField, HasEntered, HasNoRoom, IsLinked, IsNumberStored, IsPointerStored, Stays};
 
     /// Makes a record with all fields 0 or null, in the open run. A refusal changes nothing.
     pub(crate) fn make(&mut self, at: LinePlace, ty: TypeNo, name: Name) -> Result<NodeId, NoMemory>
@@ -30,29 +29,29 @@ impl<N: LineNodes> Core<N> {
         let stamp = self.stamp();
         let id = self.nodes.make(&self.shape, name, ty, stamp)?;
         self.counts.records += 1;
-        Ok(NodeId(id))
+        Ok(id)
     }
 
     // Makes room for a write of a field of a record, and enters what the field holds, unless the run has written it before: gives
     // the record's newest node. The store has failed until the write is done.
-    fn enter(&mut self, r: NodeId, field: SlotNo) -> Result<u64, NoMemory>
+    fn enter(&mut self, r: NodeId, field: SlotNo) -> Result<NodeId, NoMemory>
         requires open { IsSome self.old.opened }
         requires whole { self.old.failed ≡ false }
-        requires live { (state_of (stored_of self.old)).live (record { stamp = length self.old.versions }) r }
-        requires field { (k : Kind) × (kind_in self.old.shape ((state_of (stored_of self.old)).heap (record { stamp = length self.old.versions })) ((state_of (stored_of self.old)).name r) field.0 ≡ Some k) }
+        requires live { (state_of (stored_of self.old)).live (newest_place self.old) r }
+        requires field { HasField self.old r field.0 }
         ensures failed { self.new.failed ≡ true }
-        ensures ok { IfOk result (HasEntered self.old self.new r.0 field.0) }
+        ensures ok { IfOk result (λ x. HasEntered self.old self.new r.0 field.0 x.0) }
         ensures err { OnErr result (Unchanged (state_of (stored_of self.old)) (state_of (stored_of self.new))) }
     {
         let stamp = self.stamp();
-        let found = self.nodes.cover(r.0, stamp);
+        let found = self.nodes.cover(r, stamp);
         self.failed = true;
-        let x = self.nodes.make_room(&self.shape, found, field.0, stamp)?;
-        self.root = NodeId(self.nodes.cover(self.root.0, stamp));
-        let content = self.nodes.read(x, field.0, stamp);
+        let x = self.nodes.make_room(&self.shape, found, field, stamp)?;
+        self.root = self.nodes.cover(self.root, stamp);
+        let content = self.nodes.read(x, field, stamp);
         self.undo.note(Undo {
-            node: NodeId(self.nodes.home(x)),
-            slot: field.0,
+            node: self.nodes.home(x),
+            slot: field,
             content,
         })?;
         Ok(x)
@@ -76,7 +75,7 @@ impl<N: LineNodes> Core<N> {
         self.whole();
         let stamp = self.stamp();
         let x = self.enter(r, field)?;
-        self.nodes.set(x, field.0, stamp, Content::Number(n))?;
+        self.nodes.set(x, field, stamp, Content::Number(n))?;
         self.counts.value_writes += 1;
         self.failed = false;
         Ok(())
@@ -99,7 +98,7 @@ impl<N: LineNodes> Core<N> {
         self.whole();
         let stamp = self.stamp();
         let x = self.enter(r, field)?;
-        self.nodes.set_null(x, field.0, stamp)?;
+        self.nodes.set_null(x, field, stamp)?;
         self.counts.pointer_writes += 1;
         self.failed = false;
         Ok(())
@@ -121,9 +120,9 @@ impl<N: LineNodes> Core<N> {
         self.whole();
         let stamp = self.stamp();
         let x = self.enter(r, field)?;
-        let z = self.nodes.cover(q.0, stamp);
-        let slot = self.nodes.open_slot(z, x, field.0).unwrap();
-        self.nodes.set_target(x, field.0, stamp, z, slot)?;
+        let z = self.nodes.cover(q, stamp);
+        let slot = self.nodes.open_slot(z, x, field).unwrap();
+        self.nodes.set_target(x, field, stamp, z, slot)?;
         self.counts.pointer_writes += 1;
         self.failed = false;
         Ok(())
@@ -136,9 +135,9 @@ impl<N: LineNodes> Core<N> {
         ensures { IsTrue result ↔ ¬ (HasNoRoom self.now at r field.0 q) }
     {
         let stamp = self.stamp();
-        let x = self.nodes.cover(r.0, stamp);
-        let z = self.nodes.cover(q.0, stamp);
-        self.nodes.open_slot(z, x, field.0).is_some()
+        let x = self.nodes.cover(r, stamp);
+        let z = self.nodes.cover(q, stamp);
+        self.nodes.open_slot(z, x, field).is_some()
     }
 
     // Writes a pointer to a record, in the open run. It is refused, before anything is changed, exactly where the record has no

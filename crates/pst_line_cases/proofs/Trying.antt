@@ -25,12 +25,12 @@ use Rattle.pst_line_cases.specs.Trials.{IsReady, HasWritten}
 use Rattle.pst_line.proofs.Stores.{rows_count}
 
 -- a place by its stamp
-same_place : (p q : LinePlace) → p.stamp ≡ q.stamp → p ≡ q
-same_place p q e = ap (λ (n : ℕ). record { stamp = n }) e
+same_place : (p q : LinePlace) → p.stamp.0 ≡ q.stamp.0 → p ≡ q
+same_place p q e = ap (λ (n : ℕ). record { stamp = record { 0 = n } }) e
 
 module _ (old mid : State LinePlace NodeId) (s : Stored) (at : LinePlace) (slot k : ℕ) (h : IsReady old s slot (k + 1)) (b : Began old mid at) where
   abbrev newest : LinePlace
-  newest = record { stamp = length old.versions - 1 }
+  newest = record { stamp = record { 0 = length old.versions - 1 } }
 
   pub begun_field : kind_in mid.shape (mid.heap at) root_name slot ≡ Some Int
   begun_field = ap (λ (shape : List TypeShape). kind_in shape (mid.heap at) root_name slot) b.shape
@@ -88,9 +88,9 @@ module _ (old mid new : State LinePlace NodeId) (s t : Stored) (at : LinePlace) 
         some = omega (arith, more);
         few = omega (arith, more, length_mid, h.few);
         all = λ p l. ⊎_elim
-            (λ (m : p.stamp < length old.versions). d.has p (w.has p (h.all p m)))
-            (λ (m : length old.versions ≤ p.stamp). d.has p (subst mid.has (sym (same_place p at (let e : p.stamp ≡ at.stamp = omega (arith, l, m, more, length_mid, w.place) in e))) w.there))
-            (cases_lt p.stamp (length old.versions));
+            (λ (m : p.stamp.0 < length old.versions). d.has p (w.has p (h.all p m)))
+            (λ (m : length old.versions ≤ p.stamp.0). d.has p (subst mid.has (sym (same_place p at (let e : p.stamp.0 ≡ at.stamp.0 = omega (arith, l, m, more, length_mid, w.place) in e))) w.there))
+            (cases_lt p.stamp.0 (length old.versions));
         field = λ p i. ap (λ (shape : List TypeShape). kind_in shape (new.heap p) root_name slot) d.shape ∙ ap (λ (heap : Heap). kind_in mid.shape heap root_name slot) (d.heaps p (d.back p i))
             ∙ elim (w.back p (d.back p i)) [
               | inl e ↦ subst (λ (p : LinePlace). kind_in mid.shape (mid.heap p) root_name slot ≡ Some Int) (sym e) w.field
@@ -130,7 +130,7 @@ module _ (h : State LinePlace NodeId) (s : Stored) (shape : List TypeShape) (m :
   one_stretch : length s.versions ≡ 1
   one_stretch = sym (rows_count s.versions 0) ∙ ap (λ (rows : List (VersionRow LinePlace)). length rows) st.rows
 
-  first_stamp : (p : LinePlace) → IsPlace s p → p.stamp ≡ 0
+  first_stamp : (p : LinePlace) → IsPlace s p → p.stamp.0 ≡ 0
   first_stamp p i = elim i [ inl l ↦ omega (arith, l, one_stretch) | inr r ↦ absurd (let no : None ≡ Some r.begun = sym st.opened ∙ r.opened in cc) ]
 
   first_heap : (p : LinePlace) → h.has p → h.heap p ≡ initial_heap shape

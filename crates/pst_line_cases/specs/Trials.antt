@@ -14,14 +14,14 @@ pub record IsReady (h : State LinePlace NodeId) (s : Stored) (slot n : ℕ) : Ty
   pub closed : s.opened ≡ None
   pub some : 0 < length h.versions
   pub few : length h.versions + n < 4294967295
-  pub all : (p : LinePlace) → p.stamp < length h.versions → h.has p
+  pub all : (p : LinePlace) → p.stamp.0 < length h.versions → h.has p
   pub field : (p : LinePlace) → h.has p → kind_in h.shape (h.heap p) root_name slot ≡ Some Int
   pub room : HasRoomFor h n
 
 -- A run is open, and has written a number there.
 pub record HasWritten (old new : State LinePlace NodeId) (slot n : ℕ) (at : LinePlace) : Type 0 where
   pub shape : new.shape ≡ old.shape
-  pub place : at.stamp ≡ length old.versions
+  pub place : at.stamp.0 ≡ length old.versions
   pub writable : new.writable at
   pub there : new.has at
   pub versions : new.versions ≡ old.versions

@@ -18,7 +18,7 @@ const NUMBER: SlotNo = SlotNo(0);
 /// Opens a run and writes a number into a field of the root record.
 fn write<S: LineCalls>(store: &mut S, field: SlotNo, n: i64) -> Result<LinePlace, NoMemory>
     requires { (k : ℕ) × IsReady (S.state store.old) (S.stored store.old) field.0 (k + 1) }
-    ensures { (k : ℕ) → IsReady (S.state store.old) (S.stored store.old) field.0 (k + 1) → IfOk result (HasWritten (S.state store.old) (S.state store.new) field.0 k) }
+    ensures { let s = S.state store.old in (k : ℕ) → IsReady s (S.stored store.old) field.0 (k + 1) → IfOk result (HasWritten s (S.state store.new) field.0 k) }
 {
     let at = store.begin();
     store.known();

@@ -8,9 +8,11 @@ use Rattle.pst_base.specs.declared.names.Kind.TheVariants.{Pointer}
 use Rattle.pst_base.specs.declared.shape.TypeShape.{TypeShape}
 use Rattle.pst_base.specs.Shape.{type_at}
 use Rattle.pst_line_nodes.specs.declared.content.Content.{Content}
-use Rattle.pst_line_nodes.specs.declared.content.Content.TheVariants.{Number, Null, Target}
+use Rattle.pst_line_nodes.specs.declared.content.Content.TheVariants.{Number, Null, Target as TargetOf}
+use Rattle.pst_line_nodes.specs.Contents.{Target}
 use Rattle.pst_line_nodes.specs.Line.{Line, Covers, IsNewest, AreChained, IsLine, AreMatched, HasKind, is_over, ends_by, newest, onward, if_newest, if_other, if_stale, stale_at, stale, potential, load, most, denoted, number, heap_at, record_at}
 use Rattle.pst_line_nodes.specs.Changes.{IsCopied, redirected, moved, VersionsStay, CopyLaw, QuietLaw, WalkLaw}
+use Rattle.pst_line_nodes.proofs.Contents.{one_target}
 use Rattle.pst_line_nodes.proofs.HeapLaws.{same_heaps, over_grows}
 use Rattle.pst_line_nodes.proofs.RecordLaws.{record_of-same, denoted-names, kind-types}
 
@@ -77,15 +79,15 @@ redirected-other w x z q ne = ap (λ b. cond b (Target z) (Target (newest w q)))
 pub redirected-target : (w : Line) (x z y : ℕ) (c : Content) → redirected w x z c ≡ Target y → ((c ≡ Target x) × (y ≡ z)) ⊎ ((q : ℕ) × (c ≡ Target q) × (q ≢ x) × (y ≡ newest w q))
 redirected-target w x z y (Number n) e = absurd (cc)
 redirected-target w x z y Null e = absurd (cc)
-redirected-target w x z y (Target q) e = ⊎_elim
-    (λ (p : q ≡ x). inl (ap Target p, let a : Target z ≡ Target y = sym (redirected-x w x z) ∙ ap (λ q. redirected w x z (Target q)) (sym p) ∙ e in cc))
-    (λ (p : q ≡ x → ⊥). inr (q, refl, p, let a : Target (newest w q) ≡ Target y = sym (redirected-other w x z q p) ∙ e in cc))
-    (cases_eq q x)
+redirected-target w x z y (TargetOf q) e = ⊎_elim
+    (λ (p : q.0 ≡ x). inl (ap Target p, let a : Target z ≡ Target y = sym (redirected-x w x z) ∙ ap (λ k. redirected w x z (Target k)) (sym p) ∙ e in sym (one_target z y a)))
+    (λ (p : q.0 ≡ x → ⊥). inr (q.0, refl, p, let a : Target (newest w q.0) ≡ Target y = sym (redirected-other w x z q.0 p) ∙ e in sym (one_target (newest w q.0) y a)))
+    (cases_eq q.0 x)
 
 if_other-le : (y : ℕ) (c : Content) → if_other y c ≤ 1
 if_other-le y (Number n) = omega arith
 if_other-le y Null = omega arith
-if_other-le y (Target q) = elim (eqb q y) as (λ b. cond b 0 1 ≤ 1) [ true ↦ omega arith | false ↦ omega arith ]
+if_other-le y (TargetOf q) = elim (eqb q.0 y) as (λ b. cond b 0 1 ≤ 1) [ true ↦ omega arith | false ↦ omega arith ]
 
 pub if_stale-le : (w : Line) (t y : ℕ) (e : Option (ℕ × ℕ)) → if_stale w t y e ≤ 1
 if_stale-le w t y None = omega arith
@@ -280,16 +282,16 @@ module _ (shape : List TypeShape) (old new : Line) (x t : ℕ) (l : IsLine shape
   copy_number : (c : Content) → number (redirected old x z c) ≡ number c
   copy_number (Number n) = refl
   copy_number Null = refl
-  copy_number (Target q) = elim (eqb q x) as (λ b. number (cond b (Target z) (Target (newest old q))) ≡ pos 0) [ true ↦ refl | false ↦ refl ]
+  copy_number (TargetOf q) = elim (eqb q.0 x) as (λ b. number (cond b (Target z) (Target (newest old q.0))) ≡ pos 0) [ true ↦ refl | false ↦ refl ]
 
   copy_name : (c : Content) → ((q : ℕ) → c ≡ Target q → q < z) → denoted new.name (redirected old x z c) ≡ denoted old.name c
   copy_name (Number n) h = refl
   copy_name Null h = refl
-  copy_name (Target q) h = ⊎_elim
-      (λ (p : q ≡ x). ap (λ q. denoted new.name (redirected old x z (Target q))) p ∙ ap (denoted new.name) (redirected-x old x z) ∙ ap Some (d.name_z ∙ ap old.name (sym p)))
-      (λ (p : q ≡ x → ⊥). let v = onward_same old q l.chained (h q refl) in
-      ap (denoted new.name) (redirected-other old x z q p) ∙ ap Some (d.name (newest old q) v.0 ∙ (l.chained.same (newest old q) q v.0 (h q refl) v.1).0))
-      (cases_eq q x)
+  copy_name (TargetOf q) h = ⊎_elim
+      (λ (p : q.0 ≡ x). ap (λ k. denoted new.name (redirected old x z (Target k))) p ∙ ap (denoted new.name) (redirected-x old x z) ∙ ap Some (d.name_z ∙ ap old.name (sym p)))
+      (λ (p : q.0 ≡ x → ⊥). let v = onward_same old q.0 l.chained (h q.0 refl) in
+      ap (denoted new.name) (redirected-other old x z q.0 p) ∙ ap Some (d.name (newest old q.0) v.0 ∙ (l.chained.same (newest old q.0) q.0 v.0 (h q.0 refl) v.1).0))
+      (cases_eq q.0 x)
 
   copy_record : record_at shape new z t ≡ record_at shape old x t
   copy_record = record_of-same shape (old.ty x) (new.ty z) old.name new.name (λ g. old.holds x g t) (λ g. new.holds z g t) d.ty_z
@@ -542,11 +544,11 @@ module _ (shape : List TypeShape) (old new : Line) (x t : ℕ) (l : IsLine shape
       copy_kind : (g : ℕ) (c : Content) → ((q : ℕ) → c ≡ Target q → q < z) → HasKind (type_at shape (old.ty x)) old.ty g c → HasKind (type_at shape (old.ty x)) new.ty g (redirected old x z c)
       copy_kind g (Number n) h k = k
       copy_kind g Null h k = k
-      copy_kind g (Target q) h k = ⊎_elim
-          (λ (p : q ≡ x). subst (HasKind (type_at shape (old.ty x)) new.ty g) (sym (ap (λ q. redirected old x z (Target q)) p ∙ redirected-x old x z)) (k ∙ ap (λ (v : TypeNo). Some (Pointer v)) (ap old.ty p ∙ sym d.ty_z)))
-          (λ (p : q ≡ x → ⊥). let v = onward_same old q l.chained (h q refl) in
-          subst (HasKind (type_at shape (old.ty x)) new.ty g) (sym (redirected-other old x z q p)) (k ∙ ap (λ (v : TypeNo). Some (Pointer v)) (sym (d.ty (newest old q) v.0 ∙ (l.chained.same (newest old q) q v.0 (h q refl) v.1).1))))
-          (cases_eq q x)
+      copy_kind g (TargetOf q) h k = ⊎_elim
+          (λ (p : q.0 ≡ x). subst (HasKind (type_at shape (old.ty x)) new.ty g) (sym (ap (λ k. redirected old x z (Target k)) p ∙ redirected-x old x z)) (k ∙ ap (λ (v : TypeNo). Some (Pointer v)) (ap old.ty p ∙ sym d.ty_z)))
+          (λ (p : q.0 ≡ x → ⊥). let v = onward_same old q.0 l.chained (h q.0 refl) in
+          subst (HasKind (type_at shape (old.ty x)) new.ty g) (sym (redirected-other old x z q.0 p)) (k ∙ ap (λ (v : TypeNo). Some (Pointer v)) (sym (d.ty (newest old q.0) v.0 ∙ (l.chained.same (newest old q.0) q.0 v.0 (h q.0 refl) v.1).1))))
+          (cases_eq q.0 x)
 
   -- ---- the load
 

@@ -9,7 +9,8 @@ use Rattle.pst_base.specs.declared.names.TypeNo.{TypeNo}
 use Rattle.pst_base.specs.declared.shape.TypeShape.{TypeShape}
 use Rattle.pst_base.specs.Shape.{type_at, element_count}
 use Rattle.pst_line_nodes.specs.declared.content.Content.{Content}
-use Rattle.pst_line_nodes.specs.declared.content.Content.TheVariants.{Number, Null, Target}
+use Rattle.pst_line_nodes.specs.declared.content.Content.TheVariants.{Number, Null, Target as TargetOf}
+use Rattle.pst_line_nodes.specs.Contents.{Target}
 use Rattle.pst_line_nodes.specs.declared.content.Entry.{Entry}
 use Rattle.pst_line_nodes.specs.Seen.{Seen}
 use Rattle.pst_line_nodes.specs.Line.{Line, IsNewest, IsLine, HasKind, newest, onward}
@@ -134,7 +135,7 @@ module _ (old mid : List Seen) (x t : ℕ) (contents : List Content) (there : x 
         let type_is : w.ty x ≡ (node_at old x).ty = of-get (λ n. n.ty) old x in
         absurd (omega (arith, subst (λ (u : TypeNo). g < (type_at shape u).values) type_is kind, c.width, kept_x.width))
     beyond g Null e m = refl
-    beyond g (Target q) e m = absurd (let b = below g q e in omega arith)
+    beyond g (TargetOf q) e m = absurd (let b = below g q.0 e in omega arith)
 
     holds_copy : (g : ℕ) → get_or contents g Null ≡ redirected w x z (w.holds x g t)
     holds_copy g = ⊎_elim

@@ -15,7 +15,8 @@ use Rattle.pst_base.specs.Name.{same_name}
 use Rattle.pst_base.specs.Heap.{Rec, holds, holding, held_by, in_degree, in_field, pointer_at, limit_in, limit_from, IsFull}
 use Rattle.pst_base.proofs.NameLemmas.{same_name-true, same_name-same}
 use Rattle.pst_line_nodes.specs.declared.content.Content.{Content}
-use Rattle.pst_line_nodes.specs.declared.content.Content.TheVariants.{Number, Null, Target}
+use Rattle.pst_line_nodes.specs.declared.content.Content.TheVariants.{Number, Null, Target as TargetOf}
+use Rattle.pst_line_nodes.specs.Contents.{Target}
 use Rattle.pst_line_nodes.specs.Line.{Line, showing, IsIn, IsNewest, is_in, IsLine, HasKind, heap_at, record_at, denoted, number, newest}
 use Rattle.pst_line_nodes.specs.Changes.{is_entry}
 use Rattle.pst_line_nodes.specs.Full.{is_other_entry, FullLaw, OpenLaw}
@@ -74,12 +75,12 @@ module _ (nodes : ℕ) (width : ℕ → ℕ) (slots : ℕ) (leads : ℕ → ℕ 
 abbrev pub leads_to : Line → ℕ → Content → Bool
 leads_to w y (Number k) = false
 leads_to w y Null = false
-leads_to w y (Target z) = eqb (newest w z) y
+leads_to w y (TargetOf z) = eqb (newest w z.0) y
 
 leads_true : (w : Line) (y : ℕ) (c : Content) → leads_to w y c ≡ true → (q : ℕ) × (c ≡ Target q) × (newest w q ≡ y)
 leads_true w y (Number k) e = absurd (cc)
 leads_true w y Null e = absurd (cc)
-leads_true w y (Target z) e = (z, refl, eqb-true (newest w z) y e)
+leads_true w y (TargetOf z) e = (z.0, refl, eqb-true (newest w z.0) y e)
 
 module _ (shape : List TypeShape) (t : ℕ) (w : Line) (l : IsLine shape t w) (y : ℕ) (h : IsIn w y t) where
   abbrev width : ℕ → ℕ
@@ -105,16 +106,16 @@ module _ (shape : List TypeShape) (t : ℕ) (w : Line) (l : IsLine shape t w) (y
   pub holding_is : (c : Content) → ((z : ℕ) → c ≡ Target z → IsIn w (newest w z) t × (w.name (newest w z) ≡ w.name z) × (w.ty (newest w z) ≡ w.ty z)) → holding (w.name y) (denoted w.name c) ≡ one_if (leads_to w y c)
   holding_is (Number k) g = refl
   holding_is Null g = refl
-  holding_is (Target z) g =
-      let v = g z refl in
+  holding_is (TargetOf z) g =
+      let v = g z.0 refl in
       ⊎_elim
-      (λ (e : newest w z ≡ y).
-      let on : same_name (w.name z) (w.name y) ≡ true = ap (λ k. same_name k (w.name y)) (sym v.1 ∙ ap w.name e) ∙ same_name-same (w.name y) in
-      rw (eq-eqb (newest w z) y e, on) refl)
-      (λ (e : newest w z ≡ y → ⊥).
-      let off : same_name (w.name z) (w.name y) ≡ false = false_from_ne_true (same_name (w.name z) (w.name y)) (λ s. e (unique_name w (newest w z) y t l.chained v.0 h (v.1 ∙ same_name-true (w.name z) (w.name y) s))) in
-      rw (ne_eqb (newest w z) y e, off) refl)
-      (cases_eq (newest w z) y)
+      (λ (e : newest w z.0 ≡ y).
+      let on : same_name (w.name z.0) (w.name y) ≡ true = ap (λ k. same_name k (w.name y)) (sym v.1 ∙ ap w.name e) ∙ same_name-same (w.name y) in
+      rw (eq-eqb (newest w z.0) y e, on) refl)
+      (λ (e : newest w z.0 ≡ y → ⊥).
+      let off : same_name (w.name z.0) (w.name y) ≡ false = false_from_ne_true (same_name (w.name z.0) (w.name y)) (λ s. e (unique_name w (newest w z.0) y t l.chained v.0 h (v.1 ∙ same_name-true (w.name z.0) (w.name y) s))) in
+      rw (ne_eqb (newest w z.0) y e, off) refl)
+      (cases_eq (newest w z.0) y)
 
   not_led : (i g : ℕ) → IsIn w i t → g < (type_at shape (w.ty i)).values → one_if (leads_to w y (w.holds i g t)) ≡ 0
   not_led i g b s = led (w.holds i g t) (l.kinds i g t (omega arith) b.covers)
@@ -122,7 +123,7 @@ module _ (shape : List TypeShape) (t : ℕ) (w : Line) (l : IsLine shape t w) (y
       led : (c : Content) → HasKind (type_at shape (w.ty i)) w.ty g c → one_if (leads_to w y c) ≡ 0
       led (Number k) m = refl
       led Null m = refl
-      led (Target z) m = absurd (no_target (type_at shape (w.ty i)) w.ty g z m s)
+      led (TargetOf z) m = absurd (no_target (type_at shape (w.ty i)) w.ty g z.0 m s)
 
   node_part : (i : ℕ) → cond (is_in w i t) (held_by (w.name y) (record_at shape w i t)) 0 ≡ sum_below (width i) (λ f. one_if (leads i f))
   node_part i = ⊎_elim

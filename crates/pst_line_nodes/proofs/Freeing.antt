@@ -8,7 +8,8 @@ use Rattle.pst_base.specs.declared.shape.TypeShape.{TypeShape}
 use Rattle.pst_base.specs.declared.names.TypeNo.{TypeNo}
 use Rattle.pst_base.specs.Shape.{type_at}
 use Rattle.pst_line_nodes.specs.declared.content.Content.{Content}
-use Rattle.pst_line_nodes.specs.declared.content.Content.TheVariants.{Number, Null, Target}
+use Rattle.pst_line_nodes.specs.declared.content.Content.TheVariants.{Number, Null, Target as TargetOf}
+use Rattle.pst_line_nodes.specs.Contents.{Target}
 use Rattle.pst_line_nodes.specs.declared.content.Entry.{Entry}
 use Rattle.pst_line_nodes.specs.Seen.{Seen}
 use Rattle.pst_line_nodes.specs.Line.{Line, IsNewest, IsLine, newest, onward}
@@ -19,6 +20,7 @@ use Rattle.pst_line_nodes.specs.Full.{is_other_entry}
 use Rattle.pst_line_nodes.specs.Copying.{no_node, no_entry, node_at, bare}
 use Rattle.pst_line_nodes.specs.Making.{AreFreed, entered}
 use Rattle.pst_line_nodes.specs.Carried.{IsFieldNulled, IsFieldPointed, IsOpenSlot}
+use Rattle.pst_line_nodes.proofs.Contents.{one_target}
 use Rattle.pst_line_nodes.proofs.Writes.{without-keeps}
 use Rattle.pst_line_nodes.proofs.Degree.{open_law}
 use Rattle.pst_line_nodes.proofs.Lists.{get_or-any}
@@ -27,7 +29,7 @@ use Rattle.pst_line_nodes.proofs.Renames.{count_kept, bare-set, set_there, set_e
 
 pair_without : (x f : ℕ) (e : Option Entry) → pair_of (entry_without x f e) ≡ without x f (pair_of e)
 pair_without x f None = refl
-pair_without x f (Some e) = elim ((eqb e.node x) && (eqb e.slot f)) as (λ (b : Bool). pair_of (cond b None (Some e)) ≡ cond b None (Some (e.node, e.slot))) [ true ↦ refl | false ↦ refl ]
+pair_without x f (Some e) = elim ((eqb e.node.0 x) && (eqb e.slot.0 f)) as (λ (b : Bool). pair_of (cond b None (Some e)) ≡ cond b None (Some (e.node.0, e.slot.0))) [ true ↦ refl | false ↦ refl ]
 
 -- the entry is freed in the node that has it
 pub freed_one : (old xs : List Seen) (y z x f : ℕ) (n m : Seen) (held : Content) → xs ≡ old → z < length old → n ≡ get_or xs z n → m ≡ record n { inverse = map (entry_without x f) n.inverse } → held ≡ Target y → z ≡ newest (line_of (λ i. true) old) y → AreFreed old (set xs z m) x f held
@@ -35,7 +37,7 @@ freed_one old xs y z x f n m held is there at made h at_z = record {
   same = bare-set (entry_without x f) old xs z n m is there at made;
   there = λ q s e.
       let both : Target y ≡ Target q = sym h ∙ e in
-      let same : y ≡ q = cc in
+      let same : y ≡ q = one_target y q both in
       let goes : z ≡ newest (line_of (λ i. true) old) q = at_z ∙ ap (newest (line_of (λ i. true) old)) same in
       ap (λ (i : ℕ). entry_of (node_at (set xs z m) i) s) (sym goes) ∙ ap pair_of (set_there (entry_without x f) old xs z s n m refl is there at made) ∙ pair_without x f (get_or (node_at old z).inverse s None) ∙ ap (λ (i : ℕ). without x f (entry_of (node_at old i) s)) goes;
   others = λ i s ne. ap (λ (d : Seen). entry_of d s) (set_elsewhere old xs z i m is (λ p. ne y h (p ∙ at_z)));
@@ -118,12 +120,12 @@ module _ (shape : List TypeShape) (t : ℕ) (old : List Seen) (made : ℕ → Bo
         by_held : (c : Content) → held ≡ c → entry_of (node_at new y) s ≡ without x f (w.entry y s)
         by_held (Number v) e = stays (λ q h. absurd (let no : Number v ≡ Target q = sym e ∙ h in cc))
         by_held Null e = stays (λ q h. absurd (let no : Null ≡ Target q = sym e ∙ h in cc))
-        by_held (Target p) e = ⊎_elim
-            (λ (at : y ≡ newest w p).
-            let goes : newest (line_of (λ i. true) mid) p ≡ y = same_newest p ∙ sym at in
-            ap (λ (i : ℕ). entry_of (node_at new i) s) (sym goes) ∙ d.there p s e ∙ ap (λ (i : ℕ). without x f (entry_of (node_at mid i) s)) goes ∙ ap (without x f) (own_entry y s))
-            (λ (at : y ≡ newest w p → ⊥). stays (λ q h. let both : Target p ≡ Target q = sym e ∙ h in let same : p ≡ q = cc in λ is. at (is ∙ ap (newest w) (sym same))))
-            (cases_eq y (newest w p))
+        by_held (TargetOf p) e = ⊎_elim
+            (λ (at : y ≡ newest w p.0).
+            let goes : newest (line_of (λ i. true) mid) p.0 ≡ y = same_newest p.0 ∙ sym at in
+            ap (λ (i : ℕ). entry_of (node_at new i) s) (sym goes) ∙ d.there p.0 s e ∙ ap (λ (i : ℕ). without x f (entry_of (node_at mid i) s)) goes ∙ ap (without x f) (own_entry y s))
+            (λ (at : y ≡ newest w p.0 → ⊥). stays (λ q h. let both : Target p.0 ≡ Target q = sym e ∙ h in let same : p.0 ≡ q = one_target p.0 q both in λ is. at (is ∙ ap (newest w) (sym same))))
+            (cases_eq y (newest w p.0))
 
 -- ---- whole writes
 
@@ -154,7 +156,7 @@ module _ (shape : List TypeShape) (t : ℕ) (old : List Seen) (made : ℕ → Bo
     }
 
     -- an entry is put in
-    module _ (xs : List Seen) (z u : ℕ) (b m : Seen) (e : Entry) (is : xs ≡ free) (there : z < length free) (at : b ≡ get_or xs z b) (below : u < length b.inverse) (put : m ≡ record b { inverse = set b.inverse u (Some e) }) (node_is : e.node ≡ x) (slot_is : e.slot ≡ f) where
+    module _ (xs : List Seen) (z u : ℕ) (b m : Seen) (e : Entry) (is : xs ≡ free) (there : z < length free) (at : b ≡ get_or xs z b) (below : u < length b.inverse) (put : m ≡ record b { inverse = set b.inverse u (Some e) }) (node_is : e.node.0 ≡ x) (slot_is : e.slot.0 ≡ f) where
       within : z < length xs
       within = omega (arith, there, ap length is)
 
@@ -176,7 +178,7 @@ module _ (shape : List TypeShape) (t : ℕ) (old : List Seen) (made : ℕ → Bo
         pointed = record {
           set = subst (λ (c : Content). IsSet (line_of mark old) (line_of mark (set xs z m)) x f t c (d mark).more) target (set_bare mark mid (set xs z m) (enter_same ∙ r.same) (line_of mark old) x f t (d mark).more content (d mark).set);
           free = open_law x f ((line_of (λ i. true) old).entry z u) open_is;
-          put = of-get (λ n. entry_of n u) (set xs z m) z ∙ there_is u ∙ ap pair_of (get_or-set_same b.inverse u (Some e) None below) ∙ ap (λ (i : ℕ). Some (i, e.slot)) node_is ∙ ap (λ (g : ℕ). Some (x, g)) slot_is;
+          put = of-get (λ n. entry_of n u) (set xs z m) z ∙ there_is u ∙ ap pair_of (get_or-set_same b.inverse u (Some e) None below) ∙ ap (λ (i : ℕ). Some (i, e.slot.0)) node_is ∙ ap (λ (g : ℕ). Some (x, g)) slot_is;
           entry = λ y s ne. of-get (λ n. entry_of n s) (set xs z m) y ∙ ⊎_elim
               (λ (p : y ≡ z). ap (λ (i : ℕ). entry_of (node_at (set xs z m) i) s) p ∙ there_is s ∙ ap pair_of (get_or-set_other b.inverse u s (Some e) None (λ q. ne p q)) ∙ ap (λ (c : Seen). entry_of c s) own_b ∙ ap (λ (i : ℕ). entry_of (node_at free i) s) (sym p))
               (λ (p : y ≡ z → ⊥). ap (λ (c : Seen). entry_of c s) (set_elsewhere free xs z y m is p))

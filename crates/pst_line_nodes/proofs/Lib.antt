@@ -1,3 +1,4 @@
+pub mod Contents
 pub mod HeapLaws
 pub mod RecordLaws
 pub mod Same

@@ -11,7 +11,8 @@ use Rattle.pst_base.specs.declared.names.Name.{Name}
 use Rattle.pst_base.specs.declared.shape.TypeShape.{TypeShape}
 use Rattle.pst_base.specs.Shape.{type_at, root_type}
 use Rattle.pst_base.specs.Heap.{Rec, with_record, new_record}
-use Rattle.pst_line_nodes.specs.declared.content.Content.TheVariants.{Number, Null, Target}
+use Rattle.pst_line_nodes.specs.declared.content.Content.TheVariants.{Number, Null}
+use Rattle.pst_line_nodes.specs.Contents.{Target}
 use Rattle.pst_line_nodes.specs.Line.{Line, Covers, IsIn, IsNewest, AreChained, IsLine, AreMatched, HasKind, is_over, ends_by, newest, onward, if_newest, if_other, if_stale, stale_at, stale, potential, load, denoted, number, heap_at, record_at, record_of}
 use Rattle.pst_line_nodes.specs.Changes.{IsMade, default_content, VersionsStay, MadeLaw}
 use Rattle.pst_line_nodes.proofs.HeapLaws.{same_heaps, same_at, put_heap}

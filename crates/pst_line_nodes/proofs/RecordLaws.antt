@@ -7,7 +7,8 @@ use Rattle.pst_base.specs.declared.names.Kind.TheVariants.{Pointer}
 use Rattle.pst_base.specs.declared.shape.TypeShape.{TypeShape}
 use Rattle.pst_base.specs.Shape.{type_at, element_count}
 use Rattle.pst_line_nodes.specs.declared.content.Content.{Content}
-use Rattle.pst_line_nodes.specs.declared.content.Content.TheVariants.{Number, Null, Target}
+use Rattle.pst_line_nodes.specs.declared.content.Content.TheVariants.{Number, Null, Target as TargetOf}
+use Rattle.pst_line_nodes.specs.Contents.{Target}
 use Rattle.pst_line_nodes.specs.Line.{denoted, number, record_of, HasKind}
 
 -- two nodes of one type show the same record where the fields show the same
@@ -26,7 +27,7 @@ record_of-same shape t u name name' slots slots' e n d =
 pub denoted-names : (name name' : ℕ → Name) (c : Content) → ((y : ℕ) → c ≡ Target y → name' y ≡ name y) → denoted name' c ≡ denoted name c
 denoted-names name name' (Number n) h = refl
 denoted-names name name' Null h = refl
-denoted-names name name' (Target y) h = ap Some (h y refl)
+denoted-names name name' (TargetOf y) h = ap Some (h y.0 refl)
 
 pub kind-types : (t u : TypeShape) (ty ty' : ℕ → TypeNo) (g : ℕ) (c : Content) → u ≡ t → ((y : ℕ) → c ≡ Target y → ty' y ≡ ty y) → HasKind t ty g c → HasKind u ty' g c
 kind-types t u ty ty' g c e h k = subst (λ (t : TypeShape). HasKind t ty' g c) (sym e) (same c h k)
@@ -34,4 +35,4 @@ kind-types t u ty ty' g c e h k = subst (λ (t : TypeShape). HasKind t ty' g c) 
     same : (c : Content) → ((y : ℕ) → c ≡ Target y → ty' y ≡ ty y) → HasKind t ty g c → HasKind t ty' g c
     same (Number n) h k = k
     same Null h k = k
-    same (Target y) h k = k ∙ ap (λ (v : TypeNo). Some (Pointer v)) (sym (h y refl))
+    same (TargetOf y) h k = k ∙ ap (λ (v : TypeNo). Some (Pointer v)) (sym (h y.0 refl))

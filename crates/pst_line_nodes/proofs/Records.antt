@@ -7,7 +7,7 @@ use Rattle.pst_base.specs.declared.names.Name.{Name}
 use Rattle.pst_base.specs.declared.names.TypeNo.{TypeNo}
 use Rattle.pst_base.specs.declared.shape.TypeShape.{TypeShape}
 use Rattle.pst_base.specs.Shape.{type_at, element_count}
-use Rattle.pst_line_nodes.specs.declared.content.Stamp.{Stamp}
+use Rattle.pst_line_nodes.specs.declared.content.StampedContent.{StampedContent}
 use Rattle.pst_line_nodes.specs.declared.content.Entry.{Entry}
 use Rattle.pst_line_nodes.specs.Seen.{Seen}
 use Rattle.pst_line_nodes.specs.Rows.{holds, since, held, since_in, base_of, AreRising}
@@ -60,8 +60,8 @@ module _ (shape : List TypeShape) (old new : List Seen) (n : Seen) (name : Name)
     first_z = field_z (λ n. n.first) ∙ d.first;
     later_z = field_z (λ n. n.later) ∙ d.later;
     stamped_z = field_z (λ n. length n.stamped) ∙ ap length d.stamped;
-    holds_z = λ g k. field_z (λ n. holds n g k) ∙ ap (λ (xs : List Stamp). held xs g k (base_of n g)) d.stamped ∙ d.base.each g;
-    since_z = λ g. field_z (λ n. since n g) ∙ ap (λ (xs : List Stamp). since_in xs g n.first) d.stamped ∙ d.first;
+    holds_z = λ g k. field_z (λ n. holds n g k) ∙ ap (λ (xs : List StampedContent). held xs g k (base_of n g)) d.stamped ∙ d.base.each g;
+    since_z = λ g. field_z (λ n. since n g) ∙ ap (λ (xs : List StampedContent). since_in xs g n.first) d.stamped ∙ d.first;
     entry_z = λ s. field_z (λ n. entry_of n s) ∙ ap (λ (es : List (Option Entry)). pair_of (get_or es s None)) d.inverse ∙ ap pair_of (none_at (type_at shape ty).limit s);
   }
     where

@@ -6,13 +6,14 @@ use Rattle.pst_base.specs.declared.names.TypeNo.{TypeNo}
 use Rattle.pst_base.specs.declared.shape.TypeShape.{TypeShape}
 use Rattle.pst_base.specs.Shape.{type_at, element_count, root_type}
 use Rattle.pst_line_nodes.specs.declared.content.Content.{Content}
-use Rattle.pst_line_nodes.specs.declared.content.Content.TheVariants.{Target}
+use Rattle.pst_line_nodes.specs.Contents.{Target}
 use Rattle.pst_line_nodes.specs.Seen.{Seen}
 use Rattle.pst_line_nodes.specs.Line.{Line, Covers, IsNewest, IsLine, IsQuiet, HasKind, newest, onward, most}
 use Rattle.pst_line_nodes.specs.Changes.{IsCopied, IsRedirected, redirected}
 use Rattle.pst_line_nodes.specs.Nodes.{line_of, AreKept, HasSlot, IsFieldSet}
 use Rattle.pst_line_nodes.specs.Copying.{node_at}
 use Rattle.pst_line_nodes.specs.Carried.{IsRedirecting, IsFullFor, IsCarried, IsSince, HasRoomFor}
+use Rattle.pst_line_nodes.proofs.Contents.{one_target}
 use Rattle.pst_line_nodes.proofs.Same.{same_field, pointer_field}
 use Rattle.pst_line_nodes.proofs.Copy.{moved-some, redirected-target, last_covers, covers_last}
 use Rattle.pst_line_nodes.proofs.HeapLaws.{unique}
@@ -47,7 +48,7 @@ module _ (shape : List TypeShape) (t : ℕ) (w : Line) (l : IsLine shape t w) (z
   ] p.onto
 
   own : (y : ℕ) → Target z ≡ Target y → w.later y ≡ None
-  own y e = let same : z ≡ y = cc in ap w.later (sym same) ∙ newest_z.last
+  own y e = let same : z ≡ y = one_target z y e in ap w.later (sym same) ∙ newest_z.last
 
   up_to : (P : ℕ → Type 0) (u : ℕ) → u < s + 1 → (u < s → P u) → P s → P u
   up_to P u m low here = ⊎_elim (λ (p : u < s). low p) (λ (p : s ≤ u). let same : s ≡ u = omega arith in subst P same here) (cases_lt u s)
@@ -168,7 +169,7 @@ module _ (shape : List TypeShape) (t : ℕ) (w : Line) (l : IsLine shape t w) (z
             ⊎_elim
             (λ (b : q ≡ x).
             let both : Target p.held ≡ Target q = sym p.holds ∙ h' in
-            let same : p.held ≡ q = cc in
+            let same : p.held ≡ q = one_target p.held q both in
             absurd (young z (omega arith) there (sym p.onto ∙ ap (newest w) same ∙ ap (λ j. onward j q) last ∙ b)))
             (λ (b : q ≡ x → ⊥). d.later q q_there b ∙ last)
             (cases_eq q x)

@@ -5,13 +5,14 @@ use Rattle.std.proofs.Math.Seq.{map-set_same}
 use Rattle.std.proofs.lemmas.Bool.{cases_eq, cases_lt}
 use Rattle.std.proofs.lemmas.List.{get_or-set_same, get_or-set_other, length-map}
 use Rattle.pst_line_nodes.specs.declared.content.Content.{Content}
-use Rattle.pst_line_nodes.specs.declared.content.Content.TheVariants.{Target}
+use Rattle.pst_line_nodes.specs.Contents.{Target}
 use Rattle.pst_line_nodes.specs.declared.content.Entry.{Entry}
 use Rattle.pst_line_nodes.specs.Seen.{Seen}
 use Rattle.pst_line_nodes.specs.Rows.{base_of}
 use Rattle.pst_line_nodes.specs.Nodes.{entry_of, pair_of, entry_renamed}
 use Rattle.pst_line_nodes.specs.Changes.{moved}
 use Rattle.pst_line_nodes.specs.Copying.{no_node, no_entry, node_at, bare, AreRenamed, IsTargetBelow}
+use Rattle.pst_line_nodes.proofs.Contents.{one_target}
 use Rattle.pst_line_nodes.proofs.Lists.{get_or-any, get_or-map}
 use Rattle.pst_line_nodes.proofs.Copy.{moved-x, moved-other}
 use Rattle.pst_line_nodes.proofs.Copying.{bare-at}
@@ -44,7 +45,7 @@ set_elsewhere old xs y i m is ne = get_or-set_other xs y i m no_node ne ∙ ap (
 
 pair_renamed : (x z : ℕ) (e : Option Entry) → pair_of (entry_renamed x z e) ≡ moved x z (pair_of e)
 pair_renamed x z None = refl
-pair_renamed x z (Some e) = elim (eqb e.node x) as (λ (b : Bool). pair_of (cond b (Some (record { node = z; slot = e.slot })) (Some e)) ≡ cond b (Some (z, e.slot)) (Some (e.node, e.slot))) [ true ↦ refl | false ↦ refl ]
+pair_renamed x z (Some e) = elim (eqb e.node.0 x) as (λ (b : Bool). pair_of (cond b (Some (record { node = record { 0 = z }; slot = e.slot })) (Some e)) ≡ cond b (Some (z, e.slot.0)) (Some (e.node.0, e.slot.0))) [ true ↦ refl | false ↦ refl ]
 
 -- the entries of one node are renamed
 pub renamed_one : (old xs : List Seen) (y x z : ℕ) (n m : Seen) (content : Content) → xs ≡ old → y < length old → n ≡ get_or xs y n → m ≡ record n { inverse = map (entry_renamed x z) n.inverse } → content ≡ Target y → AreRenamed old (set xs y m) x z (λ i. content ≡ Target i)
@@ -52,7 +53,7 @@ renamed_one old xs y x z n m content is there at made held = record {
   same = bare-set (entry_renamed x z) old xs y n m is there at made;
   touched = λ i s e.
       let both : Target y ≡ Target i = sym held ∙ e in
-      let same : y ≡ i = cc in
+      let same : y ≡ i = one_target y i both in
       ap (λ (i : ℕ). entry_of (node_at (set xs y m) i) s) (sym same) ∙ own s ∙ ap (λ (i : ℕ). moved x z (entry_of (node_at old i) s)) same;
   others = λ i s. ⊎_elim
       (λ (p : i ≡ y). inl (ap (λ (i : ℕ). entry_of (node_at (set xs y m) i) s) p ∙ own s ∙ ap (λ (i : ℕ). moved x z (entry_of (node_at old i) s)) (sym p)))

@@ -6,39 +6,40 @@ use Rattle.std.proofs.Math.ListN.{set}
 use Rattle.std.proofs.lemmas.Bool.{eq-eqb, ne_eqb}
 use Rattle.pst_line_nodes.specs.declared.content.Content.{Content}
 use Rattle.pst_line_nodes.specs.declared.content.Content.TheVariants.{Null}
-use Rattle.pst_line_nodes.specs.declared.content.Stamp.{Stamp}
+use Rattle.pst_line_nodes.specs.declared.content.StampedContent.{StampedContent}
+use Rattle.pst_line_nodes.specs.Contents.{stamped_from}
 use Rattle.pst_line_nodes.specs.Seen.{Seen}
 use Rattle.pst_line_nodes.specs.Rows.{is_for, held, since_in, holds, since, base_of, AreRising, IsRow, IsSameHead, IsRowSet, IsPut, IsStampAt, IsUnstamped, with_content}
 use Rattle.pst_line_nodes.proofs.RowLemmas.{for_true, for_other, for_late, held-push, since-push, since_unstamped, rising-pushed, length-push, set-with_content, length-with_content, rising-with_content, since-with_content, with_content-late, with_content-early, with_content-others, since-stamped, rising_empty}
 
-pub replaced_items : (xs : List Stamp) (i : ℕ) (e : Stamp) (c : Content) → i < length xs → e ≡ get_or xs i e → set xs i (record { slot = e.slot; from = e.from; content = c }) ≡ with_content xs i c
-replaced_items xs i e c l is = ap (λ (k : Stamp). set xs i (record { slot = k.slot; from = k.from; content = c })) is ∙ set-with_content xs i e c l
+pub replaced_items : (xs : List StampedContent) (i : ℕ) (e : StampedContent) (c : Content) → i < length xs → e ≡ get_or xs i e → set xs i (record { slot = e.slot; from = e.from; content = c }) ≡ with_content xs i c
+replaced_items xs i e c l is = ap (λ (k : StampedContent). set xs i (record { slot = k.slot; from = k.from; content = c })) is ∙ set-with_content xs i e c l
 
 module _ (old new : Seen) (slot t : ℕ) (c : Content) (row : IsRow t old) (head : IsSameHead old new) where
   -- a stamp is pushed
-  module _ (before : old.first < t) (none : IsUnstamped old.stamped slot t) (base : new.base ≡ old.base) (pushed : new.stamped ≡ old.stamped ++ record { slot = slot; from = t; content = c } ∷ []) where
-    holds_pushed : (g n : ℕ) → holds new g n ≡ cond (is_for g n (record { slot = slot; from = t; content = c })) c (holds old g n)
-    holds_pushed g n = ap (λ b. held new.stamped g n (get_or b g Null)) base ∙ ap (λ xs. held xs g n (base_of old g)) pushed ∙ held-push old.stamped (record { slot = slot; from = t; content = c }) g n (base_of old g)
+  module _ (before : old.first < t) (none : IsUnstamped old.stamped slot t) (base : new.base ≡ old.base) (pushed : new.stamped ≡ old.stamped ++ stamped_from slot t c ∷ []) where
+    holds_pushed : (g n : ℕ) → holds new g n ≡ cond (is_for g n (stamped_from slot t c)) c (holds old g n)
+    holds_pushed g n = ap (λ b. held new.stamped g n (get_or b g Null)) base ∙ ap (λ xs. held xs g n (base_of old g)) pushed ∙ held-push old.stamped (stamped_from slot t c) g n (base_of old g)
 
     since_pushed : (g : ℕ) → since new g ≡ cond (eqb slot g) t (since old g)
-    since_pushed g = ap (since_in new.stamped g) head.first ∙ ap (λ xs. since_in xs g old.first) pushed ∙ since-push old.stamped (record { slot = slot; from = t; content = c }) g old.first
+    since_pushed g = ap (since_in new.stamped g) head.first ∙ ap (λ xs. since_in xs g old.first) pushed ∙ since-push old.stamped (stamped_from slot t c) g old.first
 
     pub pushed_set : IsRowSet old new slot t c
     pushed_set = record {
       head = head;
-      late = λ n l. holds_pushed slot n ∙ ap (λ b. cond b c (holds old slot n)) (for_true slot n (record { slot = slot; from = t; content = c }) refl l);
-      early = λ n b l. holds_pushed slot n ∙ ap (λ b. cond b c (holds old slot n)) (for_late slot n (record { slot = slot; from = t; content = c }) l);
-      others = λ g n ne. holds_pushed g n ∙ ap (λ b. cond b c (holds old g n)) (for_other g n (record { slot = slot; from = t; content = c }) (λ p. ne (sym p)));
+      late = λ n l. holds_pushed slot n ∙ ap (λ b. cond b c (holds old slot n)) (for_true slot n (stamped_from slot t c) refl l);
+      early = λ n b l. holds_pushed slot n ∙ ap (λ b. cond b c (holds old slot n)) (for_late slot n (stamped_from slot t c) l);
+      others = λ g n ne. holds_pushed g n ∙ ap (λ b. cond b c (holds old g n)) (for_other g n (stamped_from slot t c) (λ p. ne (sym p)));
       since_is = since_pushed slot ∙ ap (λ b. cond b t (since old slot)) (eq-eqb slot slot refl);
       others_since = λ g ne. since_pushed g ∙ ap (λ b. cond b t (since old g)) (ne_eqb slot g (λ p. ne (sym p)));
       replaced = λ e. absurd (since_unstamped old.stamped slot old.first t before none e);
-      stamped = λ e. ap length pushed ∙ length-push old.stamped (record { slot = slot; from = t; content = c });
+      stamped = λ e. ap length pushed ∙ length-push old.stamped (stamped_from slot t c);
     }
 
     pub pushed_row : IsRow t new
     pushed_row = record {
       first = omega (arith, row.first, head.first);
-      rising = subst (λ (m : ℕ). AreRising m t new.stamped) (sym head.first) (subst (AreRising old.first t) (sym pushed) (rising-pushed old.first t old.stamped (record { slot = slot; from = t; content = c }) row.rising before refl none));
+      rising = subst (λ (m : ℕ). AreRising m t new.stamped) (sym head.first) (subst (AreRising old.first t) (sym pushed) (rising-pushed old.first t old.stamped (stamped_from slot t c) row.rising before refl none));
     }
 
   -- the content of a stamp is replaced
@@ -118,7 +119,7 @@ module _ (old new : Seen) (slot t : ℕ) (c : Content) (row : IsRow t old) (head
     }
 
 -- a content is stamped in a node that began before
-pub put_set : (old : Seen) (xs : List Stamp) (slot t : ℕ) (c : Content) → IsRow t old → old.first < t → IsPut old.stamped xs slot t c → IsRowSet old (record old { stamped = xs }) slot t c × IsRow t (record old { stamped = xs })
+pub put_set : (old : Seen) (xs : List StampedContent) (slot t : ℕ) (c : Content) → IsRow t old → old.first < t → IsPut old.stamped xs slot t c → IsRowSet old (record old { stamped = xs }) slot t c × IsRow t (record old { stamped = xs })
 put_set old xs slot t c row before p = elim p.cases [
   | inl h ↦ (
     changed_set old (record old { stamped = xs }) slot t c row (record { name = refl; ty = refl; home = refl; first = refl; later = refl; inverse = refl; width = refl }) h.0 h.1 refl h.2,
@@ -138,7 +139,7 @@ base_set old slot t c row begins below = (
 )
 
 -- so it is where the node is seen as another value
-pub put_set_as : (old q : Seen) (xs : List Stamp) (slot t : ℕ) (c : Content) → old ≡ q → IsRow t q → old.first ≢ t → IsPut old.stamped xs slot t c → IsRowSet q (record old { stamped = xs }) slot t c × IsRow t (record old { stamped = xs })
+pub put_set_as : (old q : Seen) (xs : List StampedContent) (slot t : ℕ) (c : Content) → old ≡ q → IsRow t q → old.first ≢ t → IsPut old.stamped xs slot t c → IsRowSet q (record old { stamped = xs }) slot t c × IsRow t (record old { stamped = xs })
 put_set_as old q xs slot t c is row other p =
     let r : IsRow t old = subst (IsRow t) (sym is) row in
     let d = put_set old xs slot t c r (omega (arith, r.first, other)) p in
@@ -157,7 +158,7 @@ unstamped_since old q slot t is row other none e =
 
 -- a node with stamped values began before the newest stamp
 pub began_before : (n : Seen) (t : ℕ) → IsRow t n → 0 < length n.stamped → n.first < t
-began_before n t row more = elim n.stamped as (λ (xs : List Stamp). AreRising n.first t xs → 0 < length xs → n.first < t) [
+began_before n t row more = elim n.stamped as (λ (xs : List StampedContent). AreRising n.first t xs → 0 < length xs → n.first < t) [
   | [] ↦ λ r m. absurd (omega arith)
   | x ∷ xs ↦ λ r m. omega (arith, r.0, r.1)
 ] row.rising more
@@ -175,12 +176,12 @@ true_by_not : (b : Bool) → false ≡ not b → b ≡ true
 true_by_not true e = refl
 true_by_not false e = absurd (cc)
 
-pub full_is : (n q : Seen) (slot t limit : ℕ) (xs : List Stamp) (r : Option ℕ) (b : Bool) → n ≡ q → xs ≡ n.stamped → IsRow t q → limit < length xs → IfSome r (λ i. IsStampAt xs i slot t) → IfNone r (IsUnstamped xs slot t) → is_some r ≡ not b
+pub full_is : (n q : Seen) (slot t limit : ℕ) (xs : List StampedContent) (r : Option ℕ) (b : Bool) → n ≡ q → xs ≡ n.stamped → IsRow t q → limit < length xs → IfSome r (λ i. IsStampAt xs i slot t) → IfNone r (IsUnstamped xs slot t) → is_some r ≡ not b
     → (IsTrue b → (limit < length q.stamped) × (since q slot ≢ t)) × ((limit < length q.stamped) × (since q slot ≢ t) → IsTrue b)
 full_is n q slot t limit xs r b is same row more some none e =
     let own : xs ≡ q.stamped = same ∙ ap (λ (p : Seen). p.stamped) is in
-    let many : limit < length q.stamped = subst (λ (ys : List Stamp). limit < length ys) own more in
+    let many : limit < length q.stamped = subst (λ (ys : List StampedContent). limit < length ys) own more in
     elim r as (λ (o : Option ℕ). IfSome o (λ i. IsStampAt xs i slot t) → IfNone o (IsUnstamped xs slot t) → is_some o ≡ not b → (IsTrue b → (limit < length q.stamped) × (since q slot ≢ t)) × ((limit < length q.stamped) × (since q slot ≢ t) → IsTrue b)) [
-      | None ↦ λ s u f. (λ h. (many, since_full q slot t limit row many (subst (λ (ys : List Stamp). IsUnstamped ys slot t) own u)), λ h. true_by_not b f)
-      | Some i ↦ λ s u f. (λ h. absurd (cc), λ h. absurd (h.1 (since_there q slot t i row (subst (λ (ys : List Stamp). IsStampAt ys i slot t) own s))))
+      | None ↦ λ s u f. (λ h. (many, since_full q slot t limit row many (subst (λ (ys : List StampedContent). IsUnstamped ys slot t) own u)), λ h. true_by_not b f)
+      | Some i ↦ λ s u f. (λ h. absurd (cc), λ h. absurd (h.1 (since_there q slot t i row (subst (λ (ys : List StampedContent). IsStampAt ys i slot t) own s))))
     ] some none e

@@ -6,7 +6,7 @@ use Rattle.pst_base.specs.Below.{sum_below}
 use Rattle.pst_base.specs.declared.shape.TypeShape.{TypeShape}
 use Rattle.pst_base.specs.declared.names.TypeNo.{TypeNo}
 use Rattle.pst_base.specs.Shape.{type_at}
-use Rattle.pst_line_nodes.specs.declared.content.Content.TheVariants.{Target}
+use Rattle.pst_line_nodes.specs.Contents.{Target}
 use Rattle.pst_line_nodes.specs.Line.{Line, Covers, IsLive, IsNewest, AreChained, IsLine, IsQuiet, HasKind, is_over, ends_by, newest, onward, heap_at, denoted, number, if_stale, if_other, if_newest, stale_at, stale, load, potential}
 use Rattle.pst_line_nodes.specs.Runs.{NextLaw, IsDropped, DropLaw, LeftBehindLaw}
 use Rattle.pst_line_nodes.proofs.HeapLaws.{same_heaps}

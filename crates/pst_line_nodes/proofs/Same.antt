@@ -16,7 +16,8 @@ use Rattle.pst_base.specs.Shape.{type_at, element_count, field_kind}
 use Rattle.pst_base.specs.Heap.{Rec, with_value, with_pointer, value_set, pointer_set}
 use Rattle.pst_base.proofs.Degrees.{with_value-at, with_pointer-at}
 use Rattle.pst_line_nodes.specs.declared.content.Content.{Content}
-use Rattle.pst_line_nodes.specs.declared.content.Content.TheVariants.{Number, Target}
+use Rattle.pst_line_nodes.specs.declared.content.Content.TheVariants.{Number}
+use Rattle.pst_line_nodes.specs.Contents.{Target}
 use Rattle.pst_line_nodes.specs.Line.{Line, Covers, IsIn, IsNewest, IsLive, AreChained, IsLine, AreMatched, HasKind, is_over, ends_by, onward, newest, heap_at, record_at, record_of, denoted, number}
 use Rattle.pst_line_nodes.specs.Changes.{HasSameNodes, IsSet, VersionsStay}
 use Rattle.pst_line_nodes.proofs.HeapLaws.{same_heaps, same_at, put_heap, heap_has}

@@ -8,9 +8,11 @@ use Rattle.pst_base.specs.declared.names.Kind.TheVariants.{Pointer}
 use Rattle.pst_base.specs.declared.shape.TypeShape.{TypeShape}
 use Rattle.pst_base.specs.Shape.{type_at}
 use Rattle.pst_line_nodes.specs.declared.content.Content.{Content}
-use Rattle.pst_line_nodes.specs.declared.content.Content.TheVariants.{Number, Null, Target}
+use Rattle.pst_line_nodes.specs.declared.content.Content.TheVariants.{Number, Null, Target as TargetOf}
+use Rattle.pst_line_nodes.specs.Contents.{Target}
 use Rattle.pst_line_nodes.specs.Line.{Line, Covers, IsNewest, IsLine, AreMatched, HasKind, newest, onward, if_newest, if_other, if_stale, stale_at, stale, potential, load, denoted, number, ends_by}
 use Rattle.pst_line_nodes.specs.Changes.{HasSameNodes, IsSet, is_entry, without, NumberLaw, NullLaw, PointLaw, RedirectLaw}
+use Rattle.pst_line_nodes.proofs.Contents.{one_target}
 use Rattle.pst_line_nodes.proofs.Same.{same_field, pointer_field, no_target, last_old, last_new, newest_same, off, on, stay, number_here, pointer_here, nothing_here, line_after}
 
 -- ---- entries without those of one field
@@ -46,7 +48,7 @@ without-none x f i g e none h = elim (same_field i g x f) [
 other-none : (y : ℕ) (c : Content) → ((q : ℕ) → c ≡ Target q → q ≡ y) → if_other y c ≡ 0
 other-none y (Number n) h = refl
 other-none y Null h = refl
-other-none y (Target q) h = ap (λ b. cond b 0 1) (eq-eqb q y (h q refl))
+other-none y (TargetOf q) h = ap (λ b. cond b 0 1) (eq-eqb q.0 y (h q.0 refl))
 
 module _ (shape : List TypeShape) (t : ℕ) (old new : Line) (l : IsLine shape t old) (o : HasSameNodes old new) (x f : ℕ) (c : Content) (k : ℕ) (s : IsSet old new x f t c k) (last : IsNewest old x) where
   -- the potential rises by what is stamped
@@ -138,7 +140,7 @@ module _ (shape : List TypeShape) (t : ℕ) (old new : Line) (l : IsLine shape t
                 let v = to w.1.0 (sym (ap (λ i. old.holds i j.1 t) p.0 ∙ ap (λ g. old.holds x g t) p.1) ∙ w.1.1) in
                 let is : v.0 ≡ y = sym (own v.0 v.1) ∙ v.2 ∙ w.1.2 in
                 let held : new.holds j.0 j.1 t ≡ Target y = on shape t old new l o x f c k s j.0 j.1 t p.0 p.1 (omega arith) ∙ v.1 ∙ ap Target is in
-                let b : if_other y (new.holds j.0 j.1 t) ≡ 0 = ap (if_other y) held ∙ other-none y (Target y) (λ q e. cc) in
+                let b : if_other y (new.holds j.0 j.1 t) ≡ 0 = ap (if_other y) held ∙ other-none y (Target y) (λ q e. one_target q y (sym e)) in
                 omega (arith, a, b)
             | inr ne ↦ let b : if_other y (new.holds j.0 j.1 t) ≡ if_other y (old.holds j.0 j.1 t) = ap (if_other y) (off shape t old new l o x f c k s j.0 j.1 t (λ a b. absurd (ne a b))) in omega (arith, a, b)
           ]
@@ -213,7 +215,7 @@ module _ (shape : List TypeShape) (t : ℕ) (old new : Line) (l : IsLine shape t
       found = λ i g y n e. elim (same_field i g x f) [
         | inl p ↦
             let a : Target z ≡ Target y = sym (on shape t old new l o x f c k s i g t p.0 p.1 (omega arith) ∙ is) ∙ e in
-            let same : y ≡ z = cc in
+            let same : y ≡ z = sym (one_target z y a) in
             let limit : (type_at shape (new.ty y)).limit ≡ (type_at shape (old.ty z)).limit = ap (λ (v : TypeNo). (type_at shape v).limit) (ap new.ty same ∙ o.ty z) in
             (u, omega (arith, below, limit), ap (λ y. new.entry (newest new y) u) same ∙ ap (λ y. new.entry y u) own_z ∙ put ∙ ap (λ x. Some (x, f)) (sym p.0) ∙ ap (λ f. Some (i, f)) (sym p.1))
         | inr ne ↦
@@ -245,7 +247,7 @@ module _ (shape : List TypeShape) (t : ℕ) (old new : Line) (l : IsLine shape t
     each_point y v n = elim (same_field y v z u) [
       | inl p ↦
           let a : if_stale new t y (new.entry y v) ≡ if_other y (new.holds x f t) = ap (if_stale new t y) (slot_z y v p.0 p.1) in
-          let b : if_other y (new.holds x f t) ≡ 0 = ap (if_other y) (s.here ∙ is ∙ ap Target (sym p.0)) ∙ other-none y (Target y) (λ q e. cc) in
+          let b : if_other y (new.holds x f t) ≡ 0 = ap (if_other y) (s.here ∙ is ∙ ap Target (sym p.0)) ∙ other-none y (Target y) (λ q e. one_target q y (sym e)) in
           omega (arith, a, b)
       | inr far ↦ each_without y v (entry y v far)
     ]
@@ -281,7 +283,7 @@ point_law shape old new x f t z u k l there last zthere zlast below field d =
     let o = s.nodes in
     let p = pointer_field (type_at shape (old.ty x)) f (old.ty z) field in
     let own : (y : ℕ) → z ≡ y → (y < old.count) × IsNewest old (newest old y) × ((j : ℕ) → old.later y ≡ Some j → old.first j ≡ t) × (old.made x ≡ true) × (old.made y ≡ true) = λ y e. subst (λ (y : ℕ). (y < old.count) × IsNewest old (newest old y) × ((j : ℕ) → old.later y ≡ Some j → old.first j ≡ t) × (old.made x ≡ true) × (old.made y ≡ true)) e (zlast.there, subst (IsNewest old) (sym (ap (λ j. onward j z) zlast.last)) zlast, (λ j h. absurd (let none : None ≡ Some j = sym zlast.last ∙ h in cc)), there.made, zthere.made) in (
-      line_after shape t old new l o x f (Target z) k s field (matched_point shape t old new l o x f (Target z) k s last z u refl zlast below d.free d.put d.entry) (λ y e. own y (cc)),
+      line_after shape t old new l o x f (Target z) k s field (matched_point shape t old new l o x f (Target z) k s last z u refl zlast below d.free d.put d.entry) (λ y e. own y (one_target z y e)),
       stay shape t old new l o x f (Target z) k s,
       pointer_here shape t old new l o x f (Target z) k s (Some (old.name z)) there p.0 p.1 refl,
       load_after shape t old new l o x f (Target z) k s last (each_point shape t old new l o x f (Target z) k s last z u refl zlast below d.free d.put d.entry),
@@ -301,16 +303,16 @@ redirect_law shape old new x f t y z k l last d =
     let kin = l.chained.same z y next.0 y_in.0 next.1 in
     let live = l.lives x f t y (omega arith) covers d.held in
     let kind : HasKind (type_at shape (old.ty x)) old.ty f (Target y) = subst (HasKind (type_at shape (old.ty x)) old.ty f) d.held (l.kinds x f t (omega arith) covers) in
-    let from : (q : ℕ) → Target z ≡ Target q → (p : ℕ) × (old.holds x f t ≡ Target p) × (newest old p ≡ newest old q) × (old.ty p ≡ old.ty q) = λ q e. let same : z ≡ q = cc in (y, d.held, z_is ∙ sym own ∙ ap (newest old) same, sym kin.1 ∙ ap old.ty same) in
-    let to : (p : ℕ) → old.holds x f t ≡ Target p → (q : ℕ) × (Target z ≡ Target q) × (newest old q ≡ newest old p) = λ p e. let same : Target y ≡ Target p = sym d.held ∙ e in let is : y ≡ p = cc in (z, refl, own ∙ sym z_is ∙ ap (newest old) is) in
-    let fine : (q : ℕ) → Target z ≡ Target q → newest old q ≡ q = λ q e. let same : z ≡ q = cc in subst (λ (q : ℕ). newest old q ≡ q) same own in
-    let goes : (q : ℕ) → Target z ≡ Target q → (q < old.count) × IsNewest old (newest old q) × ((j : ℕ) → old.later q ≡ Some j → old.first j ≡ t) × (old.made x ≡ true) × (old.made q ≡ true) = λ q e. let same : z ≡ q = cc in subst (λ (q : ℕ). (q < old.count) × IsNewest old (newest old q) × ((j : ℕ) → old.later q ≡ Some j → old.first j ≡ t) × (old.made x ≡ true) × (old.made q ≡ true)) same (next.0, subst (IsNewest old) (sym own) zlast, (λ j h. absurd (let none : None ≡ Some j = sym zlast.last ∙ h in cc)), live.0, kin.2 ∙ live.1) in
+    let from : (q : ℕ) → Target z ≡ Target q → (p : ℕ) × (old.holds x f t ≡ Target p) × (newest old p ≡ newest old q) × (old.ty p ≡ old.ty q) = λ q e. let same : z ≡ q = one_target z q e in (y, d.held, z_is ∙ sym own ∙ ap (newest old) same, sym kin.1 ∙ ap old.ty same) in
+    let to : (p : ℕ) → old.holds x f t ≡ Target p → (q : ℕ) × (Target z ≡ Target q) × (newest old q ≡ newest old p) = λ p e. let same : Target y ≡ Target p = sym d.held ∙ e in let is : y ≡ p = one_target y p same in (z, refl, own ∙ sym z_is ∙ ap (newest old) is) in
+    let fine : (q : ℕ) → Target z ≡ Target q → newest old q ≡ q = λ q e. let same : z ≡ q = one_target z q e in subst (λ (q : ℕ). newest old q ≡ q) same own in
+    let goes : (q : ℕ) → Target z ≡ Target q → (q < old.count) × IsNewest old (newest old q) × ((j : ℕ) → old.later q ≡ Some j → old.first j ≡ t) × (old.made x ≡ true) × (old.made q ≡ true) = λ q e. let same : z ≡ q = one_target z q e in subst (λ (q : ℕ). (q < old.count) × IsNewest old (newest old q) × ((j : ℕ) → old.later q ≡ Some j → old.first j ≡ t) × (old.made x ≡ true) × (old.made q ≡ true)) same (next.0, subst (IsNewest old) (sym own) zlast, (λ j h. absurd (let none : None ≡ Some j = sym zlast.last ∙ h in cc)), live.0, kin.2 ∙ live.1) in
     let each = each_kept shape t old new l o x f (Target z) k s last d.entry from to fine in
     let slot = l.matched.found x f y last d.held in
     let entered : old.entry z slot.0 ≡ Some (x, f) = ap (λ w. old.entry w slot.0) (sym z_is) ∙ slot.2 in
     let limit : (type_at shape (old.ty z)).limit ≡ (type_at shape (old.ty y)).limit = ap (λ (v : TypeNo). (type_at shape v).limit) kin.1 in
     let was : if_stale old t z (old.entry z slot.0) ≡ 1 = ap (if_stale old t z) entered ∙ ap (if_other z) d.held ∙ ap (λ b. cond b 0 1) (false_from_ne_true (eqb y z) (λ e. let q : y ≡ z = eqb-true y z e in let fe : old.first y ≡ old.first z = ap old.first q in omega (arith, next.2, fe))) in
-    let now : if_stale new t z (new.entry z slot.0) ≡ 0 = ap (if_stale new t z) (d.entry z slot.0 ∙ entered) ∙ ap (if_other z) s.here ∙ other-none z (Target z) (λ q e. cc) in
+    let now : if_stale new t z (new.entry z slot.0) ≡ 0 = ap (if_stale new t z) (d.entry z slot.0 ∙ entered) ∙ ap (if_other z) s.here ∙ other-none z (Target z) (λ q e. one_target q z (sym e)) in
     let falls : suc (stale shape new t) ≤ stale shape old t = stale_falls shape t old new l o x f (Target z) k s last each z slot.0 zlast (omega (arith, slot.1, limit)) (omega (arith, was, now)) in
     let rises : potential new ≤ potential old + k = potential_after shape t old new l o x f (Target z) k s last in (
       line_after shape t old new l o x f (Target z) k s (kind ∙ ap (λ (v : TypeNo). Some (Pointer v)) (sym kin.1)) (matched_kept shape t old new l o x f (Target z) k s last d.entry from to) goes,

@@ -1,11 +1,13 @@
 -- What copies and redirections do: the record of each node stays, and no heap changes.
 -- Letters: w is a line, i, x, y and z nodes, f and g fields, t the newest stamp.
-use Rattle.std.specs.Prelude.{◌≡◌, ◌≢◌, ℕ, ◌+◌, ◌<◌, ◌≤◌, ◌⊎◌, List, Bool, true, false, Some, None}
+use Rattle.std.specs.Prelude.{◌≡◌, ◌≢◌, ℕ, ◌+◌, ◌<◌, ◌≤◌, ◌⊎◌, List, Bool, true, false, Some, None, length}
+use Rattle.pst_base.specs.declared.names.Name.{Name}
+use Rattle.pst_base.specs.declared.names.TypeNo.{TypeNo}
 use Rattle.pst_base.specs.declared.shape.TypeShape.{TypeShape}
 use Rattle.pst_base.specs.Shape.{type_at}
-use Rattle.pst_line_nodes.specs.declared.content.Content.TheVariants.{Target}
+use Rattle.pst_line_nodes.specs.Contents.{Target}
 use Rattle.pst_line_nodes.specs.Line.{Line, IsNewest, IsLine, heap_at, most, load}
-use Rattle.pst_line_nodes.specs.Changes.{VersionsStay, IsNulled, IsPointed}
+use Rattle.pst_line_nodes.specs.Changes.{VersionsStay, IsNulled, IsPointed, IsMade}
 use Rattle.pst_line_nodes.specs.Seen.{Seen}
 use Rattle.pst_line_nodes.specs.Nodes.{line_of, AreKept}
 use Rattle.pst_line_nodes.specs.Full.{is_other_entry}
@@ -48,6 +50,10 @@ pub record IsCarried (shape : List TypeShape) (t : ℕ) (old new : Line) : Type 
   pub went : Went old new t
   pub small : AreSmall shape old → AreSmall shape new
 
+-- however it is told which records are made, nodes that are a line are one afterwards, and no heap changes
+abbrev pub AreCarried : List TypeShape → (t : ℕ) → (old new : List Seen) → Type 0
+AreCarried shape t old new = (made : ℕ → Bool) → IsLine shape t (line_of made old) → IsCarried shape t (line_of made old) (line_of made new)
+
 -- the node has as many stamped values as it may have, and none of this field and stamp: a write is to copy it
 pub record IsFullFor (shape : List TypeShape) (w : Line) (x f t : ℕ) : Type 0 where
   pub most_are : most (type_at shape (w.ty x)) ≤ w.stamped x
@@ -80,6 +86,18 @@ pub record IsOpenSlot (shape : List TypeShape) (w : Line) (z x f u : ℕ) : Type
 pub record AreAllOthers (shape : List TypeShape) (w : Line) (z x f : ℕ) : Type 0 where
   pub others : (u : ℕ) → u < (type_at shape (w.ty z)).limit → is_other_entry x f (w.entry z u) ≡ true
 
+-- among nodes that are kept, an inverse slot of z is free for the pointer field (x, f), or has its entry
+abbrev pub HasOpenSlot : List Seen → (z x f u : ℕ) → Type 0
+HasOpenSlot nodes z x f u = (shape : List TypeShape) (t : ℕ) (made : ℕ → Bool) → AreKept shape t nodes → IsOpenSlot shape (line_of made nodes) z x f u
+
+-- among nodes that are kept, each inverse slot of z has the entry of another field than (x, f)
+abbrev pub HasNoOpenSlot : List Seen → (z x f : ℕ) → Type 0
+HasNoOpenSlot nodes z x f = (shape : List TypeShape) (t : ℕ) (made : ℕ → Bool) → AreKept shape t nodes → AreAllOthers shape (line_of made nodes) z x f
+
+-- a node came in of a new record with default fields, which is made
+abbrev pub HasNewRecord : List TypeShape → (old new : List Seen) → Name → TypeNo → (t : ℕ) → Type 0
+HasNewRecord shape old new name ty t = (made : ℕ → Bool) → made (length old) ≡ true → IsMade shape (line_of made old) (line_of made new) name ty t
+
 -- The nodes from z on are copies that were made at t, and each pointer that is still to be redirected is to hold one of them.
 -- Those that the first s inverse slots of z stand for are done.
 pub record IsRedirecting (w : Line) (t z s : ℕ) : Type 0 where
@@ -87,10 +105,18 @@ pub record IsRedirecting (w : Line) (t z s : ℕ) : Type 0 where
   pub still : (i g y c : ℕ) → IsNewest w i → w.holds i g t ≡ Target y → w.later y ≡ Some c → z ≤ c
   pub done : (u i g y : ℕ) → u < s → w.entry z u ≡ Some (i, g) → w.holds i g t ≡ Target y → w.later y ≡ None
 
+-- redirecting has come to an inverse slot of z that stands for the pointer field (x, f)
+abbrev pub HasComeTo : Line → (t z x f : ℕ) → Type 0
+HasComeTo w t z x f = (s : ℕ) × IsRedirecting w t z s × (w.entry z s ≡ Some (x, f))
+
 -- the pointer that an inverse slot of z stands for is done, with the slots before it
 abbrev pub Settles : Line → Line → ℕ → ℕ → ℕ → ℕ → Type 0
 Settles old new t z x f = (s : ℕ) → IsRedirecting old t z s → old.entry z s ≡ Some (x, f) → IsRedirecting new t z (s + 1)
 
--- the nodes are a line in which an inverse slot of z is open for the field (x, f)
-abbrev pub MayPoint : ℕ → List Seen → ℕ → ℕ → ℕ → ℕ → Type 0
+-- the nodes are kept, and a line, of some record types and in some way to tell which records are made
+abbrev pub AreSomeLine : (t : ℕ) → List Seen → Type 0
+AreSomeLine t nodes = (shape : List TypeShape) × (made : ℕ → Bool) × AreKept shape t nodes × IsLine shape t (line_of made nodes)
+
+-- so they are, and an inverse slot of z is open for the field (x, f)
+abbrev pub MayPoint : (t : ℕ) → List Seen → (z x f u : ℕ) → Type 0
 MayPoint t nodes z x f u = (shape : List TypeShape) × (made : ℕ → Bool) × AreKept shape t nodes × IsLine shape t (line_of made nodes) × IsOpenSlot shape (line_of made nodes) z x f u

@@ -7,7 +7,8 @@ use Rattle.pst_base.specs.declared.shape.TypeShape.{TypeShape}
 use Rattle.pst_base.specs.Shape.{type_at, field_kind}
 use Rattle.pst_base.specs.Heap.{with_record, with_value, with_pointer, new_record}
 use Rattle.pst_line_nodes.specs.declared.content.Content.{Content}
-use Rattle.pst_line_nodes.specs.declared.content.Content.TheVariants.{Number, Null, Target}
+use Rattle.pst_line_nodes.specs.declared.content.Content.TheVariants.{Number, Null, Target as TargetOf}
+use Rattle.pst_line_nodes.specs.Contents.{Target}
 use Rattle.pst_line_nodes.specs.Line.{Line, IsIn, IsLive, IsNewest, IsLine, IsQuiet, AreSegmentsInside, heap_at, newest, most, potential, stale, load}
 
 -- ---- the changes
@@ -75,7 +76,7 @@ pub record IsPointed (old new : Line) (x f t z u : ℕ) (k : ℕ) : Type 0 where
 abbrev pub redirected : Line → ℕ → ℕ → Content → Content
 redirected w x z (Number n) = Number n
 redirected w x z Null = Null
-redirected w x z (Target y) = if y == x then Target z else Target (newest w y)
+redirected w x z (TargetOf y) = if y.0 == x then Target z else Target (newest w y.0)
 
 -- the entries of a copied node's fields are those of the copy's fields
 abbrev pub moved : ℕ → ℕ → Option (ℕ × ℕ) → Option (ℕ × ℕ)

@@ -3,7 +3,8 @@ use Rattle.std.specs.Prelude.{◌≡◌, ℕ, ◌<◌, ◌⊎◌, true, List, []
 use Rattle.pst_base.specs.Name.{root_name}
 use Rattle.pst_base.specs.Shape.{root_type}
 use Rattle.pst_line_nodes.specs.declared.content.Content.{Content}
-use Rattle.pst_line_nodes.specs.declared.content.Content.TheVariants.{Null, Target}
+use Rattle.pst_line_nodes.specs.declared.content.Content.TheVariants.{Null}
+use Rattle.pst_line_nodes.specs.Contents.{Target}
 use Rattle.pst_line_nodes.specs.declared.content.Entry.{Entry}
 use Rattle.pst_line_nodes.specs.Seen.{Seen}
 use Rattle.pst_line_nodes.specs.Rows.{base_of}

@@ -1,3 +1,4 @@
+pub mod Contents
 pub mod Line
 pub mod Changes
 pub mod Full

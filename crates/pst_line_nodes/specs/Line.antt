@@ -13,7 +13,8 @@ use Rattle.pst_base.specs.Below.{listed, sum_below}
 use Rattle.pst_base.specs.Showing.{Showing, heap_shown}
 use Rattle.pst_base.specs.Heap.{Rec, Heap}
 use Rattle.pst_line_nodes.specs.declared.content.Content.{Content}
-use Rattle.pst_line_nodes.specs.declared.content.Content.TheVariants.{Number, Null, Target}
+use Rattle.pst_line_nodes.specs.declared.content.Content.TheVariants.{Number, Null, Target as TargetOf}
+use Rattle.pst_line_nodes.specs.Contents.{Target}
 
 -- Of each node: the first node of its record; the record's name and type, and whether the record is of a version or of the
 -- open run (and not of a run that was undone); the first stamp; the node that comes after it; how many values are stamped
@@ -72,12 +73,12 @@ pub record IsLive (w : Line) (i n : ℕ) : Type 0 where
 abbrev pub denoted : (ℕ → Name) → Content → Option Name
 denoted name (Number n) = None
 denoted name Null = None
-denoted name (Target y) = Some (name y)
+denoted name (TargetOf y) = Some (name y.0)
 
 abbrev pub number : Content → ℤ
 number (Number n) = n
 number Null = pos 0
-number (Target y) = pos 0
+number (TargetOf y) = pos 0
 
 -- the record of a type with these contents of its fields
 abbrev pub record_of : List TypeShape → TypeNo → (ℕ → Name) → (ℕ → Content) → Rec
@@ -113,7 +114,7 @@ pub record AreChained (w : Line) : Type 0 where
 abbrev pub HasKind : TypeShape → (ℕ → TypeNo) → ℕ → Content → Type 0
 HasKind t ty g (Number n) = g < t.values
 HasKind t ty g Null = t.values ≤ g
-HasKind t ty g (Target y) = field_kind t g ≡ Some (Pointer (ty y))
+HasKind t ty g (TargetOf y) = field_kind t g ≡ Some (Pointer (ty y.0))
 
 -- the newest node that a newest pointer to y is to hold: y, or its copy
 abbrev pub onward : Option ℕ → ℕ → ℕ
@@ -176,7 +177,7 @@ potential w = sum_below w.count (λ i. if_newest (w.later i) (w.stamped i))
 abbrev pub if_other : ℕ → Content → ℕ
 if_other y (Number n) = 0
 if_other y Null = 0
-if_other y (Target q) = if q == y then 0 else 1
+if_other y (TargetOf q) = if q.0 == y then 0 else 1
 
 abbrev pub if_stale : Line → ℕ → ℕ → Option (ℕ × ℕ) → ℕ
 if_stale w t y None = 0

@@ -19,7 +19,7 @@ of_node f other (n ∷ ns) zero = f n
 of_node f other (n ∷ ns) (suc i) = of_node f other ns i
 
 abbrev pub pair_of : Option Entry → Option (ℕ × ℕ)
-pair_of e = option_map (λ e. (e.node, e.slot)) e
+pair_of e = option_map (λ e. (e.node.0, e.slot.0)) e
 
 abbrev pub entry_of : Seen → ℕ → Option (ℕ × ℕ)
 entry_of n s = pair_of (get_or n.inverse s None)
@@ -27,12 +27,12 @@ entry_of n s = pair_of (get_or n.inverse s None)
 -- an entry of the node x as one of its copy z
 abbrev pub entry_renamed : ℕ → ℕ → Option Entry → Option Entry
 entry_renamed x z None = None
-entry_renamed x z (Some e) = if e.node == x then Some (record { node = z; slot = e.slot }) else Some e
+entry_renamed x z (Some e) = if e.node.0 == x then Some (record { node = record { 0 = z }; slot = e.slot }) else Some e
 
 -- an entry, unless it is that of the field (x, f)
 abbrev pub entry_without : ℕ → ℕ → Option Entry → Option Entry
 entry_without x f None = None
-entry_without x f (Some e) = if (e.node == x) && (e.slot == f) then None else Some e
+entry_without x f (Some e) = if (e.node.0 == x) && (e.slot.0 == f) then None else Some e
 
 -- where `made` tells for each first node of a record whether the record is of a version or of the open run
 abbrev pub line_of : (ℕ → Bool) → List Seen → Line

@@ -1,7 +1,7 @@
 -- How runs end.
 use Rattle.std.specs.Prelude.{◌≡◌, ℕ, suc, ◌<◌, true, false, List}
 use Rattle.pst_base.specs.declared.shape.TypeShape.{TypeShape}
-use Rattle.pst_line_nodes.specs.declared.content.Content.TheVariants.{Target}
+use Rattle.pst_line_nodes.specs.Contents.{Target}
 use Rattle.pst_line_nodes.specs.Line.{Line, Covers, IsLive, IsLine, IsQuiet, IsStale, AreSegmentsInside, heap_at, load}
 
 -- The run at t is published, and the newest stamp is the next one. It has the heap of t.

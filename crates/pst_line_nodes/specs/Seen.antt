@@ -3,7 +3,7 @@ use Rattle.std.specs.Prelude.{ℕ, List, Option}
 use Rattle.pst_base.specs.declared.names.Name.{Name}
 use Rattle.pst_base.specs.declared.names.TypeNo.{TypeNo}
 use Rattle.pst_line_nodes.specs.declared.content.Content.{Content}
-use Rattle.pst_line_nodes.specs.declared.content.Stamp.{Stamp}
+use Rattle.pst_line_nodes.specs.declared.content.StampedContent.{StampedContent}
 use Rattle.pst_line_nodes.specs.declared.content.Entry.{Entry}
 
 -- a node: its record's name and type, the first node of the record, the first stamp, the node after it, what its fields hold
@@ -15,5 +15,5 @@ pub record Seen : Type 0 where
   pub first : ℕ
   pub later : Option ℕ
   pub base : List Content
-  pub stamped : List Stamp
+  pub stamped : List StampedContent
   pub inverse : List (Option Entry)

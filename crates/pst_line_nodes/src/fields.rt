@@ -3,40 +3,40 @@
 ghost use Rattle.std.specs.Prelude.{OnOk, OnErr, IfOk, IsOk, IfSome, IfNone, ◌≡◌, ◌≢◌, ◌+◌, ◌<◌, ◌≤◌, ℕ, Bool, true, false, List, length, Some, None};
 ghost use Rattle.pst_base.specs.declared.shape.TypeShape.{TypeShape};
 ghost use Rattle.pst_base.specs.Shape.{type_at, element_count};
-ghost use Rattle.pst_line_nodes.specs.declared.content.Content.TheVariants.{Null, Target};
+ghost use Rattle.pst_line_nodes.specs.Contents.{Target};
 ghost use Rattle.pst_line_nodes.specs.Line.{IsNewest, IsLine, newest};
 ghost use Rattle.pst_line_nodes.specs.Changes.{IsMade};
 ghost use Rattle.pst_line_nodes.specs.Nodes.{line_of, AreKept, HasSlot};
 ghost use Rattle.pst_line_nodes.specs.Copying.{node_at};
 ghost use Rattle.pst_line_nodes.specs.Making.{AreFreed, entered};
-ghost use Rattle.pst_line_nodes.specs.Carried.{IsFieldNulled, IsFieldPointed, IsOpenSlot, AreAllOthers, MayPoint};
+ghost use Rattle.pst_line_nodes.specs.Carried.{IsFieldNulled, IsFieldPointed, AreSomeLine, MayPoint, HasOpenSlot, HasNoOpenSlot, HasNewRecord};
 
-use crate::content::{Content, Entry};
+use crate::content::{Content, Entry, InverseNo, Stamp};
 use crate::node::Node;
 use crate::nodes::{Nodes, type_at};
-use pst_base::{Name, NoMemory, Shape, TypeNo};
+use pst_base::{Name, NoMemory, NodeId, Shape, SlotNo, TypeNo};
 
 impl Nodes {
     /// An inverse slot of a node that is free, or has the entry of this very field. None where each one has the entry of
     /// another field: then as many pointers lead to the record as its limit allows.
-    pub fn open_slot(&self, z: u64, x: u64, field: u16) -> Option<usize>
-        requires newest { IsNewest (line_of (λ _. true) self.now) z }
-        ensures some { IfSome result (λ u. (shape : List TypeShape) (t : ℕ) (made : ℕ → Bool) → AreKept shape t self.now → IsOpenSlot shape (line_of made self.now) z x field u) }
-        ensures none { IfNone result ((shape : List TypeShape) (t : ℕ) (made : ℕ → Bool) → AreKept shape t self.now → AreAllOthers shape (line_of made self.now) z x field) }
+    pub fn open_slot(&self, z: NodeId, x: NodeId, field: SlotNo) -> Option<InverseNo>
+        requires newest { IsNewest (line_of (λ _. true) self.now) z.0 }
+        ensures some { IfSome result (λ slot. HasOpenSlot self.now z.0 x.0 field.0 slot.0) }
+        ensures none { IfNone result (HasNoOpenSlot self.now z.0 x.0 field.0) }
     {
         self.node(z).open_slot(x, field)
     }
 
     /// Writes null into a field of a newest node, at the newest stamp. A refusal changes nothing, and where the content is
     /// replaced there is none.
-    pub fn set_null(&mut self, x: u64, field: u16, stamp: u32) -> Result<(), NoMemory>
-        requires line { (shape : List TypeShape) × (made : ℕ → Bool) × AreKept shape stamp self.old × IsLine shape stamp (line_of made self.old) }
-        requires newest { IsNewest (line_of (λ _. true) self.old) x }
-        requires field { HasSlot self.old x field }
-        ensures ok { OnOk result ((made : ℕ → Bool) → IsFieldNulled (line_of made self.old) (line_of made self.new) x field stamp) }
-        ensures kept { (shape : List TypeShape) → AreKept shape stamp self.old → AreKept shape stamp self.new }
+    pub fn set_null(&mut self, x: NodeId, field: SlotNo, stamp: Stamp) -> Result<(), NoMemory>
+        requires line { AreSomeLine stamp.0 self.old }
+        requires newest { IsNewest (line_of (λ _. true) self.old) x.0 }
+        requires field { HasSlot self.old x.0 field.0 }
+        ensures ok { OnOk result ((made : ℕ → Bool) → IsFieldNulled (line_of made self.old) (line_of made self.new) x.0 field.0 stamp.0) }
+        ensures kept { (shape : List TypeShape) → AreKept shape stamp.0 self.old → AreKept shape stamp.0 self.new }
         ensures err { OnErr result (self.new ≡ self.old) }
-        ensures replaces { (line_of (λ _. true) self.old).since x field ≡ stamp → IsOk result }
+        ensures replaces { (line_of (λ _. true) self.old).since x.0 field.0 ≡ stamp.0 → IsOk result }
     {
         let held = self.read(x, field, stamp);
         self.set(x, field, stamp, Content::Null)?;
@@ -48,20 +48,20 @@ impl Nodes {
     /// slot. A refusal changes nothing, and where the content is replaced there is none.
     pub fn set_target(
         &mut self,
-        x: u64,
-        field: u16,
-        stamp: u32,
-        z: u64,
-        slot: usize,
+        x: NodeId,
+        field: SlotNo,
+        stamp: Stamp,
+        z: NodeId,
+        slot: InverseNo,
     ) -> Result<(), NoMemory>
-        requires open { MayPoint stamp self.old z x field slot }
-        requires newest { IsNewest (line_of (λ _. true) self.old) x }
-        requires field { HasSlot self.old x field }
-        requires target { IsNewest (line_of (λ _. true) self.old) z }
-        ensures ok { OnOk result ((made : ℕ → Bool) → IsFieldPointed (line_of made self.old) (line_of made self.new) x field stamp z slot) }
-        ensures kept { (shape : List TypeShape) → AreKept shape stamp self.old → AreKept shape stamp self.new }
+        requires open { MayPoint stamp.0 self.old z.0 x.0 field.0 slot.0 }
+        requires newest { IsNewest (line_of (λ _. true) self.old) x.0 }
+        requires field { HasSlot self.old x.0 field.0 }
+        requires target { IsNewest (line_of (λ _. true) self.old) z.0 }
+        ensures ok { OnOk result ((made : ℕ → Bool) → IsFieldPointed (line_of made self.old) (line_of made self.new) x.0 field.0 stamp.0 z.0 slot.0) }
+        ensures kept { (shape : List TypeShape) → AreKept shape stamp.0 self.old → AreKept shape stamp.0 self.new }
         ensures err { OnErr result (self.new ≡ self.old) }
-        ensures replaces { (line_of (λ _. true) self.old).since x field ≡ stamp → IsOk result }
+        ensures replaces { (line_of (λ _. true) self.old).since x.0 field.0 ≡ stamp.0 → IsOk result }
     {
         let held = self.read(x, field, stamp);
         self.set(x, field, stamp, Content::Target(z))?;
@@ -78,23 +78,23 @@ impl Nodes {
     }
 
     // Puts an entry into an inverse slot of a node.
-    fn enter(&mut self, z: u64, slot: usize, entry: Entry)
-        requires there { z < length self.old }
-        requires slot { slot < length (node_at self.old z).inverse }
-        ensures { self.new ≡ entered self.old z slot entry }
+    fn enter(&mut self, z: NodeId, slot: InverseNo, entry: Entry)
+        requires there { z.0 < length self.old }
+        requires slot { slot.0 < length (node_at self.old z.0).inverse }
+        ensures { self.new ≡ entered self.old z.0 slot.0 entry }
     {
-        let node = &mut self.list[z as usize];
+        let node = &mut self.list[z.0 as usize];
         node.enter(slot, entry);
     }
 
     // Frees the entry of a field in the node that the field held.
-    fn free(&mut self, held: Content, x: u64, field: u16)
+    fn free(&mut self, held: Content, x: NodeId, field: SlotNo)
         requires { (y : ℕ) → held ≡ Target y → (y < length self.old) × (newest (line_of (λ _. true) self.old) y < length self.old) }
-        ensures { AreFreed self.old self.new x field held }
+        ensures { AreFreed self.old self.new x.0 field.0 held }
     {
         if let Content::Target(y) = held {
             let holder = self.newest(y);
-            let node = &mut self.list[holder as usize];
+            let node = &mut self.list[holder.0 as usize];
             node.free(x, field);
         }
     }
@@ -105,16 +105,16 @@ impl Nodes {
         shape: &Shape,
         name: Name,
         ty: TypeNo,
-        stamp: u32,
-    ) -> Result<u64, NoMemory>
+        stamp: Stamp,
+    ) -> Result<NodeId, NoMemory>
         requires known { ty.0 < length shape.now }
-        ensures id { IfOk result (λ id. id ≡ length self.old) }
-        ensures made { OnOk result ((made : ℕ → Bool) → made (length self.old) ≡ true → IsMade shape.now (line_of made self.old) (line_of made self.new) name ty stamp) }
-        ensures kept { AreKept shape.now stamp self.old → AreKept shape.now stamp self.new }
+        ensures id { IfOk result (λ id. id.0 ≡ length self.old) }
+        ensures made { OnOk result (HasNewRecord shape.now self.old self.new name ty stamp.0) }
+        ensures kept { AreKept shape.now stamp.0 self.old → AreKept shape.now stamp.0 self.new }
         ensures err { OnErr result (self.new ≡ self.old) }
     {
         let alloc = *self.list.allocator();
-        let id = self.count();
+        let id = NodeId(self.count());
         let node = Node::new(alloc, type_at(shape, ty), name, ty, id, stamp)?;
         self.list.push(node)?;
         Ok(id)

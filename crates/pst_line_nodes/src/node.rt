@@ -9,8 +9,8 @@ ghost use Rattle.pst_line_nodes.specs.Making.{IsNewNode, AreDefault};
 ghost use Rattle.pst_line_nodes.specs.Nodes.{pair_of, entry_of, entry_renamed, entry_without};
 ghost use Rattle.pst_line_nodes.specs.Rows.{held, since_in, IsStampAt, IsUnstamped, IsPut, AreRising};
 
-use crate::content::{Content, Entry, Stamp};
-use pst_base::{Name, NoMemory, TypeNo, TypeShape};
+use crate::content::{Content, Entry, InverseNo, Stamp, StampedContent};
+use pst_base::{Name, NoMemory, NodeId, SlotNo, TypeNo, TypeShape};
 use std::alloc::Global;
 use std::marker::Model;
 use std::mem;
@@ -20,15 +20,16 @@ use std::mem;
 pub struct Node {
     name: Name,
     ty: TypeNo,
-    home: u64,
-    first: u32,
-    later: Option<u64>,
+    home: NodeId,
+    first: Stamp,
+    later: Option<NodeId>,
     base: Vec<Content>,
-    stamped: Vec<Stamp>,
+    stamped: Vec<StampedContent>,
     inverse: Vec<Option<Entry>>,
 }
 
 impl Model for Node {
+    ghost use Rattle.std.specs.Option.{option_map};
     ghost use Rattle.pst_line_nodes.specs.Seen.{Seen};
     ghost use Rattle.pst_line_nodes.specs.Full.{is_other_entry};
     ghost use Rattle.pst_line_nodes.specs.Making.{IsNewNode, AreDefault};
@@ -36,7 +37,7 @@ impl Model for Node {
 
     ghost Value = { Seen };
 
-    ghost view = { λ n. record { name = n.name; ty = n.ty; home = n.home; first = n.first; later = n.later; base = n.base.items; stamped = n.stamped.items; inverse = n.inverse.items } };
+    ghost view = { λ n. record { name = n.name; ty = n.ty; home = n.home.0; first = n.first.0; later = option_map (λ i. i.0) n.later; base = n.base.items; stamped = n.stamped.items; inverse = n.inverse.items } };
 }
 
 impl Node {
@@ -48,10 +49,10 @@ impl Node {
         shape: &TypeShape,
         name: Name,
         ty: TypeNo,
-        id: u64,
-        stamp: u32,
+        id: NodeId,
+        stamp: Stamp,
     ) -> Result<Node, NoMemory>
-        ensures { IfOk result (IsNewNode shape.now name ty id stamp) }
+        ensures { IfOk result (IsNewNode shape.now name ty id.0 stamp.0) }
     {
         Ok(Node {
             name,
@@ -80,22 +81,22 @@ impl Node {
     }
 
     /// The first node of the record.
-    pub fn home(&self) -> u64
-        ensures { result ≡ self.now.home }
+    pub fn home(&self) -> NodeId
+        ensures { result.0 ≡ self.now.home }
     {
         self.home
     }
 
     /// The first stamp.
-    pub fn begins(&self) -> u32
-        ensures { result ≡ self.now.first }
+    pub fn begins(&self) -> Stamp
+        ensures { result.0 ≡ self.now.first }
     {
         self.first
     }
 
     /// The node that comes after it.
-    pub fn next(&self) -> Option<u64>
-        ensures { result ≡ self.now.later }
+    pub fn next(&self) -> Option<NodeId>
+        ensures { option_map (λ i. i.0) result ≡ self.now.later }
     {
         self.later
     }
@@ -131,7 +132,7 @@ impl Node {
         }
     }
 
-    /// What a field holds from the first stamp on.
+    /// What the field with an index holds from the first stamp on.
     pub fn base(&self, slot: usize) -> Content
         requires slot { slot < length self.now.base }
         ensures { result ≡ base_of self.now slot }
@@ -140,33 +141,33 @@ impl Node {
     }
 
     /// The pointer that an inverse slot stands for.
-    pub fn entry(&self, slot: usize) -> Option<Entry>
-        requires slot { slot < length self.now.inverse }
-        ensures { result ≡ get_or self.now.inverse slot None }
+    pub fn entry(&self, slot: InverseNo) -> Option<Entry>
+        requires slot { slot.0 < length self.now.inverse }
+        ensures { result ≡ get_or self.now.inverse slot.0 None }
     {
-        self.inverse[slot]
+        self.inverse[slot.0]
     }
 
-    /// What a field holds at a stamp.
-    pub fn read(&self, slot: usize, at: u32) -> Content
+    /// What the field with an index holds at a stamp.
+    pub fn read(&self, slot: usize, at: Stamp) -> Content
         requires slot { slot < length self.now.base }
-        ensures { result ≡ holds self.now slot at }
+        ensures { result ≡ holds self.now slot at.0 }
     {
         latest(self.stamped.as_slice(), self.base[slot], slot, at)
     }
 
     /// Writes a field at the newest stamp: replaces the content where the newest segment begins there, and else stamps
     /// one. Where it replaces it takes no memory.
-    pub fn set(&mut self, slot: u16, stamp: u32, content: Content) -> Result<(), NoMemory>
-        requires row { IsRow stamp self.old }
-        requires slot { slot < length self.old.base }
-        ensures ok { OnOk result (IsRowSet self.old self.new slot stamp content) }
-        ensures row { OnOk result (IsRow stamp self.new) }
+    pub fn set(&mut self, slot: SlotNo, stamp: Stamp, content: Content) -> Result<(), NoMemory>
+        requires row { IsRow stamp.0 self.old }
+        requires slot { slot.0 < length self.old.base }
+        ensures ok { OnOk result (IsRowSet self.old self.new slot.0 stamp.0 content) }
+        ensures row { OnOk result (IsRow stamp.0 self.new) }
         ensures err { OnErr result (self.new ≡ self.old) }
-        ensures replaces { since self.old slot ≡ stamp → IsOk result }
+        ensures replaces { since self.old slot.0 ≡ stamp.0 → IsOk result }
     {
-        if self.first == stamp {
-            self.base[slot as usize] = content;
+        if self.first.0 == stamp.0 {
+            self.base[slot.0 as usize] = content;
             Ok(())
         } else {
             put(&mut self.stamped, slot, stamp, content)
@@ -175,31 +176,31 @@ impl Node {
 
     /// An inverse slot that is free, or has the entry of this very field. None where each slot has another field's entry:
     /// then the record has as many pointers as its limit.
-    pub fn open_slot(&self, x: u64, field: u16) -> Option<usize>
-        ensures some { IfSome result (λ i. (i < length self.now.inverse) × (is_other_entry x field (entry_of self.now i) ≡ false)) }
-        ensures none { IfNone result ((i : ℕ) → i < length self.now.inverse → is_other_entry x field (entry_of self.now i) ≡ true) }
+    pub fn open_slot(&self, x: NodeId, field: SlotNo) -> Option<InverseNo>
+        ensures some { IfSome result (λ i. (i.0 < length self.now.inverse) × (is_other_entry x.0 field.0 (entry_of self.now i.0) ≡ false)) }
+        ensures none { IfNone result ((i : ℕ) → i < length self.now.inverse → is_other_entry x.0 field.0 (entry_of self.now i) ≡ true) }
     {
         for i in 0..self.inverse.len() {
             if is_open(self.inverse[i], x, field) {
-                return Some(i);
+                return Some(InverseNo(i));
             }
         }
         None
     }
 
     /// Whether a write of a field at a stamp would stamp a value, and there are more than a limit already.
-    pub fn is_full(&self, limit: usize, slot: u16, stamp: u32) -> bool
-        requires row { IsRow stamp self.now }
-        ensures { IsTrue result ↔ (limit < length self.now.stamped) × (since self.now slot ≢ stamp) }
+    pub fn is_full(&self, limit: usize, slot: SlotNo, stamp: Stamp) -> bool
+        requires row { IsRow stamp.0 self.now }
+        ensures { IsTrue result ↔ (limit < length self.now.stamped) × (since self.now slot.0 ≢ stamp.0) }
     {
         self.stamped.len() > limit && stamp_index(self.stamped.as_slice(), slot, stamp).is_none()
     }
 
     /// The copy of this node, with a number, contents and a first stamp. It comes after this node, and takes the inverse
     /// slots over.
-    pub fn hand_over(&mut self, copy: u64, stamp: u32, base: Vec<Content>) -> Node
-        ensures old { self.new ≡ record self.old { later = Some copy; inverse = [] } }
-        ensures copy { result ≡ record self.old { first = stamp; later = None; base = base.items; stamped = [] } }
+    pub fn hand_over(&mut self, copy: NodeId, stamp: Stamp, base: Vec<Content>) -> Node
+        ensures old { self.new ≡ record self.old { later = Some copy.0; inverse = [] } }
+        ensures copy { result ≡ record self.old { first = stamp.0; later = None; base = base.items; stamped = [] } }
     {
         let alloc = *self.inverse.allocator();
         let inverse = mem::replace(&mut self.inverse, Vec::new(alloc));
@@ -217,23 +218,23 @@ impl Node {
     }
 
     /// Lets the entries of a node's fields be those of its copy.
-    pub fn rename(&mut self, x: u64, z: u64)
-        ensures { self.new ≡ record self.old { inverse = map (entry_renamed x z) self.old.inverse } }
+    pub fn rename(&mut self, x: NodeId, z: NodeId)
+        ensures { self.new ≡ record self.old { inverse = map (entry_renamed x.0 z.0) self.old.inverse } }
     {
         rename_all(self.inverse.as_mut_slice(), x, z);
     }
 
     /// Sets an inverse slot.
-    pub fn enter(&mut self, slot: usize, entry: Entry)
-        requires { slot < length self.old.inverse }
-        ensures { self.new ≡ record self.old { inverse = slice_set self.old.inverse slot (Some entry) } }
+    pub fn enter(&mut self, slot: InverseNo, entry: Entry)
+        requires { slot.0 < length self.old.inverse }
+        ensures { self.new ≡ record self.old { inverse = slice_set self.old.inverse slot.0 (Some entry) } }
     {
-        self.inverse[slot] = Some(entry);
+        self.inverse[slot.0] = Some(entry);
     }
 
     /// Frees each inverse slot that has the entry of a field.
-    pub fn free(&mut self, x: u64, field: u16)
-        ensures { self.new ≡ record self.old { inverse = map (entry_without x field) self.old.inverse } }
+    pub fn free(&mut self, x: NodeId, field: SlotNo)
+        ensures { self.new ≡ record self.old { inverse = map (entry_without x.0 field.0) self.old.inverse } }
     {
         free_all(self.inverse.as_mut_slice(), x, field);
     }
@@ -257,8 +258,8 @@ fn default_contents(alloc: Global, shape: &TypeShape) -> Result<Vec<Content>, No
 }
 
 // Whether an inverse slot is free, or has the entry of this field.
-fn is_open(entry: Option<Entry>, x: u64, field: u16) -> bool
-    ensures { result ≡ not (is_other_entry x field (pair_of entry)) }
+fn is_open(entry: Option<Entry>, x: NodeId, field: SlotNo) -> bool
+    ensures { result ≡ not (is_other_entry x.0 field.0 (pair_of entry)) }
 {
     match entry {
         None => true,
@@ -267,8 +268,8 @@ fn is_open(entry: Option<Entry>, x: u64, field: u16) -> bool
 }
 
 // Lets the entries of a node's fields be those of its copy.
-fn rename_all(entries: &mut [Option<Entry>], x: u64, z: u64)
-    ensures { entries.new ≡ map (entry_renamed x z) entries.old }
+fn rename_all(entries: &mut [Option<Entry>], x: NodeId, z: NodeId)
+    ensures { entries.new ≡ map (entry_renamed x.0 z.0) entries.old }
 {
     for entry in entries.iter_mut() {
         *entry = renamed(*entry, x, z);
@@ -276,8 +277,8 @@ fn rename_all(entries: &mut [Option<Entry>], x: u64, z: u64)
 }
 
 // Frees each slot that has the entry of a field.
-fn free_all(entries: &mut [Option<Entry>], x: u64, field: u16)
-    ensures { entries.new ≡ map (entry_without x field) entries.old }
+fn free_all(entries: &mut [Option<Entry>], x: NodeId, field: SlotNo)
+    ensures { entries.new ≡ map (entry_without x.0 field.0) entries.old }
 {
     for entry in entries.iter_mut() {
         *entry = freed(*entry, x, field);
@@ -285,8 +286,8 @@ fn free_all(entries: &mut [Option<Entry>], x: u64, field: u16)
 }
 
 // An entry, which is that of the copy where it was that of the copied node.
-fn renamed(entry: Option<Entry>, x: u64, z: u64) -> Option<Entry>
-    ensures { result ≡ entry_renamed x z entry }
+fn renamed(entry: Option<Entry>, x: NodeId, z: NodeId) -> Option<Entry>
+    ensures { result ≡ entry_renamed x.0 z.0 entry }
 {
     match entry {
         Some(Entry { node, slot }) if node == x => Some(Entry { node: z, slot }),
@@ -295,8 +296,8 @@ fn renamed(entry: Option<Entry>, x: u64, z: u64) -> Option<Entry>
 }
 
 // An entry, unless it is that of a field.
-fn freed(entry: Option<Entry>, x: u64, field: u16) -> Option<Entry>
-    ensures { result ≡ entry_without x field entry }
+fn freed(entry: Option<Entry>, x: NodeId, field: SlotNo) -> Option<Entry>
+    ensures { result ≡ entry_without x.0 field.0 entry }
 {
     match entry {
         Some(Entry { node, slot }) if node == x && slot == field => None,
@@ -305,10 +306,15 @@ fn freed(entry: Option<Entry>, x: u64, field: u16) -> Option<Entry>
 }
 
 // Stamps a content, in the place of one that is stamped there.
-fn put(stamped: &mut Vec<Stamp>, slot: u16, stamp: u32, content: Content) -> Result<(), NoMemory>
-    ensures ok { OnOk result (IsPut stamped.old.items stamped.new.items slot stamp content) }
+fn put(
+    stamped: &mut Vec<StampedContent>,
+    slot: SlotNo,
+    stamp: Stamp,
+    content: Content,
+) -> Result<(), NoMemory>
+    ensures ok { OnOk result (IsPut stamped.old.items stamped.new.items slot.0 stamp.0 content) }
     ensures err { OnErr result (stamped.new.items ≡ stamped.old.items) }
-    ensures fails { OnErr result (IsUnstamped stamped.old.items slot stamp) }
+    ensures fails { OnErr result (IsUnstamped stamped.old.items slot.0 stamp.0) }
 {
     match stamp_index(stamped.as_slice(), slot, stamp) {
         Some(i) => {
@@ -316,7 +322,7 @@ fn put(stamped: &mut Vec<Stamp>, slot: u16, stamp: u32, content: Content) -> Res
             Ok(())
         }
         None => {
-            stamped.push(Stamp {
+            stamped.push(StampedContent {
                 slot,
                 from: stamp,
                 content,
@@ -327,9 +333,9 @@ fn put(stamped: &mut Vec<Stamp>, slot: u16, stamp: u32, content: Content) -> Res
 }
 
 // Where a stamp of this slot and number is.
-fn stamp_index(stamped: &[Stamp], slot: u16, from: u32) -> Option<usize>
-    ensures some { IfSome result (λ i. IsStampAt stamped.now i slot from) }
-    ensures none { IfNone result (IsUnstamped stamped.now slot from) }
+fn stamp_index(stamped: &[StampedContent], slot: SlotNo, from: Stamp) -> Option<usize>
+    ensures some { IfSome result (λ i. IsStampAt stamped.now i slot.0 from.0) }
+    ensures none { IfNone result (IsUnstamped stamped.now slot.0 from.0) }
 {
     for (i, stamp) in stamped.iter().enumerate() {
         if stamp.slot == slot && stamp.from == from {
@@ -340,12 +346,12 @@ fn stamp_index(stamped: &[Stamp], slot: u16, from: u32) -> Option<usize>
 }
 
 // What a slot holds at a stamp, from its base and these stamps.
-fn latest(stamped: &[Stamp], base: Content, slot: usize, at: u32) -> Content
-    ensures { result ≡ held stamped.now slot at base }
+fn latest(stamped: &[StampedContent], base: Content, slot: usize, at: Stamp) -> Content
+    ensures { result ≡ held stamped.now slot at.0 base }
 {
     let mut content = base;
     for stamp in stamped {
-        if usize::from(stamp.slot) == slot && stamp.from <= at {
+        if usize::from(stamp.slot.0) == slot && stamp.from.0 <= at.0 {
             content = stamp.content;
         }
     }

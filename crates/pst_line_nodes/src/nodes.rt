@@ -6,9 +6,9 @@ ghost use Rattle.pst_line_nodes.specs.Line.{Covers, is_over, potential};
 ghost use Rattle.pst_base.specs.declared.shape.TypeShape.{TypeShape};
 ghost use Rattle.pst_line_nodes.specs.Nodes.{line_of, AreKept, AreLinked, HasSlot, IsFieldSet, IsNext};
 
-use crate::content::Content;
+use crate::content::{Content, Stamp};
 use crate::node::Node;
-use pst_base::{Name, NoMemory, Shape, TypeNo, TypeShape};
+use pst_base::{Name, NoMemory, NodeId, Shape, SlotNo, TypeNo, TypeShape};
 use std::alloc::Global;
 use std::marker::Model;
 
@@ -45,33 +45,33 @@ impl Nodes {
     }
 
     // A node.
-    pub(crate) fn node(&self, id: u64) -> &Node
-        requires { id < length self.now }
-        ensures { slice_get self.now id ≡ Some result.now }
+    pub(crate) fn node(&self, id: NodeId) -> &Node
+        requires { id.0 < length self.now }
+        ensures { slice_get self.now id.0 ≡ Some result.now }
     {
-        &self.list[id as usize]
+        &self.list[id.0 as usize]
     }
 
     /// The name of a node's record.
-    pub fn name(&self, x: u64) -> Name
-        requires { x < length self.now }
-        ensures { result ≡ (line_of (λ _. true) self.now).name x }
+    pub fn name(&self, x: NodeId) -> Name
+        requires { x.0 < length self.now }
+        ensures { result ≡ (line_of (λ _. true) self.now).name x.0 }
     {
         self.node(x).name()
     }
 
     /// The type of a node's record.
-    pub fn ty(&self, x: u64) -> TypeNo
-        requires { x < length self.now }
-        ensures { result ≡ (line_of (λ _. true) self.now).ty x }
+    pub fn ty(&self, x: NodeId) -> TypeNo
+        requires { x.0 < length self.now }
+        ensures { result ≡ (line_of (λ _. true) self.now).ty x.0 }
     {
         self.node(x).ty()
     }
 
     /// The first node of a node's record.
-    pub fn home(&self, x: u64) -> u64
-        requires { x < length self.now }
-        ensures { result ≡ (line_of (λ _. true) self.now).home x }
+    pub fn home(&self, x: NodeId) -> NodeId
+        requires { x.0 < length self.now }
+        ensures { result.0 ≡ (line_of (λ _. true) self.now).home x.0 }
     {
         self.node(x).home()
     }
@@ -83,41 +83,47 @@ impl Nodes {
     {
         let mut stamped = 0;
         for id in 0..self.count() {
-            stamped += self.node(id).newest_stamped();
+            stamped += self.node(NodeId(id)).newest_stamped();
         }
         stamped
     }
 
     /// What a field of a node holds at a stamp.
-    pub fn read(&self, x: u64, slot: u16, at: u32) -> Content
-        requires there { x < length self.now }
-        requires slot { HasSlot self.now x slot }
-        ensures { (made : ℕ → Bool) → result ≡ (line_of made self.now).holds x slot at }
+    pub fn read(&self, x: NodeId, slot: SlotNo, at: Stamp) -> Content
+        requires there { x.0 < length self.now }
+        requires slot { HasSlot self.now x.0 slot.0 }
+        ensures { (made : ℕ → Bool) → result ≡ (line_of made self.now).holds x.0 slot.0 at.0 }
     {
-        self.node(x).read(usize::from(slot), at)
+        self.node(x).read(usize::from(slot.0), at)
     }
 
     /// Writes a field of a node at the newest stamp: replaces the content where the newest segment begins there, and else
     /// stamps one. Where it replaces it takes no memory. A refusal changes nothing.
-    pub fn set(&mut self, x: u64, slot: u16, stamp: u32, content: Content) -> Result<(), NoMemory>
-        requires kept { (shape : List TypeShape) × AreKept shape stamp self.old }
-        requires there { x < length self.old }
-        requires slot { HasSlot self.old x slot }
-        ensures ok { OnOk result ((made : ℕ → Bool) → IsFieldSet (line_of made self.old) (line_of made self.new) x slot stamp content) }
-        ensures kept { (shape : List TypeShape) → AreKept shape stamp self.old → AreKept shape stamp self.new }
+    pub fn set(
+        &mut self,
+        x: NodeId,
+        slot: SlotNo,
+        stamp: Stamp,
+        content: Content,
+    ) -> Result<(), NoMemory>
+        requires kept { (shape : List TypeShape) × AreKept shape stamp.0 self.old }
+        requires there { x.0 < length self.old }
+        requires slot { HasSlot self.old x.0 slot.0 }
+        ensures ok { OnOk result ((made : ℕ → Bool) → IsFieldSet (line_of made self.old) (line_of made self.new) x.0 slot.0 stamp.0 content) }
+        ensures kept { (shape : List TypeShape) → AreKept shape stamp.0 self.old → AreKept shape stamp.0 self.new }
         ensures err { OnErr result (self.new ≡ self.old) }
-        ensures replaces { (made : ℕ → Bool) → (line_of made self.old).since x slot ≡ stamp → IsOk result }
+        ensures replaces { (made : ℕ → Bool) → (line_of made self.old).since x.0 slot.0 ≡ stamp.0 → IsOk result }
     {
-        let node = &mut self.list[x as usize];
+        let node = &mut self.list[x.0 as usize];
         node.set(slot, stamp, content)
     }
 
     /// The node that covers a stamp, of the record that a node number stands for: by the walk along `later`.
-    pub fn cover(&self, id: u64, at: u32) -> u64
+    pub fn cover(&self, id: NodeId, at: Stamp) -> NodeId
         requires linked { AreLinked (line_of (λ _. true) self.now) }
-        requires there { id < length self.now }
-        requires begun { (line_of (λ _. true) self.now).first id ≤ at }
-        ensures { (made : ℕ → Bool) → Covers (line_of made self.now) result at × ((line_of made self.now).home result ≡ (line_of made self.now).home id) }
+        requires there { id.0 < length self.now }
+        requires begun { (line_of (λ _. true) self.now).first id.0 ≤ at.0 }
+        ensures { (made : ℕ → Bool) → Covers (line_of made self.now) result.0 at.0 × ((line_of made self.now).home result.0 ≡ (line_of made self.now).home id.0) }
     {
         let mut found = id;
         while let Some(next) = self.step(found, at) {
@@ -127,15 +133,15 @@ impl Nodes {
     }
 
     // The node after a node, where it begins by a stamp.
-    fn step(&self, id: u64, at: u32) -> Option<u64>
+    fn step(&self, id: NodeId, at: Stamp) -> Option<NodeId>
         requires linked { AreLinked (line_of (λ _. true) self.now) }
-        requires there { id < length self.now }
-        ensures some { IfSome result (IsNext self.now id at) }
-        ensures none { IfNone result (is_over (line_of (λ _. true) self.now) id at ≡ false) }
+        requires there { id.0 < length self.now }
+        ensures some { IfSome result (λ next. IsNext self.now id.0 at.0 next.0) }
+        ensures none { IfNone result (is_over (line_of (λ _. true) self.now) id.0 at.0 ≡ false) }
     {
         match self.node(id).next() {
             Some(next) => {
-                if self.begins(next) <= at {
+                if self.begins(next).0 <= at.0 {
                     Some(next)
                 } else {
                     None
@@ -146,9 +152,9 @@ impl Nodes {
     }
 
     // The first stamp of a node.
-    fn begins(&self, id: u64) -> u32
-        requires there { id < length self.now }
-        ensures { result ≡ (line_of (λ _. true) self.now).first id }
+    fn begins(&self, id: NodeId) -> Stamp
+        requires there { id.0 < length self.now }
+        ensures { result.0 ≡ (line_of (λ _. true) self.now).first id.0 }
     {
         self.node(id).begins()
     }

@@ -2,15 +2,15 @@
 
 ghost use Rattle.std.specs.Prelude.{OnOk, OnErr, IfOk, ◌≡◌, ◌≢◌, ◌+◌, ◌<◌, ◌≤◌, ◌↔◌, IsTrue, ℕ, Bool, true, List, length, Some, None};
 ghost use Rattle.pst_base.specs.Shape.{type_at, element_count};
-ghost use Rattle.pst_line_nodes.specs.declared.content.Content.TheVariants.{Target};
+ghost use Rattle.pst_line_nodes.specs.Contents.{Target};
 ghost use Rattle.pst_line_nodes.specs.Line.{IsNewest, IsLine, IsQuiet};
 ghost use Rattle.pst_line_nodes.specs.Nodes.{line_of, AreKept, HasSlot};
 ghost use Rattle.pst_line_nodes.specs.Copying.{node_at};
-ghost use Rattle.pst_line_nodes.specs.Carried.{IsCarried, IsFullFor, HasRoomFor, IsRedirecting, Settles};
+ghost use Rattle.pst_line_nodes.specs.Carried.{AreCarried, IsFullFor, HasRoomFor, IsRedirecting, HasComeTo, Settles};
 
-use crate::content::{Content, Entry};
+use crate::content::{Content, Entry, InverseNo, Stamp};
 use crate::nodes::{Nodes, type_at};
-use pst_base::{NoMemory, Shape, TypeShape};
+use pst_base::{NoMemory, NodeId, Shape, SlotNo, TypeShape};
 
 impl Nodes {
     /// Makes room for a write of a field at a stamp, the newest one: gives the node, or its copy where the write would stamp one
@@ -19,18 +19,18 @@ impl Nodes {
     pub fn make_room(
         &mut self,
         shape: &Shape,
-        x: u64,
-        field: u16,
-        stamp: u32,
-    ) -> Result<u64, NoMemory>
-        requires kept { AreKept shape.now stamp self.old }
-        requires line { (made : ℕ → Bool) × IsLine shape.now stamp (line_of made self.old) }
-        requires quiet { IsQuiet (line_of (λ _. true) self.old) stamp }
-        requires newest { IsNewest (line_of (λ _. true) self.old) x }
-        ensures room { IfOk result (HasRoomFor shape.now (line_of (λ _. true) self.new) x field stamp) }
-        ensures quiet { OnOk result (IsQuiet (line_of (λ _. true) self.new) stamp) }
-        ensures carried { (made : ℕ → Bool) → IsLine shape.now stamp (line_of made self.old) → IsCarried shape.now stamp (line_of made self.old) (line_of made self.new) }
-        ensures kept { AreKept shape.now stamp self.new }
+        x: NodeId,
+        field: SlotNo,
+        stamp: Stamp,
+    ) -> Result<NodeId, NoMemory>
+        requires kept { AreKept shape.now stamp.0 self.old }
+        requires line { (made : ℕ → Bool) × IsLine shape.now stamp.0 (line_of made self.old) }
+        requires quiet { IsQuiet (line_of (λ _. true) self.old) stamp.0 }
+        requires newest { IsNewest (line_of (λ _. true) self.old) x.0 }
+        ensures room { IfOk result (λ z. HasRoomFor shape.now (line_of (λ _. true) self.new) x.0 field.0 stamp.0 z.0) }
+        ensures quiet { OnOk result (IsQuiet (line_of (λ _. true) self.new) stamp.0) }
+        ensures carried { AreCarried shape.now stamp.0 self.old self.new }
+        ensures kept { AreKept shape.now stamp.0 self.new }
     {
         if self.is_full(shape, x, field, stamp) {
             self.copy_over(shape, x, stamp)
@@ -40,29 +40,29 @@ impl Nodes {
     }
 
     // Copies a full node, and redirects all pointers to copied nodes. Gives the newest node of the record.
-    fn copy_over(&mut self, shape: &Shape, x: u64, stamp: u32) -> Result<u64, NoMemory>
-        requires kept { AreKept shape.now stamp self.old }
-        requires line { (made : ℕ → Bool) × IsLine shape.now stamp (line_of made self.old) }
-        requires quiet { IsQuiet (line_of (λ _. true) self.old) stamp }
-        requires newest { IsNewest (line_of (λ _. true) self.old) x }
-        requires full { (f : ℕ) × IsFullFor shape.now (line_of (λ _. true) self.old) x f stamp }
-        ensures room { IfOk result (λ z. (f : ℕ) → HasRoomFor shape.now (line_of (λ _. true) self.new) x f stamp z) }
-        ensures quiet { OnOk result (IsQuiet (line_of (λ _. true) self.new) stamp) }
-        ensures carried { (made : ℕ → Bool) → IsLine shape.now stamp (line_of made self.old) → IsCarried shape.now stamp (line_of made self.old) (line_of made self.new) }
-        ensures kept { AreKept shape.now stamp self.new }
+    fn copy_over(&mut self, shape: &Shape, x: NodeId, stamp: Stamp) -> Result<NodeId, NoMemory>
+        requires kept { AreKept shape.now stamp.0 self.old }
+        requires line { (made : ℕ → Bool) × IsLine shape.now stamp.0 (line_of made self.old) }
+        requires quiet { IsQuiet (line_of (λ _. true) self.old) stamp.0 }
+        requires newest { IsNewest (line_of (λ _. true) self.old) x.0 }
+        requires full { (f : ℕ) × IsFullFor shape.now (line_of (λ _. true) self.old) x.0 f stamp.0 }
+        ensures room { IfOk result (λ z. (f : ℕ) → HasRoomFor shape.now (line_of (λ _. true) self.new) x.0 f stamp.0 z.0) }
+        ensures quiet { OnOk result (IsQuiet (line_of (λ _. true) self.new) stamp.0) }
+        ensures carried { AreCarried shape.now stamp.0 self.old self.new }
+        ensures kept { AreKept shape.now stamp.0 self.new }
     {
-        let copy = self.count();
+        let copy = NodeId(self.count());
         self.copy(x, stamp)?;
         self.redirect_from(shape, copy, stamp)?;
         Ok(self.cover(x, stamp))
     }
 
     // Whether a write of a field at a stamp would stamp one value too many.
-    fn is_full(&self, shape: &Shape, x: u64, field: u16, stamp: u32) -> bool
-        requires kept { AreKept shape.now stamp self.now }
-        requires there { x < length self.now }
-        requires known { ((line_of (λ _. true) self.now).ty x).0 < length shape.now }
-        ensures { IsTrue result ↔ IsFullFor shape.now (line_of (λ _. true) self.now) x field stamp }
+    fn is_full(&self, shape: &Shape, x: NodeId, field: SlotNo, stamp: Stamp) -> bool
+        requires kept { AreKept shape.now stamp.0 self.now }
+        requires there { x.0 < length self.now }
+        requires known { ((line_of (λ _. true) self.now).ty x.0).0 < length shape.now }
+        ensures { IsTrue result ↔ IsFullFor shape.now (line_of (λ _. true) self.now) x.0 field.0 stamp.0 }
     {
         let node = self.node(x);
         let limit = type_at(shape, node.ty()).limit;
@@ -70,34 +70,34 @@ impl Nodes {
     }
 
     // Redirects each pointer to a node that was copied, where the copies are the nodes from a first one on.
-    fn redirect_from(&mut self, shape: &Shape, first: u64, stamp: u32) -> Result<(), NoMemory>
-        requires kept { AreKept shape.now stamp self.old }
-        requires line { (made : ℕ → Bool) × IsLine shape.now stamp (line_of made self.old) }
-        requires begun { IsRedirecting (line_of (λ _. true) self.old) stamp first 0 }
-        ensures quiet { OnOk result (IsQuiet (line_of (λ _. true) self.new) stamp) }
-        ensures carried { (made : ℕ → Bool) → IsLine shape.now stamp (line_of made self.old) → IsCarried shape.now stamp (line_of made self.old) (line_of made self.new) }
-        ensures kept { AreKept shape.now stamp self.new }
+    fn redirect_from(&mut self, shape: &Shape, first: NodeId, stamp: Stamp) -> Result<(), NoMemory>
+        requires kept { AreKept shape.now stamp.0 self.old }
+        requires line { (made : ℕ → Bool) × IsLine shape.now stamp.0 (line_of made self.old) }
+        requires begun { IsRedirecting (line_of (λ _. true) self.old) stamp.0 first.0 0 }
+        ensures quiet { OnOk result (IsQuiet (line_of (λ _. true) self.new) stamp.0) }
+        ensures carried { AreCarried shape.now stamp.0 self.old self.new }
+        ensures kept { AreKept shape.now stamp.0 self.new }
     {
         let mut copy = first;
-        while copy < self.count() {
+        while copy.0 < self.count() {
             self.redirect_to(shape, copy, stamp)?;
-            copy += 1;
+            copy = NodeId(copy.0 + 1);
         }
         Ok(())
     }
 
     // Redirects each pointer that is to hold a copy.
-    fn redirect_to(&mut self, shape: &Shape, z: u64, stamp: u32) -> Result<(), NoMemory>
-        requires kept { AreKept shape.now stamp self.old }
-        requires line { (made : ℕ → Bool) × IsLine shape.now stamp (line_of made self.old) }
-        requires there { z < length self.old }
-        requires begun { IsRedirecting (line_of (λ _. true) self.old) stamp z 0 }
-        ensures done { OnOk result (IsRedirecting (line_of (λ _. true) self.new) stamp (z + 1) 0) }
-        ensures carried { (made : ℕ → Bool) → IsLine shape.now stamp (line_of made self.old) → IsCarried shape.now stamp (line_of made self.old) (line_of made self.new) }
-        ensures kept { AreKept shape.now stamp self.new }
+    fn redirect_to(&mut self, shape: &Shape, z: NodeId, stamp: Stamp) -> Result<(), NoMemory>
+        requires kept { AreKept shape.now stamp.0 self.old }
+        requires line { (made : ℕ → Bool) × IsLine shape.now stamp.0 (line_of made self.old) }
+        requires there { z.0 < length self.old }
+        requires begun { IsRedirecting (line_of (λ _. true) self.old) stamp.0 z.0 0 }
+        ensures done { OnOk result (IsRedirecting (line_of (λ _. true) self.new) stamp.0 (z.0 + 1) 0) }
+        ensures carried { AreCarried shape.now stamp.0 self.old self.new }
+        ensures kept { AreKept shape.now stamp.0 self.new }
     {
         for slot in 0..self.node(z).inverse_slots() {
-            self.redirect_slot(shape, z, slot, stamp)?;
+            self.redirect_slot(shape, z, InverseNo(slot), stamp)?;
         }
         Ok(())
     }
@@ -106,18 +106,18 @@ impl Nodes {
     fn redirect_slot(
         &mut self,
         shape: &Shape,
-        z: u64,
-        slot: usize,
-        stamp: u32,
+        z: NodeId,
+        slot: InverseNo,
+        stamp: Stamp,
     ) -> Result<(), NoMemory>
-        requires kept { AreKept shape.now stamp self.old }
-        requires line { (made : ℕ → Bool) × IsLine shape.now stamp (line_of made self.old) }
-        requires there { z < length self.old }
-        requires slot { slot < length (node_at self.old z).inverse }
-        requires begun { IsRedirecting (line_of (λ _. true) self.old) stamp z slot }
-        ensures done { OnOk result (IsRedirecting (line_of (λ _. true) self.new) stamp z (slot + 1)) }
-        ensures carried { (made : ℕ → Bool) → IsLine shape.now stamp (line_of made self.old) → IsCarried shape.now stamp (line_of made self.old) (line_of made self.new) }
-        ensures kept { AreKept shape.now stamp self.new }
+        requires kept { AreKept shape.now stamp.0 self.old }
+        requires line { (made : ℕ → Bool) × IsLine shape.now stamp.0 (line_of made self.old) }
+        requires there { z.0 < length self.old }
+        requires slot { slot.0 < length (node_at self.old z.0).inverse }
+        requires begun { IsRedirecting (line_of (λ _. true) self.old) stamp.0 z.0 slot.0 }
+        ensures done { OnOk result (IsRedirecting (line_of (λ _. true) self.new) stamp.0 z.0 (slot.0 + 1)) }
+        ensures carried { AreCarried shape.now stamp.0 self.old self.new }
+        ensures kept { AreKept shape.now stamp.0 self.new }
     {
         match self.node(z).entry(slot) {
             Some(entry) => self.redirect(shape, entry, z, stamp),
@@ -126,14 +126,20 @@ impl Nodes {
     }
 
     // Lets a pointer hold the copy z: it is replaced or stamped, or its node is copied, and the copy holds z.
-    fn redirect(&mut self, shape: &Shape, entry: Entry, z: u64, stamp: u32) -> Result<(), NoMemory>
-        requires kept { AreKept shape.now stamp self.old }
-        requires line { (made : ℕ → Bool) × IsLine shape.now stamp (line_of made self.old) }
-        requires there { z < length self.old }
-        requires entered { (s : ℕ) × IsRedirecting (line_of (λ _. true) self.old) stamp z s × ((line_of (λ _. true) self.old).entry z s ≡ Some (entry.node, entry.slot)) }
-        ensures done { OnOk result (Settles (line_of (λ _. true) self.old) (line_of (λ _. true) self.new) stamp z entry.node entry.slot) }
-        ensures carried { (made : ℕ → Bool) → IsLine shape.now stamp (line_of made self.old) → IsCarried shape.now stamp (line_of made self.old) (line_of made self.new) }
-        ensures kept { AreKept shape.now stamp self.new }
+    fn redirect(
+        &mut self,
+        shape: &Shape,
+        entry: Entry,
+        z: NodeId,
+        stamp: Stamp,
+    ) -> Result<(), NoMemory>
+        requires kept { AreKept shape.now stamp.0 self.old }
+        requires line { (made : ℕ → Bool) × IsLine shape.now stamp.0 (line_of made self.old) }
+        requires there { z.0 < length self.old }
+        requires entered { HasComeTo (line_of (λ _. true) self.old) stamp.0 z.0 entry.node.0 entry.slot.0 }
+        ensures done { OnOk result (Settles (line_of (λ _. true) self.old) (line_of (λ _. true) self.new) stamp.0 z.0 entry.node.0 entry.slot.0) }
+        ensures carried { AreCarried shape.now stamp.0 self.old self.new }
+        ensures kept { AreKept shape.now stamp.0 self.new }
     {
         if is_target(self.read(entry.node, entry.slot, stamp), z) {
             return Ok(());
@@ -147,8 +153,8 @@ impl Nodes {
 }
 
 // Whether a content is a pointer to a node.
-fn is_target(content: Content, z: u64) -> bool
-    ensures { IsTrue result ↔ (content ≡ Target z) }
+fn is_target(content: Content, z: NodeId) -> bool
+    ensures { IsTrue result ↔ (content ≡ Target z.0) }
 {
     match content {
         Content::Target(y) => y == z,

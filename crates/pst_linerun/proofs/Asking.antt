@@ -25,8 +25,8 @@ use Rattle.pst_linerun.proofs.Refusing.{query-accepted}
 
 -- ---- the place of a version
 
-pub some-place : (k n : ℕ) (o : Option LinePlace) → k < n → o ≡ (if nat_lt k n then Some (record { stamp = k }) else None) → o ≡ Some (record { stamp = k })
-some-place k n o less is = is ∙ ap (λ (b : Bool). if b then Some (record { stamp = k }) else None) (below k n less)
+pub some-place : (k n : ℕ) (o : Option LinePlace) → k < n → o ≡ (if nat_lt k n then Some (record { stamp = record { 0 = k } }) else None) → o ≡ Some (record { stamp = record { 0 = k } })
+some-place k n o less is = is ∙ ap (λ (b : Bool). if b then Some (record { stamp = record { 0 = k } }) else None) (below k n less)
   where
     below : (k n : ℕ) → k < n → nat_lt k n ≡ true
     below k n less = grind (arith, nat_tests)
@@ -40,7 +40,7 @@ single kinds c fits (suc i) d e = absurd (cc)
 module _ (m : Meaning) (law : IsLawful m) (budget : ℕ) (run : RunNo) (s : State LinePlace NodeId) (stored : Stored) (h : History) (stand : LineStands m budget run.0 s stored h) (means : Means s stored) (chain : IsChain s) (sound : IsSound s)
     (call : Call) (accepted : line_refusal m h (command.Query call) ≡ None) where
   abbrev at : LinePlace
-  at = record { stamp = call.version.0 }
+  at = record { stamp = record { 0 = call.version.0 } }
 
   is-accepted : IsAccepted h (m.query call.procedure) call
   is-accepted = accepting.query-accepted m h call (query-accepted m h call accepted)
@@ -80,7 +80,7 @@ module _ (m : Meaning) (law : IsLawful m) (budget next : ℕ) (s : State LinePla
   still-closed : (o : Option ℕ) → stored_t.opened ≡ o → o ≡ None
   still-closed None e = refl
   still-closed (Some b) e =
-      let place : LinePlace = record { stamp = stamp stored_t } in
+      let place : LinePlace = record { stamp = record { 0 = stamp stored_t } } in
       let there : t.has place = (means_t.has place).1 (inr (record { begun = b; opened = e; newest = refl })) in
       let below = place-below m law budget next s stored h stand means chain place (same.keeps.back place there) in
       let many = many-rows t stored_t means_t in

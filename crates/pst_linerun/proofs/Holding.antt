@@ -36,28 +36,28 @@ none-older heap next n (Some r) older same e = absurd (let below = older n r e i
 
 -- ---- places while no run is open
 
-closed-places : (stored : Stored) → stored.opened ≡ None → (p : LinePlace) → IsPlace stored p → p.stamp < stamp stored
+closed-places : (stored : Stored) → stored.opened ≡ None → (p : LinePlace) → IsPlace stored p → p.stamp.0 < stamp stored
 closed-places stored none p (inl below) = below
 closed-places stored none p (inr run) = absurd (let is = run.opened in cc (none, is))
 
 module _ (m : Meaning) (law : IsLawful m) (budget next : ℕ) (s : State LinePlace NodeId) (stored : Stored) (h : History) (stand : LineStands m budget next s stored h) (means : Means s stored) (chain : IsChain s) where
   -- each place is a version's
-  pub place-below : (p : LinePlace) → s.has p → p.stamp < length s.versions
+  pub place-below : (p : LinePlace) → s.has p → p.stamp.0 < length s.versions
   place-below p has =
       let below = closed-places stored stand.none p ((means.has p).0 has) in
       let many = many-rows s stored means in
       omega arith
 
-  pub version-there : (k : ℕ) → k < version_count h → (row : VersionRow LinePlace) × (slice_get s.versions k ≡ Some row) × (row.place ≡ record { stamp = k })
+  pub version-there : (k : ℕ) → k < version_count h → (row : VersionRow LinePlace) × (slice_get s.versions k ≡ Some row) × (row.place ≡ record { stamp = record { 0 = k } })
   version-there k below =
       let many = stand.versions.many in
       let w = present s.versions k (omega arith) in
       (w.0, w.1, chain.place k w.0 w.1)
 
-  pub version-has : (k : ℕ) → k < version_count h → s.has (record { stamp = k })
+  pub version-has : (k : ℕ) → k < version_count h → s.has (record { stamp = record { 0 = k } })
   version-has k below = let w = version-there k below in subst s.has w.2 (stand.versions.versions k w.0 w.1).has
 
-  pub version-heap : (k : ℕ) → k < version_count h → s.heap (record { stamp = k }) ≡ heap_of m h k
+  pub version-heap : (k : ℕ) → k < version_count h → s.heap (record { stamp = record { 0 = k } }) ≡ heap_of m h k
   version-heap k below = let w = version-there k below in ap s.heap (sym w.2) ∙ (stand.versions.versions k w.0 w.1).heap
 
   -- and all records are of runs before the next one
@@ -65,12 +65,12 @@ module _ (m : Meaning) (law : IsLawful m) (budget next : ℕ) (s : State LinePla
   place-older p has =
       let many = stand.versions.many in
       let below = place-below p has in
-      let there : p.stamp < version_count h = omega arith in
-      let before = next-before m law h stand.sound p.stamp there in
+      let there : p.stamp.0 < version_count h = omega arith in
+      let before = next-before m law h stand.sound p.stamp.0 there in
       let same : next_run h ≡ next = sym stand.same_next in
-      subst (λ k. IsOlder (s.heap p) k) same (subst (λ y. IsOlder y (next_run h)) (sym (version-heap p.stamp there)) before.older)
+      subst (λ k. IsOlder (s.heap p) k) same (subst (λ y. IsOlder y (next_run h)) (sym (version-heap p.stamp.0 there)) before.older)
 
-  pub version-before : (k : ℕ) → k < version_count h → IsBefore m (s.heap (record { stamp = k })) next
+  pub version-before : (k : ℕ) → k < version_count h → IsBefore m (s.heap (record { stamp = record { 0 = k } })) next
   version-before k there =
       let before = next-before m law h stand.sound k there in
       let same : next_run h ≡ next = sym stand.same_next in

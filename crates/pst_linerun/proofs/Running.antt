@@ -57,11 +57,11 @@ module _ (m : Meaning) (law : IsLawful m) (budget : ℕ) (run : RunNo) (s : Stat
   run-has = sound1.written at began.writable
 
   -- the run's place has the heap of its version
-  at-heap : s1.heap at ≡ s.heap (record { stamp = call.version.0 })
+  at-heap : s1.heap at ≡ s.heap (record { stamp = record { 0 = call.version.0 } })
   at-heap =
       let newest = newest-is h call.version (run-newest m h call accepted) in
       let many = stand.versions.many in
-      began.newest (record { stamp = call.version.0 }) (omega (arith, newest, many))
+      began.newest (record { stamp = record { 0 = call.version.0 } }) (omega (arith, newest, many))
 
   run-heap : s1.heap at ≡ heap_of m h call.version.0
   run-heap = at-heap ∙ version-heap m law budget run.0 s stored h stand means chain call.version.0 below
@@ -71,7 +71,7 @@ module _ (m : Meaning) (law : IsLawful m) (budget : ℕ) (run : RunNo) (s : Stat
       let free = name-free m law budget run.0 s stored h stand means chain n (ap (λ (r : RunNo). r.0) same) in
       record {
         fresh = λ p has. elim (began.only p has) as (λ _. get (s1.heap p) n ≡ None) [
-          | inl e ↦ ap (λ (q : LinePlace). get (s1.heap q) n) e ∙ ap (λ y. get y n) at-heap ∙ free.fresh (record { stamp = call.version.0 }) (version-has m law budget run.0 s stored h stand means chain call.version.0 below)
+          | inl e ↦ ap (λ (q : LinePlace). get (s1.heap q) n) e ∙ ap (λ y. get y n) at-heap ∙ free.fresh (record { stamp = record { 0 = call.version.0 } }) (version-has m law budget run.0 s stored h stand means chain call.version.0 below)
           | inr was ↦ ap (λ y. get y n) (began.heaps p was) ∙ free.fresh p was
         ];
       }
@@ -138,7 +138,7 @@ module _ (m : Meaning) (law : IsLawful m) (budget : ℕ) (run : RunNo) (s : Stat
       run-open = writes.kept at began.writable
 
       -- the open run's place is behind those of the versions
-      at-is : at.stamp ≡ length t.versions
+      at-is : at.stamp.0 ≡ length t.versions
       at-is = ((means_t.writable at).0 run-open).run.newest ∙ sym (many-rows t stored_t means_t)
 
       t-has : t.has at
@@ -174,8 +174,8 @@ module _ (m : Meaning) (law : IsLawful m) (budget : ℕ) (run : RunNo) (s : Stat
         undone-stays d =
             let there : (k : ℕ) (row : VersionRow LinePlace) → slice_get t.versions k ≡ Some row → u.has row.place = λ k row q.
             let was : slice_get s.versions k ≡ Some row = ap (λ rows. slice_get rows k) (sym same-rows) ∙ q in
-            let place : row.place ≡ record { stamp = k } = chain.place k row was in
-            d.has row.place (let less = slice_get_within t.versions k row q in let is : row.place.stamp ≡ k = ap (λ (p : LinePlace). p.stamp) place in omega arith) in
+            let place : row.place ≡ record { stamp = record { 0 = k } } = chain.place k row was in
+            d.has row.place (let less = slice_get_within t.versions k row q in let is : row.place.stamp.0 ≡ k = ap (λ (p : LinePlace). p.stamp.0) place in omega arith) in
             record { rows = d.versions; has = there; heaps = λ k row q. d.heaps row.place (there k row q) }
 
         undone-stands : Undone t u → LineStands m budget (run.0 + 1) u stored_u closed_h
@@ -197,7 +197,7 @@ module _ (m : Meaning) (law : IsLawful m) (budget : ℕ) (run : RunNo) (s : Stat
         new_descent = record { run = record { 0 = next_run h }; parent = call.version }
 
         abbrev new_row : VersionRow LinePlace
-        new_row = record { parent = record { 0 = length t.versions - 1 }; run = run; place = record { stamp = length t.versions } }
+        new_row = record { parent = record { 0 = length t.versions - 1 }; run = run; place = record { stamp = record { 0 = length t.versions } } }
 
         -- the new version's row is the history's
         new_same : SameRow new_descent new_row
@@ -215,7 +215,7 @@ module _ (m : Meaning) (law : IsLawful m) (budget : ℕ) (run : RunNo) (s : Stat
             let len : length u.versions ≡ length (t.versions ++ new_row ∷ []) = ap (λ rows. length rows) d.versions in
             let base = stand.sound.start.same in
             let old_row : (k : ℕ) (y : VersionRow LinePlace) → slice_get u.versions k ≡ Some y → (slice_get t.versions k ≡ Some y) ⊎ ((k ≡ length t.versions) × (y ≡ new_row)) = λ k y q. slice_get-of_append t.versions new_row y k (ap (λ rows. slice_get rows k) (sym d.versions) ∙ q) in
-            let at_new : at ≡ record { stamp = length t.versions } = ap (λ (k : ℕ). record { stamp = k }) at-is in
+            let at_new : at ≡ record { stamp = record { 0 = length t.versions } } = ap (λ (k : ℕ). record { stamp = record { 0 = k } }) at-is in
             record {
               sound = sound;
               same_budget = stand.same_budget;
@@ -293,6 +293,6 @@ module _ (m : Meaning) (law : IsLawful m) (budget : ℕ) (run : RunNo) (s : Stat
           omega arith
         where
           new_row_of : VersionRow LinePlace
-          new_row_of = record { parent = record { 0 = length t.versions - 1 }; run = run; place = record { stamp = length t.versions } }
+          new_row_of = record { parent = record { 0 = length t.versions - 1 }; run = run; place = record { stamp = record { 0 = length t.versions } } }
       settled-some (Trapped trap) r u w = some-left u w.0
       settled-some Stopped r u w = some-left u w.0

@@ -6,4 +6,4 @@ use Rattle.pst_line.proofs.Back.{left}
 use Rattle.pst_line.proofs.undo_run.take_back.Given as goal
 
 abbrev pub invariant-loop-number : goal.invariant-loop-number
-invariant-loop-number g l = (h : Held) (rest : List Undo) → IsGoing h (g.N.LineNodes.seen l.fn.nodes) l.stamp (left l.step 0 l.entries rest) → IsGoing h (g.N.LineNodes.seen l.nodes) l.stamp (left l.step l.number l.entries rest)
+invariant-loop-number g l = (h : Held) (rest : List Undo) → IsGoing h (g.N.LineNodes.seen l.fn.nodes) l.stamp.0 (left l.step 0 l.entries rest) → IsGoing h (g.N.LineNodes.seen l.nodes) l.stamp.0 (left l.step l.number l.entries rest)

@@ -11,13 +11,13 @@ use Rattle.pst_linerun.proofs.lines.ask.Goals.{After-carry_out, After-unwrap-at}
 use Rattle.pst_linerun.proofs.lines.ask.Goals as goal
 
 -- the place is that of the version
-place-is : (g : Over) (c : After-unwrap-at g) → c.unwrap-at.result ≡ record { stamp = c.args.call.now.version.0 }
+place-is : (g : Over) (c : After-unwrap-at g) → c.unwrap-at.result ≡ record { stamp = record { 0 = c.args.call.now.version.0 } }
 place-is g c =
     let m = g.C.Meant.meaning c.args.code.now in
     let s = g.S.HeapAt.state c.args.store.now in
     let stored = g.S.LineCalls.stored c.args.store.now in
     let below = ask-below m c.known.ensures.lawful c.args.budget c.args.number s stored c.requires.history c.requires.stands c.known_line.ensures.means c.known_line.ensures.chain c.known-2.ensures c.args.call.now c.requires.accepted in
-    same_Some c.unwrap-at.result (record { stamp = c.args.call.now.version.0 }) (sym c.unwrap-at.ensures ∙ some-place c.args.call.now.version.0 (length s.versions) c.at.result below c.at.ensures.number)
+    same_Some c.unwrap-at.result (record { stamp = record { 0 = c.args.call.now.version.0 } }) (sym c.unwrap-at.ensures ∙ some-place c.args.call.now.version.0 (length s.versions) c.at.result below c.at.ensures.number)
 
 pub carry_out-requires : goal.carry_out-requires
 carry_out-requires g c =
@@ -42,7 +42,7 @@ returns-clause-ok g c = λ h stand accepted.
     let closed : ¬ (s.writable c.unwrap-at.result) = λ w. ask-closed m law c.args.budget c.args.number s stored h stand means chain c.known-2.ensures c.args.call.now accepted (subst s.writable is w) in
     let same = c.carry_out.ensures.reads closed in
     let means_t = c.known_line-2.ensures.means in
-    let came : CameTo m s (record { stamp = c.args.call.now.version.0 }) (one_call c.args.number c.args.budget (call_of c.args.call.now)) c.in_ok-printed.printed c.in_ok-printed.end t =
+    let came : CameTo m s (record { stamp = record { 0 = c.args.call.now.version.0 } }) (one_call c.args.number c.args.budget (call_of c.args.call.now)) c.in_ok-printed.printed c.in_ok-printed.end t =
     let Q : LinePlace → Type 0 = λ p. CameTo m s p (one_call c.args.number c.args.budget (call_of c.args.call.now)) c.in_ok-printed.printed c.in_ok-printed.end t in subst Q is c.in_ok-printed.ensures.ok in
     let some = some-version m law c.args.budget c.args.number.0 s stored h stand means chain in
     let many = many-rows t stored_t means_t in

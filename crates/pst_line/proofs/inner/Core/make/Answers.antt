@@ -13,4 +13,4 @@ invariant_of-self-2 g c = added_held _ _ c.self.view_is c.self.invariant c.args.
 
 pub returns-clause-ok : goal.returns-clause-ok
 returns-clause-ok g c =
-    added_done _ _ c.self.view_is c.self.invariant c.args.at c.requires.writable c.args.ty c.args.name c.requires.known_type c.requires.fresh c.requires.room _ c.stamp-stamp.ensures _ c.in_ok-id.ensures.made c.make.ensures.kept c.in_ok-id.id c.in_ok-id.ensures.id
+    added_done _ _ c.self.view_is c.self.invariant c.args.at c.requires.writable c.args.ty c.args.name c.requires.known_type c.requires.fresh c.requires.room _ c.stamp-stamp.ensures _ c.in_ok-id.ensures.made c.make.ensures.kept c.in_ok-id.id.0 c.in_ok-id.ensures.id

@@ -9,18 +9,18 @@ enter-requires-clause-field g c = (Int, at_stamp c.args.self.now c.args.at c.req
 
 pub set-requires-clause-slot : goal.set-requires-clause-slot
 set-requires-clause-slot g c =
-    number_slot _ _ c.args.self.now c.self.view_is c.whole.ensures c.args.at c.requires.writable c.args.r c.args.field.0 c.requires.live c.requires.room c.in_ok-x.x c.in_ok-x.ensures.ok _ c.stamp-stamp.ensures c.requires.field
+    number_slot _ _ c.args.self.now c.self.view_is c.whole.ensures c.args.at c.requires.writable c.args.r c.args.field.0 c.requires.live c.requires.room c.in_ok-x.x.0 c.in_ok-x.ensures.ok _ c.stamp-stamp.ensures c.requires.field
 
 pub returns-in_err-set-clause-err : goal.returns-in_err-set-clause-err
 returns-in_err-set-clause-err g c = on_err _ _
-    (unchanged_end _ _ c.args.self.now c.self.view_is c.whole.ensures c.args.at c.requires.writable c.args.r c.args.field.0 c.requires.live c.requires.room c.in_ok-x.x c.in_ok-x.ensures.ok _ c.stamp-stamp.ensures _ c.in_err-set.ensures.err)
+    (unchanged_end _ _ c.args.self.now c.self.view_is c.whole.ensures c.args.at c.requires.writable c.args.r c.args.field.0 c.requires.live c.requires.room c.in_ok-x.x.0 c.in_ok-x.ensures.ok _ c.stamp-stamp.ensures _ c.in_err-set.ensures.err)
 
 pub invariant_of-self-2 : goal.invariant_of-self-2
 invariant_of-self-2 g c =
     let fits = c.ranges.n in
-    number_end _ _ c.args.self.now c.self.view_is c.whole.ensures c.args.at c.requires.writable c.args.r c.args.field.0 c.requires.live c.requires.room c.in_ok-x.x c.in_ok-x.ensures.ok _ c.stamp-stamp.ensures _ c.in_ok-set.ensures.kept c.args.n c.requires.field (simp to_z-of_z at c.in_ok-set.ensures.ok)
+    number_end _ _ c.args.self.now c.self.view_is c.whole.ensures c.args.at c.requires.writable c.args.r c.args.field.0 c.requires.live c.requires.room c.in_ok-x.x.0 c.in_ok-x.ensures.ok _ c.stamp-stamp.ensures _ c.in_ok-set.ensures.kept c.args.n c.requires.field (simp to_z-of_z at c.in_ok-set.ensures.ok)
 
 pub returns-clause-ok : goal.returns-clause-ok
 returns-clause-ok g c =
     let fits = c.ranges.n in
-    number_ends _ _ c.args.self.now c.self.view_is c.whole.ensures c.args.at c.requires.writable c.args.r c.args.field.0 c.requires.live c.requires.room c.in_ok-x.x c.in_ok-x.ensures.ok _ c.stamp-stamp.ensures _ c.in_ok-set.ensures.kept c.args.n c.requires.field (simp to_z-of_z at c.in_ok-set.ensures.ok)
+    number_ends _ _ c.args.self.now c.self.view_is c.whole.ensures c.args.at c.requires.writable c.args.r c.args.field.0 c.requires.live c.requires.room c.in_ok-x.x.0 c.in_ok-x.ensures.ok _ c.stamp-stamp.ensures _ c.in_ok-set.ensures.kept c.args.n c.requires.field (simp to_z-of_z at c.in_ok-set.ensures.ok)

@@ -7,5 +7,5 @@ use Rattle.pst_line_nodes.proofs.nodes.Nodes.contents.Given as goal
 abbrev pub invariant-loop-slot : goal.invariant-loop-slot
 invariant-loop-slot l = record {
   count : length l.contents.items ≡ l.slot;
-  each : (g : ℕ) → g < l.slot → get_or l.contents.items g Null ≡ redirected (line_of (λ i. true) l.self) l.x l.z ((line_of (λ i. true) l.self).holds l.x g l.stamp);
+  each : (g : ℕ) → g < l.slot → get_or l.contents.items g Null ≡ redirected (line_of (λ i. true) l.self) l.x.0 l.z.0 ((line_of (λ i. true) l.self).holds l.x.0 g l.stamp.0);
 }

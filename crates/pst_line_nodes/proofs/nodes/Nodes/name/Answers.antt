@@ -4,4 +4,4 @@ use Rattle.pst_line_nodes.proofs.NodeLemmas.{of_node-at}
 use Rattle.pst_line_nodes.proofs.nodes.Nodes.name.Goals as goal
 
 pub returns : goal.returns
-returns c = c.name.ensures ∙ sym (of_node-at (λ n. n.name) root_name c.args.self.now c.args.x c.node.result.now c.node.ensures)
+returns c = c.name.ensures ∙ sym (of_node-at (λ n. n.name) root_name c.args.self.now c.args.x.0 c.node.result.now c.node.ensures)

@@ -6,10 +6,10 @@ use Rattle.pst_line_nodes.proofs.nodes.Nodes.redirect_from.Given as goal
 
 abbrev pub invariant-loop-copy : goal.invariant-loop-copy
 invariant-loop-copy l = record {
-  kept : AreKept l.shape l.stamp l.self;
-  carried : (made : ℕ → Bool) → IsLine l.shape l.stamp (line_of made l.fn.self) → IsCarried l.shape l.stamp (line_of made l.fn.self) (line_of made l.self);
-  going : IsRedirecting (line_of (λ i. true) l.self) l.stamp l.copy 0;
+  kept : AreKept l.shape l.stamp.0 l.self;
+  carried : (made : ℕ → Bool) → IsLine l.shape l.stamp.0 (line_of made l.fn.self) → IsCarried l.shape l.stamp.0 (line_of made l.fn.self) (line_of made l.self);
+  going : IsRedirecting (line_of (λ i. true) l.self) l.stamp.0 l.copy.0 0;
 }
 
 abbrev pub decreases-loop-copy : goal.decreases-loop-copy
-decreases-loop-copy l = load l.shape (line_of (λ i. true) l.self) l.stamp - l.copy
+decreases-loop-copy l = load l.shape (line_of (λ i. true) l.self) l.stamp.0 - l.copy.0
