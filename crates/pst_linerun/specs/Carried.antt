@@ -92,17 +92,21 @@ abbrev pub Carries : Meaning → (budget next : ℕ) → (s : State LinePlace No
 Carries m budget next s stored line r t stored_t budget_after next_after =
     (h : History) → LineStands m budget next s stored h → line_refusal m h line ≡ None → IsCarried m line r budget_after next_after t stored_t h
 
--- so of a run, which takes the next run number
-abbrev pub CarriesRun : Meaning → (budget number : ℕ) → (s : State LinePlace NodeId) → Stored → Call → Reply → (t : State LinePlace NodeId) → Stored → Type 0
-CarriesRun m budget number s stored call r t stored_t = Carries m budget number s stored (command.Run call) r t stored_t budget (number + 1)
+-- So of a run, which takes the next run number. Here and below state and stored say what a store holds, the store after the command
+-- is that with a dash, and the reply comes last.
+abbrev pub CarriesRun : {S : Type 0} → (S → State LinePlace NodeId) → (S → Stored) → Meaning → (budget number : ℕ) → (store : S) → Call → (store_after : S) → Reply → Type 0
+CarriesRun state stored m budget number store call store' r =
+    Carries m budget number (state store) (stored store) (command.Run call) r (state store') (stored store') budget (number + 1)
 
 -- so of a query, which does not
-abbrev pub CarriesQuery : Meaning → (budget number : ℕ) → (s : State LinePlace NodeId) → Stored → Call → Reply → (t : State LinePlace NodeId) → Stored → Type 0
-CarriesQuery m budget number s stored call r t stored_t = Carries m budget number s stored (command.Query call) r t stored_t budget number
+abbrev pub CarriesQuery : {S : Type 0} → (S → State LinePlace NodeId) → (S → Stored) → Meaning → (budget number : ℕ) → (store : S) → Call → (store_after : S) → Reply → Type 0
+CarriesQuery state stored m budget number store call store' r =
+    Carries m budget number (state store) (stored store) (command.Query call) r (state store') (stored store') budget number
 
 -- so of the session with this budget and next run number
-abbrev pub SessionCarries : Meaning → (old : LineSession) → (s : State LinePlace NodeId) → Stored → Command → Reply → (new : LineSession) → (t : State LinePlace NodeId) → Stored → Type 0
-SessionCarries m old s stored line r new t stored_t = Carries m old.budget old.next_run.0 s stored line r t stored_t new.budget new.next_run.0
+abbrev pub SessionCarries : {S : Type 0} → (S → State LinePlace NodeId) → (S → Stored) → Meaning → (old : LineSession) → (store : S) → Command → (new : LineSession) → (store_after : S) → Reply → Type 0
+SessionCarries state stored m old store line new store' r =
+    Carries m old.budget old.next_run.0 (state store) (stored store) line r (state store') (stored store') new.budget new.next_run.0
 
 -- the answer to a command is the reply, and session and store stand for the history after it, if a line can give it
 pub record IsAnswered (m : Meaning) (line : Command) (r : Reply) (new : LineSession) (t : State LinePlace NodeId) (stored : Stored) (h : History) : Type 0 where
@@ -110,8 +114,9 @@ pub record IsAnswered (m : Meaning) (line : Command) (r : Reply) (new : LineSess
   pub reply : r ≡ line_reply m h line
 
 -- so for every history for which they stood
-abbrev pub Answers : Meaning → (old : LineSession) → (s : State LinePlace NodeId) → Stored → Command → Reply → (new : LineSession) → (t : State LinePlace NodeId) → Stored → Type 0
-Answers m old s stored line r new t stored_t = (h : History) → SessionStands m old s stored h → IsAnswered m line r new t stored_t h
+abbrev pub Answers : {S : Type 0} → (S → State LinePlace NodeId) → (S → Stored) → Meaning → (old : LineSession) → (store : S) → Command → (new : LineSession) → (store_after : S) → Reply → Type 0
+Answers state stored m old store line new store' r =
+    (h : History) → SessionStands m old (state store) (stored store) h → IsAnswered m line r new (state store') (stored store') h
 
 -- after want of memory the store's versions are those of every history for which they stood
 abbrev pub Wants : Meaning → (old : LineSession) → (s : State LinePlace NodeId) → Stored → (t : State LinePlace NodeId) → Type 0

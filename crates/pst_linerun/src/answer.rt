@@ -32,8 +32,8 @@ pub(crate) fn answer<S: LineCalls, C: Meant>(
     session: &mut LineSession,
     command: &Command,
 ) -> Result<Reply, NoMemory>
-    requires { MayCarry (C.meaning code.now) session.old.budget session.old.next_run.0 (S.state store.old) (S.stored store.old) command.now }
-    ensures ok { IfOk result (λ r. SessionCarries (C.meaning code.now) session.old (S.state store.old) (S.stored store.old) command.now r session.new (S.state store.new) (S.stored store.new)) }
+    requires { MayCarry (C.meant code.now).meaning session.old.budget session.old.next_run.0 (S.state store.old) (S.stored store.old) command.now }
+    ensures ok { IfOk result (SessionCarries S.state S.stored (C.meant code.now).meaning session.old store.old command.now session.new store.new) }
     ensures err { OnErr result (VersionsStay (S.state store.old) (S.state store.new)) }
     ensures same_failed { session.new.failed ≡ session.old.failed }
 {

@@ -31,8 +31,8 @@ pub(crate) fn carry_out<H: HeapAt, C: Meant>(
     budget: u32,
     call: &Call,
 ) -> Result<(Numbers, Ended), NoMemory>
-    requires { MayCarryOut (C.meaning code.now) (H.state heap.old) at run budget (call_of call.now) }
-    ensures ok { IfOk result (λ x. CameTo (C.meaning code.now) (H.state heap.old) at (one_call run budget (call_of call.now)) x.0 x.1 (H.state heap.new)) }
+    requires { MayCarryOut (C.meant code.now).meaning (H.state heap.old) at run budget (call_of call.now) }
+    ensures ok { IfOk result (λ x. CameTo (C.meant code.now).meaning (H.state heap.old) at (one_call run budget (call_of call.now)) x.0 x.1 (H.state heap.new)) }
     ensures kept { KeepsOthers at (H.state heap.old) (H.state heap.new) }
     ensures writes { OnOk result (WritesStay (H.state heap.old) (H.state heap.new)) }
     ensures reads { ¬ ((H.state heap.old).writable at) → Unchanged (H.state heap.old) (H.state heap.new) }

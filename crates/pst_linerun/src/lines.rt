@@ -54,8 +54,8 @@ pub(crate) fn run<S: LineCalls, C: Meant>(
     number: RunNo,
     call: &Call,
 ) -> Result<Reply, NoMemory>
-    requires { MayCarry (C.meaning code.now) budget number.0 (S.state store.old) (S.stored store.old) (command.Run call.now) }
-    ensures ok { IfOk result (λ r. CarriesRun (C.meaning code.now) budget number.0 (S.state store.old) (S.stored store.old) call.now r (S.state store.new) (S.stored store.new)) }
+    requires { MayCarry (C.meant code.now).meaning budget number.0 (S.state store.old) (S.stored store.old) (command.Run call.now) }
+    ensures ok { IfOk result (CarriesRun S.state S.stored (C.meant code.now).meaning budget number.0 store.old call.now store.new) }
     ensures err { OnErr result (VersionsStay (S.state store.old) (S.state store.new)) }
 {
     known::<S, C>(code);
@@ -88,8 +88,8 @@ pub(crate) fn ask<S: LineCalls, C: Meant>(
     number: RunNo,
     call: &Call,
 ) -> Result<Reply, NoMemory>
-    requires { MayCarry (C.meaning code.now) budget number.0 (S.state store.old) (S.stored store.old) (command.Query call.now) }
-    ensures ok { IfOk result (λ r. CarriesQuery (C.meaning code.now) budget number.0 (S.state store.old) (S.stored store.old) call.now r (S.state store.new) (S.stored store.new)) }
+    requires { MayCarry (C.meant code.now).meaning budget number.0 (S.state store.old) (S.stored store.old) (command.Query call.now) }
+    ensures ok { IfOk result (CarriesQuery S.state S.stored (C.meant code.now).meaning budget number.0 store.old call.now store.new) }
     ensures err { OnErr result (VersionsStay (S.state store.old) (S.state store.new)) }
 {
     known::<S, C>(code);

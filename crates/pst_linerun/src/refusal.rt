@@ -48,7 +48,7 @@ pub(crate) fn refused<S: LineCalls, C: Meant>(
     next_run: RunNo,
     command: &Command,
 ) -> Option<Refusal>
-    ensures { result ≡ line_refusal_by (C.meaning code.now) (S.state store.now) next_run.0 command.now }
+    ensures { result ≡ line_refusal_by (C.meant code.now).meaning (S.state store.now) next_run.0 command.now }
 {
     match command {
         Command::Run(call) => first_of(

@@ -50,14 +50,14 @@ impl LineSession {
         store: &mut S,
         command: &Command,
     ) -> Result<Reply, NoMemory>
-        requires { self.old.failed ≡ false → MayApply (C.meaning code.now) self.old (S.state store.old) (S.stored store.old) }
+        requires { self.old.failed ≡ false → MayApply (C.meant code.now).meaning self.old (S.state store.old) (S.stored store.old) }
         ensures ok { IfOk result (λ r. (self.old.failed ≡ false) × (self.new.failed ≡ false)) }
-        ensures answers { IfOk result (λ r. Answers (C.meaning code.now) self.old (S.state store.old) (S.stored store.old) command.now r self.new (S.state store.new) (S.stored store.new)) }
+        ensures answers { IfOk result (Answers S.state S.stored (C.meant code.now).meaning self.old store.old command.now self.new store.new) }
         ensures refused { IfOk result (λ r. (why : Refusal) → r ≡ answer.Refused why → (self.new ≡ self.old) × (store.new ≡ store.old)) }
-        ensures may { IfOk result (λ r. in_range command.now ≡ true → MayApply (C.meaning code.now) self.new (S.state store.new) (S.stored store.new)) }
+        ensures may { IfOk result (λ r. in_range command.now ≡ true → MayApply (C.meant code.now).meaning self.new (S.state store.new) (S.stored store.new)) }
         ensures err { OnErr result (self.new.failed ≡ true) }
         ensures rows { OnErr result ((S.state store.new).versions ≡ (S.state store.old).versions) }
-        ensures holds { OnErr result (Wants (C.meaning code.now) self.old (S.state store.old) (S.stored store.old) (S.state store.new)) }
+        ensures holds { OnErr result (Wants (C.meant code.now).meaning self.old (S.state store.old) (S.stored store.old) (S.state store.new)) }
         ensures failed { self.old.failed ≡ true → IsErr result × (self.new ≡ self.old) × (store.new ≡ store.old) }
     {
         if self.failed {

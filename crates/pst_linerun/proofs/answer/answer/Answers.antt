@@ -17,7 +17,7 @@ returns-in_err-parents-in-Versions-clause-err g c = on-err c.from_residual-in_er
 
 pub returns-in-Budget-clause-ok : goal.returns-in-Budget-clause-ok
 returns-in-Budget-clause-ok g c =
-    let m = g.C.Meant.meaning c.args.code.now in
+    let m = (g.C.Meant.meant c.args.code.now).meaning in
     let s = g.S.HeapAt.state c.args.store.now in
     let stored = g.S.LineCalls.stored c.args.store.now in
     let session = c.args.session.now in
@@ -30,7 +30,7 @@ returns-in-Budget-clause-ok g c =
 
 pub returns-in_ok-parents-in-Versions-clause-ok : goal.returns-in_ok-parents-in-Versions-clause-ok
 returns-in_ok-parents-in-Versions-clause-ok g c =
-    let m = g.C.Meant.meaning c.args.code.now in
+    let m = (g.C.Meant.meant c.args.code.now).meaning in
     let s = g.S.HeapAt.state c.args.store.now in
     let stored = g.S.LineCalls.stored c.args.store.now in
     let session = c.args.session.now in

@@ -9,11 +9,11 @@ use Rattle.pst_linerun.proofs.carrying.carry_out.Goals as goal
 
 -- the call can be added to the run without a call
 added : (g : Over) (c : In_ok-activation g)
-    → MayAdd (g.C.Meant.meaning c.args.code.now) (runs_of (λ a. a.stage) (g.C.Meant.parts c.args.code.now)) (g.H.HeapAt.state c.args.heap.now) c.in_ok-activation.activation (record { run = c.args.run; calls = []; budget = c.args.budget }) 0
+    → MayAdd (g.C.Meant.meant c.args.code.now).meaning (runs_of (λ a. a.stage) (g.C.Meant.meant c.args.code.now).parts) (g.H.HeapAt.state c.args.heap.now) c.in_ok-activation.activation (record { run = c.args.run; calls = []; budget = c.args.budget }) 0
     ((g.H.HeapAt.state c.args.heap.now).heap c.args.at) no_counts (call_of c.args.call.now)
 added g c =
-    let m = g.C.Meant.meaning c.args.code.now in
-    let x = runs_of (λ a. a.stage) (g.C.Meant.parts c.args.code.now) in
+    let m = (g.C.Meant.meant c.args.code.now).meaning in
+    let x = runs_of (λ a. a.stage) (g.C.Meant.meant c.args.code.now).parts in
     may-add m x (g.H.HeapAt.state c.args.heap.now) c.args.at c.args.run c.args.budget (call_of c.args.call.now) c.requires c.in_ok-activation.activation c.in_ok-activation.ensures.place (c.in_ok-activation.ensures.stands c.args.heap.now c.requires.free)
 
 pub add-requires : goal.add-requires
@@ -21,15 +21,15 @@ add-requires g c = (c.args.heap.now, (_, _, _, _, added g (goal.at.add-requires 
 
 pub advance-requires-clause-ready : goal.advance-requires-clause-ready
 advance-requires-clause-ready g c =
-    let m = g.C.Meant.meaning c.args.code.now in
-    let x = runs_of (λ a. a.stage) (g.C.Meant.parts c.args.code.now) in
+    let m = (g.C.Meant.meant c.args.code.now).meaning in
+    let x = runs_of (λ a. a.stage) (g.C.Meant.meant c.args.code.now).parts in
     let waits = c.in_ok-add.ensures.waits c.args.heap.now _ _ _ _ (added g (goal.at.advance-requires-clause-ready g c).In_ok-activation) in
     (_, _, _, _, waiting m x (g.H.HeapAt.state c.args.heap.now) c.args.at c.args.run c.args.budget (call_of c.args.call.now) c.requires c.add.new.activation waits)
 
 pub returns-clause-ok : goal.returns-clause-ok
 returns-clause-ok g c =
-    let m = g.C.Meant.meaning c.args.code.now in
-    let x = runs_of (λ a. a.stage) (g.C.Meant.parts c.args.code.now) in
+    let m = (g.C.Meant.meant c.args.code.now).meaning in
+    let x = runs_of (λ a. a.stage) (g.C.Meant.meant c.args.code.now).parts in
     let s = g.H.HeapAt.state c.args.heap.now in
     let t = g.H.HeapAt.state c.advance.new.heap in
     let call = call_of c.args.call.now in

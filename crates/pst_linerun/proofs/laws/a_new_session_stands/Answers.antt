@@ -7,7 +7,7 @@ use Rattle.pst_linerun.proofs.laws.a_new_session_stands.Goals as goal
 
 pub returns : goal.returns
 returns g c =
-    let m = g.C.Meant.meaning c.args.code.now in
+    let m = (g.C.Meant.meant c.args.code.now).meaning in
     let s = g.S.HeapAt.state c.args.store.now in
     let stored = g.S.LineCalls.stored c.args.store.now in
     let stands = started-stands m c.code.ensures.lawful s stored c.known_line.ensures.means c.known_line.ensures.chain c.requires.store in

@@ -13,7 +13,7 @@ use Rattle.pst_linerun.proofs.lines.ask.Goals as goal
 -- the place is that of the version
 place-is : (g : Over) (c : After-unwrap-at g) → c.unwrap-at.result ≡ record { stamp = record { 0 = c.args.call.now.version.0 } }
 place-is g c =
-    let m = g.C.Meant.meaning c.args.code.now in
+    let m = (g.C.Meant.meant c.args.code.now).meaning in
     let s = g.S.HeapAt.state c.args.store.now in
     let stored = g.S.LineCalls.stored c.args.store.now in
     let below = ask-below m c.known.ensures.lawful c.args.budget c.args.number s stored c.requires.history c.requires.stands c.known_line.ensures.means c.known_line.ensures.chain c.known-2.ensures c.args.call.now c.requires.accepted in
@@ -21,7 +21,7 @@ place-is g c =
 
 pub carry_out-requires : goal.carry_out-requires
 carry_out-requires g c =
-    let m = g.C.Meant.meaning c.args.code.now in
+    let m = (g.C.Meant.meant c.args.code.now).meaning in
     let s = g.S.HeapAt.state c.args.store.now in
     let stored = g.S.LineCalls.stored c.args.store.now in
     let may = ask-may m c.known.ensures.lawful c.args.budget c.args.number s stored c.requires.history c.requires.stands c.known_line.ensures.means c.known_line.ensures.chain c.known-2.ensures c.args.call.now c.requires.accepted in
@@ -30,7 +30,7 @@ carry_out-requires g c =
 
 pub returns-clause-ok : goal.returns-clause-ok
 returns-clause-ok g c = λ h stand accepted.
-    let m = g.C.Meant.meaning c.args.code.now in
+    let m = (g.C.Meant.meant c.args.code.now).meaning in
     let s = g.S.HeapAt.state c.args.store.now in
     let t = g.S.HeapAt.state c.carry_out.new.heap in
     let stored = g.S.LineCalls.stored c.args.store.now in

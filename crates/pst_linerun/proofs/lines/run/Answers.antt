@@ -6,20 +6,20 @@ use Rattle.pst_linerun.proofs.lines.run.Goals as goal
 
 pub carry_out-requires : goal.carry_out-requires
 carry_out-requires g c =
-    let m = g.C.Meant.meaning c.args.code.now in
+    let m = (g.C.Meant.meant c.args.code.now).meaning in
     let s = g.S.HeapAt.state c.args.store.now in
     run-may m c.known.ensures.lawful c.args.budget c.args.number s (g.S.LineCalls.stored c.args.store.now) c.requires.history c.requires.stands c.known_line.ensures.means c.known_line.ensures.chain c.args.call.now c.requires.accepted (g.S.HeapAt.state c.begin-at.new.self) c.begin-at.result c.begin-at.ensures c.known-2.ensures
 
 pub returns-in_err-reply-clause-err : goal.returns-in_err-reply-clause-err
 returns-in_err-reply-clause-err g c =
-    let m = g.C.Meant.meaning c.args.code.now in
+    let m = (g.C.Meant.meant c.args.code.now).meaning in
     let s = g.S.HeapAt.state c.args.store.now in
     on-err c.from_residual-in_err-reply.result (unchanged-after m c.known.ensures.lawful c.args.budget c.args.number s (g.S.LineCalls.stored c.args.store.now) c.requires.history c.requires.stands c.known_line.ensures.means c.known_line.ensures.chain c.args.call.now c.requires.accepted
     (g.S.HeapAt.state c.begin-at.new.self) c.begin-at.result c.begin-at.ensures c.known-2.ensures (g.S.HeapAt.state c.carry_out.new.heap) c.carry_out.ensures.kept (g.S.HeapAt.state c.settle.new.store) c.in_err-reply.ensures.err)
 
 pub returns-clause-ok : goal.returns-clause-ok
 returns-clause-ok g c = λ h stand accepted.
-    let m = g.C.Meant.meaning c.args.code.now in
+    let m = (g.C.Meant.meant c.args.code.now).meaning in
     let law = c.known.ensures.lawful in
     let s = g.S.HeapAt.state c.args.store.now in
     let s1 = g.S.HeapAt.state c.begin-at.new.self in
