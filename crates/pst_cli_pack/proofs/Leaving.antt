@@ -9,7 +9,7 @@ use Rattle.pst_code.specs.declared.procedure.Parts.{Parts}
 use Rattle.pst_program.specs.Sound.{CountsWithin}
 use Rattle.pst_history.specs.Meaning.{Meaning}
 use Rattle.pst_history.specs.History.{History, counts_of, next_run}
-use Rattle.pst_engine_runs.specs.Stands.{machine_runs}
+use Rattle.pst_engine_runs.specs.Runs.{machine_runs}
 use Rattle.pst_engine.specs.declared.engine.Engine.{Engine}
 use Rattle.pst_engine.specs.Stands.{EngineStands}
 use Rattle.pst_store_meaning.specs.declared.place.Place.{Place}
@@ -30,16 +30,16 @@ use Rattle.pst_cli_pack.specs.Packing.{IsImage}
 
 module _ {H : Type 0} (m : Meaning) (parts : Parts) (engine : Engine H NodeId Place) (h : History) where
   -- an empty store holds no version
-  empty_stands : EngineStands m parts engine (state_in None) h → ⊥
+  empty_stands : EngineStands (record { meaning = m; parts = parts }) engine (state_in None) h → ⊥
   empty_stands e = let many = e.versions.many in let base = e.sound.start.same in omega (arith, many, base)
 
-  pub leaves : (o : Option Stored) (next : RunNo) → next ≡ engine.next_run → IfSome o IsStore → EngineStands m parts engine (state_in o) h → CountsWithin (state_in o).counts (2 ^ 50) → IsSomeAnd o (λ s. IsLeftStore s next.0)
+  pub leaves : (o : Option Stored) (next : RunNo) → next ≡ engine.next_run → IfSome o IsStore → EngineStands (record { meaning = m; parts = parts }) engine (state_in o) h → CountsWithin (state_in o).counts (2 ^ 50) → IsSomeAnd o (λ s. IsLeftStore s next.0)
   leaves None next same k e few = absurd (empty_stands e)
   leaves (Some s) next same k e few =
       let counted : CountsWithin (counts_of m h) (2 ^ 50) = let Q : Counts → Type 0 = λ c. CountsWithin c (2 ^ 50) in subst Q e.counts few in
       subst (λ (n : RunNo). IsLeftStore s n.0) (sym same) (left_rules_law H m (machine_runs parts) engine.active.items.items engine.budget engine.next_run.0 s h k e counted)
 
-  pub numbers : (o : Option Stored) (next : RunNo) (budget : ℕ) → next ≡ engine.next_run → budget ≡ engine.budget → EngineStands m parts engine (state_in o) h → AreNumbers next.0 budget
+  pub numbers : (o : Option Stored) (next : RunNo) (budget : ℕ) → next ≡ engine.next_run → budget ≡ engine.budget → EngineStands (record { meaning = m; parts = parts }) engine (state_in o) h → AreNumbers next.0 budget
   numbers o next budget n b e =
       let same_next : next.0 ≡ next_run h = ap (λ (r : RunNo). r.0) n ∙ e.same_next in
       let same_budget : budget ≡ h.budget = b ∙ e.same_budget in
@@ -50,7 +50,7 @@ module _ {H : Type 0} (m : Meaning) (parts : Parts) (engine : Engine H NodeId Pl
         budget_high = (let high = e.sound.budget.1 in omega (arith, same_budget, high));
       }
 
-  pub imaged : (o : Option Stored) (next : RunNo) (budget : ℕ) (text image : List ℕ) → next ≡ engine.next_run → budget ≡ engine.budget → EngineStands m parts engine (state_in o) h
+  pub imaged : (o : Option Stored) (next : RunNo) (budget : ℕ) (text image : List ℕ) → next ≡ engine.next_run → budget ≡ engine.budget → EngineStands (record { meaning = m; parts = parts }) engine (state_in o) h
       → IsSomeAnd o (λ s. image ≡ image_bytes (parts_of s text next.0 budget)) → IsSomeAnd o (λ s. Fits (parts_of s text next.0 budget)) → IsSomeAnd o (λ s. IsJudged s.shape (parts_of s text next.0 budget) None)
       → IsSomeAnd o (λ s. arena_in s.shape (parts_of s text next.0 budget) ≡ arena s) → IsImage o text m.shape h image
   imaged None next budget text image n c e b f j d = absurd b

@@ -34,5 +34,5 @@ pub record IsBroken (m : Meaning) (store : Option Stored) (h : History) : Type 0
 pub record IsRunning {H : Type 0} (program : Program) (engine : Engine H NodeId Place) (store : Option Stored) (m : Meaning) (h : History) : Type 0 where
   pub meaning : m ≡ meaning_of program
   pub going : engine.failed ≡ false
-  pub stands : EngineStands m (code_of (routines_of program)) engine (state_in store) h
+  pub stands : EngineStands (record { meaning = m; parts = code_of (routines_of program) }) engine (state_in store) h
   pub rested : queue_in store ≡ []

@@ -40,7 +40,7 @@ Charged left f line (Trap kind) left' f' = ⊥
 abbrev pub ReadsAs : {P R : Type 0} → State P R → (at : P) → (old : CallFrame R) → (Parts → Frame → List Caller → World → Move) → Step → (new : CallFrame R) → Type 0
 ReadsAs s at old move step new = (parts : Parts) (c : List Caller) (w : World) → s.shape ≡ parts.shape → s.heap at ≡ w.heap → move parts (frame_of parts s.name old) c w ≡ move_of step (frame_of parts s.name new) c w
 
--- so where it is what the definition does for this instruction
+-- so with the move of this instruction: the step carries it out
 abbrev pub Reads : {P R : Type 0} → State P R → (at : P) → (old : CallFrame R) → Instr → Step → (new : CallFrame R) → Type 0
 Reads s at old instr step new = ReadsAs s at old (λ parts. act parts (Some instr)) step new
 

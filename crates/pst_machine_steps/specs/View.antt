@@ -60,11 +60,11 @@ move_of (Trap kind) f c w = Over (Trapped kind f.line w)
 abbrev pub ActsAs : {R : Type 0} → (R → Name) → (old : CallFrame R) → (Parts → Frame → List Caller → World → Move) → Step → (new : CallFrame R) → Type 0
 ActsAs name old move step new = (parts : Parts) (c : List Caller) (w : World) → move parts (frame_of parts name old) c w ≡ move_of step (frame_of parts name new) c w
 
--- so where it is what the definition does for this instruction
+-- so with the move of this instruction: the step carries it out
 abbrev pub Performs : {R : Type 0} → (R → Name) → (old : CallFrame R) → Instr → Step → (new : CallFrame R) → Type 0
 Performs name old instr step new = ActsAs name old (λ parts. act parts (Some instr)) step new
 
--- so at each meaning of a frame: in every code, whatever names its references have
+-- what is so of a frame at each of its meanings: in every code, whatever names its references have
 abbrev pub AtEachMeaning : {R : Type 0} → CallFrame R → (Frame → Type 0) → Type 0
 AtEachMeaning {R} frame fact = (parts : Parts) (name : R → Name) → fact (frame_of parts name frame)
 
