@@ -11,7 +11,7 @@ use Rattle.pst_base.specs.Shape.{type_at, field_kind}
 use Rattle.pst_line_nodes.specs.declared.content.Content.{Content}
 use Rattle.pst_line_nodes.specs.declared.content.Content.TheVariants.{Number, Null, Target as TargetOf}
 use Rattle.pst_line_nodes.specs.Contents.{Target}
-use Rattle.pst_line_nodes.specs.Line.{Covers, IsNewest, IsLive, IsLine}
+use Rattle.pst_line_nodes.specs.Line.{Covers, IsNewest, IsLive}
 use Rattle.pst_line_nodes.specs.Changes.{IsSet, IsNulled, IsPointed}
 use Rattle.pst_line_nodes.specs.declared.content.InverseNo.{InverseNo}
 use Rattle.pst_line_nodes.specs.Seen.{Seen}

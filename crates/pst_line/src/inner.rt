@@ -104,8 +104,8 @@ impl<N: LineNodes> Core<N> {
     /// The number in a field of a record, at a place.
     pub(crate) fn number(&self, at: LinePlace, r: NodeId, field: SlotNo) -> i64
         requires live { (state_of (stored_of self.now)).live at r }
-        requires field { kind_in self.now.shape ((state_of (stored_of self.now)).heap at) ((state_of (stored_of self.now)).name r) field.0 ≡ Some Int }
-        ensures { result ≡ value_in ((state_of (stored_of self.now)).heap at) ((state_of (stored_of self.now)).name r) field.0 }
+        requires field { let s = state_of (stored_of self.now) in kind_in s.shape (s.heap at) (s.name r) field.0 ≡ Some Int }
+        ensures { let s = state_of (stored_of self.now) in result ≡ value_in (s.heap at) (s.name r) field.0 }
     {
         let x = self.nodes.cover(r, at.stamp);
         number_of(self.nodes.read(x, field, at.stamp))
@@ -114,7 +114,7 @@ impl<N: LineNodes> Core<N> {
     /// The record that a field holds, at a place, or None exactly where the field is null.
     pub(crate) fn pointer(&self, at: LinePlace, r: NodeId, field: SlotNo) -> Option<NodeId>
         requires live { (state_of (stored_of self.now)).live at r }
-        requires field { IsPointer (kind_in self.now.shape ((state_of (stored_of self.now)).heap at) ((state_of (stored_of self.now)).name r) field.0) }
+        requires field { let s = state_of (stored_of self.now) in IsPointer (kind_in s.shape (s.heap at) (s.name r) field.0) }
         ensures target { let s = state_of (stored_of self.now) in option_map s.name result ≡ pointer_in (s.heap at) (s.name r) field.0 }
         ensures live { IfSome result ((state_of (stored_of self.now)).live at) }
     {

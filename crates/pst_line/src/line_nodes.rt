@@ -3,11 +3,9 @@
 ghost use Rattle.std.specs.Prelude.{OnOk, OnErr, IfOk, IsOk, IfSome, IfNone, ◌≡◌, ◌<◌, ◌≤◌, ◌^◌, ℕ, Bool, true, false, length, [], List};
 ghost use Rattle.pst_base.specs.declared.shape.TypeShape.{TypeShape};
 ghost use Rattle.pst_line_nodes.specs.Line.{Covers, IsNewest, IsLine, IsQuiet, potential};
-ghost use Rattle.pst_line_nodes.specs.Changes.{IsMade};
-ghost use Rattle.pst_line_nodes.specs.Full.{is_other_entry};
 ghost use Rattle.pst_line_nodes.specs.Seen.{Seen};
-ghost use Rattle.pst_line_nodes.specs.Nodes.{line_of, AreKept, AreLinked, HasSlot, IsFieldSet};
-ghost use Rattle.pst_line_nodes.specs.Carried.{AreCarried, HasRoomFor, IsFieldNulled, IsFieldPointed, HasOpenSlot, HasNoOpenSlot, HasNewRecord, AreSomeLine, MayPoint};
+ghost use Rattle.pst_line_nodes.specs.Nodes.{line_of, AreKept, AreLinked, HasSlot};
+ghost use Rattle.pst_line_nodes.specs.Carried.{AreCarried, HasRoomFor, HasFieldSet, HasFieldNulled, HasFieldPointed, HasOpenSlot, HasNoOpenSlot, HasNewRecord, AreSomeLine, MayPoint};
 
 use pst_base::{Name, NoMemory, NodeId, Shape, SlotNo, TypeNo};
 use pst_line_nodes::content::{Content, InverseNo, Stamp};
@@ -94,7 +92,7 @@ pub trait LineNodes: Drop {
         requires kept { (shape : List TypeShape) × AreKept shape stamp.0 (seen self.old) }
         requires there { x.0 < length (seen self.old) }
         requires slot { HasSlot (seen self.old) x.0 slot.0 }
-        ensures ok { OnOk result ((made : ℕ → Bool) → IsFieldSet (line_of made (seen self.old)) (line_of made (seen self.new)) x.0 slot.0 stamp.0 content) }
+        ensures ok { OnOk result (HasFieldSet (seen self.old) (seen self.new) x.0 slot.0 stamp.0 content) }
         ensures kept { (shape : List TypeShape) → AreKept shape stamp.0 (seen self.old) → AreKept shape stamp.0 (seen self.new) }
         ensures err { OnErr result (seen self.new ≡ seen self.old) }
         ensures replaces { (line_of (λ _. true) (seen self.old)).since x.0 slot.0 ≡ stamp.0 → IsOk result };
@@ -105,7 +103,7 @@ pub trait LineNodes: Drop {
         requires line { AreSomeLine stamp.0 (seen self.old) }
         requires newest { IsNewest (line_of (λ _. true) (seen self.old)) x.0 }
         requires field { HasSlot (seen self.old) x.0 field.0 }
-        ensures ok { OnOk result ((made : ℕ → Bool) → IsFieldNulled (line_of made (seen self.old)) (line_of made (seen self.new)) x.0 field.0 stamp.0) }
+        ensures ok { OnOk result (HasFieldNulled (seen self.old) (seen self.new) x.0 field.0 stamp.0) }
         ensures kept { (shape : List TypeShape) → AreKept shape stamp.0 (seen self.old) → AreKept shape stamp.0 (seen self.new) }
         ensures err { OnErr result (seen self.new ≡ seen self.old) }
         ensures replaces { (line_of (λ _. true) (seen self.old)).since x.0 field.0 ≡ stamp.0 → IsOk result };
@@ -131,7 +129,7 @@ pub trait LineNodes: Drop {
         requires newest { IsNewest (line_of (λ _. true) (seen self.old)) x.0 }
         requires field { HasSlot (seen self.old) x.0 field.0 }
         requires target { IsNewest (line_of (λ _. true) (seen self.old)) z.0 }
-        ensures ok { OnOk result ((made : ℕ → Bool) → IsFieldPointed (line_of made (seen self.old)) (line_of made (seen self.new)) x.0 field.0 stamp.0 z.0 slot.0) }
+        ensures ok { OnOk result (HasFieldPointed (seen self.old) (seen self.new) x.0 field.0 stamp.0 z.0 slot.0) }
         ensures kept { (shape : List TypeShape) → AreKept shape stamp.0 (seen self.old) → AreKept shape stamp.0 (seen self.new) }
         ensures err { OnErr result (seen self.new ≡ seen self.old) }
         ensures replaces { (line_of (λ _. true) (seen self.old)).since x.0 field.0 ≡ stamp.0 → IsOk result };

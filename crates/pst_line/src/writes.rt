@@ -8,7 +8,7 @@ use pst_line_nodes::content::Content;
 use pst_places::StoreFault;
 
 impl<N: LineNodes> Core<N> {
-    ghost use Rattle.std.specs.Prelude.{◌≡◌, ◌⊎◌, Some, None, OnOk, OnErr, IfOk, IsSome, IsTrue, true, false, length, ◌↔◌};
+    ghost use Rattle.std.specs.Prelude.{◌≡◌, ◌⊎◌, Some, None, OnOk, OnErr, IfOk, IsSome, IsTrue, true, false, ◌↔◌};
     ghost use Rattle.pst_base.specs.declared.names.Kind.TheVariants.{Int};
     ghost use Rattle.pst_base.specs.Heap.{kind_in, IsPointer};
     ghost use Rattle.pst_places.specs.State.{HasRoom, Allocated, IsNewType, IsFresh, Unchanged};
@@ -67,7 +67,7 @@ impl<N: LineNodes> Core<N> {
     ) -> Result<(), NoMemory>
         requires writable { (state_of (stored_of self.old)).writable at }
         requires live { (state_of (stored_of self.old)).live at r }
-        requires field { kind_in self.old.shape ((state_of (stored_of self.old)).heap at) ((state_of (stored_of self.old)).name r) field.0 ≡ Some Int }
+        requires field { let s = state_of (stored_of self.old) in kind_in s.shape (s.heap at) (s.name r) field.0 ≡ Some Int }
         requires room { HasRoom (state_of (stored_of self.old)) }
         ensures ok { OnOk result (IsNumberStored self.old at r field.0 n self.new × Stays self.old self.new) }
         ensures err { OnErr result (Unchanged (state_of (stored_of self.old)) (state_of (stored_of self.new))) }
@@ -90,7 +90,7 @@ impl<N: LineNodes> Core<N> {
     ) -> Result<(), NoMemory>
         requires writable { (state_of (stored_of self.old)).writable at }
         requires live { (state_of (stored_of self.old)).live at r }
-        requires field { IsPointer (kind_in self.old.shape ((state_of (stored_of self.old)).heap at) ((state_of (stored_of self.old)).name r) field.0) }
+        requires field { let s = state_of (stored_of self.old) in IsPointer (kind_in s.shape (s.heap at) (s.name r) field.0) }
         requires room { HasRoom (state_of (stored_of self.old)) }
         ensures ok { OnOk result (IsPointerStored self.old at r field.0 None self.new × Stays self.old self.new) }
         ensures err { OnErr result (Unchanged (state_of (stored_of self.old)) (state_of (stored_of self.new))) }

@@ -1,15 +1,16 @@
 -- What copies and redirections do: the record of each node stays, and no heap changes.
--- Letters: w is a line, i, x, y and z nodes, f and g fields, t the newest stamp.
+-- Letters: w is a line, c, i, x, y and z nodes, f and g fields, s and u inverse slots, t the newest stamp.
 use Rattle.std.specs.Prelude.{◌≡◌, ◌≢◌, ℕ, ◌+◌, ◌<◌, ◌≤◌, ◌⊎◌, List, Bool, true, false, Some, None, length}
 use Rattle.pst_base.specs.declared.names.Name.{Name}
 use Rattle.pst_base.specs.declared.names.TypeNo.{TypeNo}
 use Rattle.pst_base.specs.declared.shape.TypeShape.{TypeShape}
 use Rattle.pst_base.specs.Shape.{type_at}
+use Rattle.pst_line_nodes.specs.declared.content.Content.{Content}
 use Rattle.pst_line_nodes.specs.Contents.{Target}
 use Rattle.pst_line_nodes.specs.Line.{Line, IsNewest, IsLine, heap_at, most, load}
-use Rattle.pst_line_nodes.specs.Changes.{VersionsStay, IsNulled, IsPointed, IsMade}
+use Rattle.pst_line_nodes.specs.Changes.{VersionsStay, IsNulled, IsPointed, IsCopied, IsMade}
 use Rattle.pst_line_nodes.specs.Seen.{Seen}
-use Rattle.pst_line_nodes.specs.Nodes.{line_of, AreKept}
+use Rattle.pst_line_nodes.specs.Nodes.{line_of, AreKept, IsFieldSet}
 use Rattle.pst_line_nodes.specs.Full.{is_other_entry}
 
 -- what is in a field of a record's newest node is in force from the newest stamp on
@@ -49,10 +50,6 @@ pub record IsCarried (shape : List TypeShape) (t : ℕ) (old new : Line) : Type 
   pub within : load shape new t ≤ load shape old t
   pub went : Went old new t
   pub small : AreSmall shape old → AreSmall shape new
-
--- however it is told which records are made, nodes that are a line are one afterwards, and no heap changes
-abbrev pub AreCarried : List TypeShape → (t : ℕ) → (old new : List Seen) → Type 0
-AreCarried shape t old new = (made : ℕ → Bool) → IsLine shape t (line_of made old) → IsCarried shape t (line_of made old) (line_of made new)
 
 -- the node has as many stamped values as it may have, and none of this field and stamp: a write is to copy it
 pub record IsFullFor (shape : List TypeShape) (w : Line) (x f t : ℕ) : Type 0 where
@@ -94,9 +91,31 @@ HasOpenSlot nodes z x f u = (shape : List TypeShape) (t : ℕ) (made : ℕ → B
 abbrev pub HasNoOpenSlot : List Seen → (z x f : ℕ) → Type 0
 HasNoOpenSlot nodes z x f = (shape : List TypeShape) (t : ℕ) (made : ℕ → Bool) → AreKept shape t nodes → AreAllOthers shape (line_of made nodes) z x f
 
--- a node came in of a new record with default fields, which is made
+-- ---- what a call does to nodes, however it is told which records are made
+
+-- a field of x is written, and no entry changes
+abbrev pub HasFieldSet : (old new : List Seen) → (x f t : ℕ) → Content → Type 0
+HasFieldSet old new x f t content = (made : ℕ → Bool) → IsFieldSet (line_of made old) (line_of made new) x f t content
+
+-- null is written into a field of x
+abbrev pub HasFieldNulled : (old new : List Seen) → (x f t : ℕ) → Type 0
+HasFieldNulled old new x f t = (made : ℕ → Bool) → IsFieldNulled (line_of made old) (line_of made new) x f t
+
+-- a pointer to z is written into a field of x, and its entry into the inverse slot u of z
+abbrev pub HasFieldPointed : (old new : List Seen) → (x f t z u : ℕ) → Type 0
+HasFieldPointed old new x f t z u = (made : ℕ → Bool) → IsFieldPointed (line_of made old) (line_of made new) x f t z u
+
+-- x is copied
+abbrev pub HasNodeCopied : (old new : List Seen) → (x t : ℕ) → Type 0
+HasNodeCopied old new x t = (made : ℕ → Bool) → IsCopied (line_of made old) (line_of made new) x t
+
+-- a node comes in of a new record with default fields, which is told to be made
 abbrev pub HasNewRecord : List TypeShape → (old new : List Seen) → Name → TypeNo → (t : ℕ) → Type 0
 HasNewRecord shape old new name ty t = (made : ℕ → Bool) → made (length old) ≡ true → IsMade shape (line_of made old) (line_of made new) name ty t
+
+-- some nodes were copied, and some pointers redirected, where the nodes were a line: no heap changes
+abbrev pub AreCarried : List TypeShape → (t : ℕ) → (old new : List Seen) → Type 0
+AreCarried shape t old new = (made : ℕ → Bool) → IsLine shape t (line_of made old) → IsCarried shape t (line_of made old) (line_of made new)
 
 -- The nodes from z on are copies that were made at t, and each pointer that is still to be redirected is to hold one of them.
 -- Those that the first s inverse slots of z stand for are done.

@@ -5,11 +5,11 @@ ghost use Rattle.pst_base.specs.declared.shape.TypeShape.{TypeShape};
 ghost use Rattle.pst_line_nodes.specs.declared.content.Content.TheVariants.{Null};
 ghost use Rattle.pst_line_nodes.specs.Contents.{Target};
 ghost use Rattle.pst_line_nodes.specs.Seen.{Seen};
-ghost use Rattle.pst_line_nodes.specs.Line.{IsNewest, IsLine, newest};
-ghost use Rattle.pst_line_nodes.specs.Changes.{IsCopied, redirected};
+ghost use Rattle.pst_line_nodes.specs.Line.{IsNewest, newest};
+ghost use Rattle.pst_line_nodes.specs.Changes.{redirected};
 ghost use Rattle.pst_line_nodes.specs.Rows.{base_of};
 ghost use Rattle.pst_line_nodes.specs.Nodes.{line_of, AreKept};
-ghost use Rattle.pst_line_nodes.specs.Carried.{AreSomeLine};
+ghost use Rattle.pst_line_nodes.specs.Carried.{HasNodeCopied, AreSomeLine};
 ghost use Rattle.pst_line_nodes.specs.Copying.{AreContents, IsHandedOver, AreRenamed, IsTargetBelow, node_at};
 
 use crate::content::{Content, Stamp};
@@ -24,7 +24,7 @@ impl Nodes {
         requires line { AreSomeLine stamp.0 self.old }
         requires newest { IsNewest (line_of (λ _. true) self.old) x.0 }
         requires before { (line_of (λ _. true) self.old).first x.0 < stamp.0 }
-        ensures copied { OnOk result ((made : ℕ → Bool) → IsCopied (line_of made self.old) (line_of made self.new) x.0 stamp.0) }
+        ensures copied { OnOk result (HasNodeCopied self.old self.new x.0 stamp.0) }
         ensures kept { (shape : List TypeShape) → AreKept shape stamp.0 self.old → AreKept shape stamp.0 self.new }
         ensures err { OnErr result (self.new ≡ self.old) }
     {

@@ -4,12 +4,11 @@ ghost use Rattle.std.specs.Prelude.{OnOk, OnErr, IfOk, IsOk, IfSome, IfNone, ◌
 ghost use Rattle.pst_base.specs.declared.shape.TypeShape.{TypeShape};
 ghost use Rattle.pst_base.specs.Shape.{type_at, element_count};
 ghost use Rattle.pst_line_nodes.specs.Contents.{Target};
-ghost use Rattle.pst_line_nodes.specs.Line.{IsNewest, IsLine, newest};
-ghost use Rattle.pst_line_nodes.specs.Changes.{IsMade};
+ghost use Rattle.pst_line_nodes.specs.Line.{IsNewest, newest};
 ghost use Rattle.pst_line_nodes.specs.Nodes.{line_of, AreKept, HasSlot};
 ghost use Rattle.pst_line_nodes.specs.Copying.{node_at};
 ghost use Rattle.pst_line_nodes.specs.Making.{AreFreed, entered};
-ghost use Rattle.pst_line_nodes.specs.Carried.{IsFieldNulled, IsFieldPointed, AreSomeLine, MayPoint, HasOpenSlot, HasNoOpenSlot, HasNewRecord};
+ghost use Rattle.pst_line_nodes.specs.Carried.{HasFieldNulled, HasFieldPointed, AreSomeLine, MayPoint, HasOpenSlot, HasNoOpenSlot, HasNewRecord};
 
 use crate::content::{Content, Entry, InverseNo, Stamp};
 use crate::node::Node;
@@ -33,7 +32,7 @@ impl Nodes {
         requires line { AreSomeLine stamp.0 self.old }
         requires newest { IsNewest (line_of (λ _. true) self.old) x.0 }
         requires field { HasSlot self.old x.0 field.0 }
-        ensures ok { OnOk result ((made : ℕ → Bool) → IsFieldNulled (line_of made self.old) (line_of made self.new) x.0 field.0 stamp.0) }
+        ensures ok { OnOk result (HasFieldNulled self.old self.new x.0 field.0 stamp.0) }
         ensures kept { (shape : List TypeShape) → AreKept shape stamp.0 self.old → AreKept shape stamp.0 self.new }
         ensures err { OnErr result (self.new ≡ self.old) }
         ensures replaces { (line_of (λ _. true) self.old).since x.0 field.0 ≡ stamp.0 → IsOk result }
@@ -58,7 +57,7 @@ impl Nodes {
         requires newest { IsNewest (line_of (λ _. true) self.old) x.0 }
         requires field { HasSlot self.old x.0 field.0 }
         requires target { IsNewest (line_of (λ _. true) self.old) z.0 }
-        ensures ok { OnOk result ((made : ℕ → Bool) → IsFieldPointed (line_of made self.old) (line_of made self.new) x.0 field.0 stamp.0 z.0 slot.0) }
+        ensures ok { OnOk result (HasFieldPointed self.old self.new x.0 field.0 stamp.0 z.0 slot.0) }
         ensures kept { (shape : List TypeShape) → AreKept shape stamp.0 self.old → AreKept shape stamp.0 self.new }
         ensures err { OnErr result (self.new ≡ self.old) }
         ensures replaces { (line_of (λ _. true) self.old).since x.0 field.0 ≡ stamp.0 → IsOk result }

@@ -4,7 +4,8 @@ ghost use Rattle.std.specs.Prelude.{OnOk, OnErr, IsOk, IfSome, IfNone, Some, sli
 ghost use Rattle.pst_base.specs.Shape.{type_at};
 ghost use Rattle.pst_line_nodes.specs.Line.{Covers, is_over, potential};
 ghost use Rattle.pst_base.specs.declared.shape.TypeShape.{TypeShape};
-ghost use Rattle.pst_line_nodes.specs.Nodes.{line_of, AreKept, AreLinked, HasSlot, IsFieldSet, IsNext};
+ghost use Rattle.pst_line_nodes.specs.Nodes.{line_of, AreKept, AreLinked, HasSlot, IsNext};
+ghost use Rattle.pst_line_nodes.specs.Carried.{HasFieldSet};
 
 use crate::content::{Content, Stamp};
 use crate::node::Node;
@@ -109,7 +110,7 @@ impl Nodes {
         requires kept { (shape : List TypeShape) × AreKept shape stamp.0 self.old }
         requires there { x.0 < length self.old }
         requires slot { HasSlot self.old x.0 slot.0 }
-        ensures ok { OnOk result ((made : ℕ → Bool) → IsFieldSet (line_of made self.old) (line_of made self.new) x.0 slot.0 stamp.0 content) }
+        ensures ok { OnOk result (HasFieldSet self.old self.new x.0 slot.0 stamp.0 content) }
         ensures kept { (shape : List TypeShape) → AreKept shape stamp.0 self.old → AreKept shape stamp.0 self.new }
         ensures err { OnErr result (self.new ≡ self.old) }
         ensures replaces { (made : ℕ → Bool) → (line_of made self.old).since x.0 slot.0 ≡ stamp.0 → IsOk result }
