@@ -2,7 +2,7 @@
 use Rattle.std.specs.Prelude.{ℕ, ℤ, nat_eq, Bool, true, false, if◌then◌else◌, List, [], ◌++◌, codes, Option, Some, None}
 use Rattle.std.specs.List.{flat_map}
 use Rattle.std.specs.Fmt.{signed_decimal}
-use Rattle.pst_tree.specs.Syntax.{TypeWord, Int, Named, FieldText, Val, Ptr, LocalText, ProcedureText, Item, Record, Root, Procedure, ProgramText}
+use Rattle.pst_tree.specs.Syntax.{TypeWord, Int, Named, FieldText, Val, Ptr, LocalText, ProcedureText, Item, Record, Root, Procedure, Phrases, ProgramText}
 use Rattle.pst_notation_statements.specs.Texts.{line, listed, phrases_text}
 
 -- ---- declarations
@@ -44,9 +44,12 @@ abbrev pub head_text : (query : Bool) → List ℕ → List LocalText → Option
 head_text query x parameters result =
     line 0 (sort_text query ++ x ++ codes "(" ++ listed parameter_text parameters ++ codes ")" ++ gives_text result ++ codes " {")
 
+-- what stands behind the head line of a procedure
+abbrev pub body_text : List LocalText → Phrases → List ℕ
+body_text locals body = flat_map local_text locals ++ phrases_text 2 body ++ line 0 (codes "}")
+
 abbrev pub procedure_text : ProcedureText → List ℕ
-procedure_text p =
-    head_text p.query p.name p.parameters p.result ++ flat_map local_text p.locals ++ phrases_text 2 p.body ++ line 0 (codes "}")
+procedure_text p = head_text p.query p.name p.parameters p.result ++ body_text p.locals p.body
 
 -- the line of a record type
 abbrev pub record_text : List ℕ → (limit : ℤ) → List FieldText → List ℕ

@@ -4,8 +4,8 @@ ghost use Rattle.std.specs.Prelude.{◌≡◌, ◌++◌, OnOk, IfOk, map, codes}
 ghost use Rattle.std.specs.Option.{option_map};
 ghost use Rattle.std.specs.List.{flat_map};
 ghost use Rattle.pst_tree.specs.View.{type_word_of, field_of, local_of, item_of, text_of, phrases_of};
-ghost use Rattle.pst_notation_statements.specs.Texts.{line, listed, behind_comma, phrases_text};
-ghost use Rattle.pst_notation.specs.Canonical.{type_text, typed_text, elements_text, field_text, parameter_text, local_text, gives_text, sort_text, head_text, record_text, item_text, language_text, canonical};
+ghost use Rattle.pst_notation_statements.specs.Texts.{line, listed, behind_comma};
+ghost use Rattle.pst_notation.specs.Canonical.{type_text, typed_text, elements_text, field_text, parameter_text, local_text, gives_text, sort_text, head_text, body_text, record_text, item_text, language_text, canonical};
 
 use pst_base::{NoMemory, Text};
 use pst_notation_statements::{put_block, put_line, put_number};
@@ -206,7 +206,7 @@ fn put_head(
 
 /// Puts what stands behind the head of a procedure.
 fn put_body(out: &mut Vec<u8>, locals: &[Local], body: &Block) -> Result<(), NoMemory>
-    ensures { OnOk result (out.new.items ≡ out.old.items ++ (flat_map local_text (map local_of locals.now) ++ phrases_text 2 (phrases_of body.now) ++ line 0 (codes "}"))) }
+    ensures { OnOk result (out.new.items ≡ out.old.items ++ body_text (map local_of locals.now) (phrases_of body.now)) }
 {
     put_locals(out, locals)?;
     put_block(out, 2, body)?;
