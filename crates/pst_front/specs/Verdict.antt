@@ -53,6 +53,10 @@ abbrev pub Judged : List ℕ → Verdict → Type 0
 Judged text (Accepted syntax typed) = HasTree text syntax × (checked syntax.items ≡ Ok typed)
 Judged text (Refused fault) = HasFault text fault.kind fault.line
 
+-- the text is accepted with this typed program
+abbrev pub HasProgram : List ℕ → NamedProgram → Type 0
+HasProgram text typed = (syntax : tree.ProgramText) × Judged text (Accepted syntax typed)
+
 -- the text is refused for this reason; want of memory is free
 abbrev pub IsNoProgram : List ℕ → NoProgram → Type 0
 IsNoProgram text (no.Fault fault) = HasFault text fault.kind fault.line

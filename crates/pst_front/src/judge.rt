@@ -1,14 +1,12 @@
 //! The verdict on the text of a program.
 
 ghost use Rattle.std.specs.Prelude.{◌≡◌, ◌+◌, ◌<◌, ◌^◌, length, IfOk, MatchResult};
-ghost use Rattle.pst_tree.specs.Syntax.{ProgramText};
 ghost use Rattle.pst_tree.specs.View.{text_of};
 ghost use Rattle.pst_program.specs.View.{routines_of};
 ghost use Rattle.pst_program.specs.Typed.{IsTyped};
 ghost use Rattle.pst_typing.specs.View.{program_of};
 ghost use Rattle.pst_grammar.specs.Grammar.{HasTree};
-ghost use Rattle.pst_front.specs.Verdict.{Accepted};
-ghost use Rattle.pst_front.specs.Verdict.{Judged, IsNoProgram};
+ghost use Rattle.pst_front.specs.Verdict.{HasProgram, IsNoProgram};
 
 use crate::fault::{Fault, FaultKind};
 use pst_base::NoMemory;
@@ -113,7 +111,7 @@ pub(crate) fn read_tree(alloc: Global, text: Vec<u8>) -> Result<Tree, NoProgram>
 /// The first fault of the text, or want of memory.
 pub fn program_of(alloc: Global, text: Vec<u8>) -> Result<Program, NoProgram>
     requires { length text.items + 1 < 2 ^ 32 }
-    ensures verdict { MatchResult result (λ p. (syntax : ProgramText) × Judged text.items (Accepted syntax (program_of p))) (λ why. IsNoProgram text.items why) }
+    ensures verdict { MatchResult result (λ p. HasProgram text.items (program_of p)) (λ why. IsNoProgram text.items why) }
     ensures typed { IfOk result (λ p. IsTyped (routines_of p)) }
 {
     let tree = read_tree(alloc, text)?;

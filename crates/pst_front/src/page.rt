@@ -1,16 +1,12 @@
 //! What is printed of a program.
 
-ghost use Rattle.std.specs.Prelude.{◌≡◌, ◌+◌, ◌<◌, ◌^◌, List, length, IfOk, MatchResult};
-ghost use Rattle.pst_tree.specs.Syntax.{ProgramText};
-ghost use Rattle.pst_typing.specs.Declarations.{NamedProgram};
+ghost use Rattle.std.specs.Prelude.{◌≡◌, ◌+◌, ◌<◌, ◌^◌, length, IfOk, MatchResult};
 ghost use Rattle.pst_typing.specs.View.{program_of as typed_program};
 ghost use Rattle.pst_program.specs.View.{routines_of};
 ghost use Rattle.pst_program.specs.Typed.{IsTyped};
-ghost use Rattle.pst_notation.specs.Canonical.{canonical};
 ghost use Rattle.pst_translation.specs.Compiled.{code_of};
 ghost use Rattle.pst_listing.specs.Listing.{listed};
-ghost use Rattle.pst_front.specs.Verdict.{Judged, Accepted};
-ghost use Rattle.pst_front.specs.Pages.{page_text};
+ghost use Rattle.pst_front.specs.Pages.{IsPage, IsCanonical};
 ghost use Rattle.pst_front.specs.Verdict.{IsNoProgram};
 
 use crate::judge::{NoProgram, program_of, read_tree};
@@ -47,7 +43,7 @@ fn listing_of(alloc: Global, program: &Program) -> Result<Text, NoMemory>
 /// The first fault of the text, or want of memory.
 pub fn canonical_program(alloc: Global, text: Vec<u8>) -> Result<(Text, Program), NoProgram>
     requires { length text.items + 1 < 2 ^ 32 }
-    ensures verdict { MatchResult result (λ p. (syntax : ProgramText) × Judged text.items (Accepted syntax (typed_program p.1)) × (p.0 ≡ canonical syntax)) (λ why. IsNoProgram text.items why) }
+    ensures verdict { MatchResult result (λ p. IsCanonical text.items (typed_program p.1) p.0) (λ why. IsNoProgram text.items why) }
     ensures typed { IfOk result (λ p. IsTyped (routines_of p.1)) }
 {
     let tree = read_tree(alloc, text)?;
@@ -59,7 +55,7 @@ pub fn canonical_program(alloc: Global, text: Vec<u8>) -> Result<(Text, Program)
 /// The canonical text of the program of a text of fewer than 4,294,967,295 bytes.
 fn canonical_of(alloc: Global, text: Vec<u8>) -> Result<Text, NoProgram>
     requires { length text.items + 1 < 2 ^ 32 }
-    ensures { MatchResult result (λ out. (syntax : ProgramText) × (p : NamedProgram) × Judged text.items (Accepted syntax p) × (out ≡ canonical syntax)) (λ why. IsNoProgram text.items why) }
+    ensures { MatchResult result (λ out. IsPage Page.Canonical text.items out) (λ why. IsNoProgram text.items why) }
 {
     let (printed, _) = canonical_program(alloc, text)?;
     Ok(printed)
@@ -71,7 +67,7 @@ fn canonical_of(alloc: Global, text: Vec<u8>) -> Result<Text, NoProgram>
 /// The first fault of the text, or want of memory.
 pub fn page_of(alloc: Global, page: Page, text: Vec<u8>) -> Result<Text, NoProgram>
     requires { length text.items + 1 < 2 ^ 32 }
-    ensures { MatchResult result (λ out. (syntax : ProgramText) × (p : NamedProgram) × Judged text.items (Accepted syntax p) × (out ≡ page_text page syntax p)) (λ why. IsNoProgram text.items why) }
+    ensures { MatchResult result (λ out. IsPage page text.items out) (λ why. IsNoProgram text.items why) }
 {
     match page {
         Page::Canonical => canonical_of(alloc, text),
