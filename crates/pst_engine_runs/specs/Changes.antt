@@ -1,6 +1,6 @@
 -- What a slice of an open run and a query need and do.
 -- Letters: code is code with a meaning, h a history, s the state of the heap before and t after, r a reply.
-use Rattle.std.specs.Prelude.{◌≡◌, ℕ, List, [], ◌∷◌}
+use Rattle.std.specs.Prelude.{◌≡◌, ℕ, ℤ, List, [], ◌∷◌}
 use Rattle.pst_base.specs.declared.names.RunNo.{RunNo}
 use Rattle.pst_script.specs.declared.command.Call.{Call}
 use Rattle.pst_script.specs.declared.reply.Reply.{Reply}
@@ -11,6 +11,7 @@ use Rattle.pst_history.specs.History.{History, call_of, called_more, new_run, ne
 use Rattle.pst_history.specs.Accepted.{IsAccepted}
 use Rattle.pst_engine_runs.specs.declared.entry.OpenEntry.{OpenEntry}
 use Rattle.pst_engine_runs.specs.Coded.{MeantCode}
+use Rattle.pst_engine_runs.specs.Runs.{named}
 use Rattle.pst_engine_runs.specs.Stands.{MayCall, RunsStand}
 
 -- ---- a slice of a run
@@ -21,8 +22,8 @@ pub record IsMoved {H P R : Type 0} (code : MeantCode) (run : RunNo) (change : R
   pub reply : r ≡ step_reply code.meaning h run change (run_at h run.0)
 
 -- so for every history for which they stood
-abbrev pub Steps : {H P R : Type 0} → MeantCode → (old : List (OpenEntry H R P)) → State P R → RunNo → (Run → Run) → Reply → (new : List (OpenEntry H R P)) → (t : State P R) → Type 0
-Steps code old s run change r new t =
+abbrev pub Steps : {H P R : Type 0} → MeantCode → (old : List (OpenEntry H R P)) → State P R → RunNo → (Run → Run) → (new : List (OpenEntry H R P)) → (t : State P R) → Reply → Type 0
+Steps code old s run change new t r =
     (budget next : ℕ) (h : History) → RunsStand code old budget next s h → IsMoved code run change r new t budget next h
 
 -- they stand for a history in which a run can be given this call
@@ -34,10 +35,10 @@ pub record MayCallSome {H P R : Type 0} (code : MeantCode) (active : List (OpenE
   pub may : MayCall code.meaning history run.0 call
 
 -- so for every history for which they stood and in which the run can be given the call
-abbrev pub Calls : {H P R : Type 0} → MeantCode → (old : List (OpenEntry H R P)) → State P R → RunNo → NamedCall → Reply → (new : List (OpenEntry H R P)) → (t : State P R) → Type 0
-Calls code old s run call r new t =
-    (budget next : ℕ) (h : History) → RunsStand code old budget next s h → MayCall code.meaning h run.0 call
-    → IsMoved code run (called_more call) r new t budget next h
+abbrev pub Calls : {H P R : Type 0} → MeantCode → (old : List (OpenEntry H R P)) → State P R → RunNo → (procedure : List ℕ) → (arguments : List ℤ) → (new : List (OpenEntry H R P)) → (t : State P R) → Reply → Type 0
+Calls code old s run procedure arguments new t r =
+    (budget next : ℕ) (h : History) → RunsStand code old budget next s h → MayCall code.meaning h run.0 (named procedure arguments)
+    → IsMoved code run (called_more (named procedure arguments)) r new t budget next h
 
 -- ---- a query
 

@@ -36,7 +36,7 @@ pub fn step<H: VersionedHeap, C: Meant>(
     requires at { at < length active.old.items }
     requires run { IsRunAt active.old.items at run }
     requires stands { StandForSome (C.meant code.now) active.old.items (H.state heap.old) }
-    ensures ok { IfOk result (λ r. Steps (C.meant code.now) active.old.items (H.state heap.old) run (granted_more charges) r active.new.items (H.state heap.new)) }
+    ensures ok { IfOk result (Steps (C.meant code.now) active.old.items (H.state heap.old) run (granted_more charges) active.new.items (H.state heap.new)) }
     ensures stay { VersionsStay (H.state heap.old) (H.state heap.new) }
 {
     heap.known();
@@ -60,8 +60,7 @@ pub fn call<H: VersionedHeap, C: Meant>(
     requires at { at < length active.old.items }
     requires run { IsRunAt active.old.items at run }
     requires stands { MayCallSome (C.meant code.now) active.old.items (H.state heap.old) run (named procedure.now arguments.now) }
-    ensures ok { IfOk result (λ r. Calls (C.meant code.now) active.old.items (H.state heap.old) run
-        (named procedure.now arguments.now) r active.new.items (H.state heap.new)) }
+    ensures ok { IfOk result (Calls (C.meant code.now) active.old.items (H.state heap.old) run procedure.now arguments.now active.new.items (H.state heap.new)) }
     ensures same_run { OnOk result ((at < length active.new.items) × IsRunAt active.new.items at run) }
     ensures stay { VersionsStay (H.state heap.old) (H.state heap.new) }
 {
