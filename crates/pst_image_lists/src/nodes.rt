@@ -2,7 +2,7 @@
 
 ghost use Rattle.std.specs.Prelude.{◌≡◌, ◌<◌, ◌^◌, ℕ, IfOk, length, map};
 ghost use Rattle.pst_queue.specs.declared.links.Link.TheVariants.{Out};
-ghost use Rattle.pst_repair.specs.Seen.{seen, seen_node};
+ghost use Rattle.pst_repair.specs.Seen.{seen_in, seen_node};
 ghost use Rattle.pst_nodes.specs.Arena.{link_at};
 ghost use Rattle.pst_image_meaning.specs.Denoted.{link_of as denoted_link, node_of as denoted_node, nodes_of as denoted_nodes};
 ghost use Rattle.pst_image_lists.specs.Listing.{HasFew, AreFew};
@@ -51,7 +51,7 @@ fn node_of(
 /// The nodes, by their numbers. None of them waits to be split.
 pub fn nodes_of(alloc: Global, shape: &Shape, parts: &[NodePart]) -> Result<Nodes, NoMemory>
     requires few { AreFew shape.now parts.now }
-    ensures nodes { IfOk result (λ nodes. seen nodes.list.items ≡ denoted_nodes shape.now parts.now) }
+    ensures nodes { IfOk result (λ nodes. seen_in nodes ≡ denoted_nodes shape.now parts.now) }
     ensures out { IfOk result (λ nodes. (i : ℕ) → link_at nodes.list.items i ≡ Out) }
 {
     let mut bases = Vec::new(alloc);
