@@ -6,7 +6,7 @@ ghost use Rattle.pst_base.specs.declared.names.NodeId.{NodeId};
 ghost use Rattle.pst_rows.specs.Rows.{shown, no_stamp};
 ghost use Rattle.pst_rows.specs.Values.{base_in};
 ghost use Rattle.pst_rows.specs.declared.content.Stamp.{Stamp};
-ghost use Rattle.pst_repair.specs.Seen.{seen, seen_node};
+ghost use Rattle.pst_repair.specs.Seen.{seen_in, seen_node};
 ghost use Rattle.pst_store_meaning.specs.Store.{Node as Seen};
 ghost use Rattle.pst_image_form.specs.Bytes.{Fits64, FitsNode, FitsStamp};
 ghost use Rattle.pst_image_parts.specs.Narrow.{IsNarrow, IsSmallContent};
@@ -132,10 +132,10 @@ pub fn nodes_of(
     positions: &[u32],
 ) -> Result<Items<NodePart>, NoMemory>
     requires few { length positions.now < 2 ^ 32 }
-    requires narrow { (i : ℕ) (n : Seen) → slice_get (seen nodes.now.list.items) i ≡ Some n → IsNarrow n }
-    ensures parts { IfOk result (λ parts. parts ≡ map (part_of_node (position_in positions.now)) (seen nodes.now.list.items)) }
+    requires narrow { (i : ℕ) (n : Seen) → slice_get (seen_in nodes.now) i ≡ Some n → IsNarrow n }
+    ensures parts { IfOk result (λ parts. parts ≡ map (part_of_node (position_in positions.now)) (seen_in nodes.now)) }
     ensures fits { IfOk result (AllByRecursion FitsNode) }
-    ensures short { IfOk result (λ _. (i : ℕ) (n : Seen) → slice_get (seen nodes.now.list.items) i ≡ Some n → IsShort n) }
+    ensures short { IfOk result (λ _. (i : ℕ) (n : Seen) → slice_get (seen_in nodes.now) i ≡ Some n → IsShort n) }
 {
     let mut parts = Vec::with_capacity(alloc, nodes.list.len())?;
     for node in &nodes.list {
