@@ -38,7 +38,7 @@ fn parts_of<O: Walked + Drop, N: Listed>(
     let relics = relics_of(alloc, parts.nodes.as_slice())?;
     let order: O = order_of(alloc, parts.places)?;
     let list = nodes_of(alloc, shape, parts.nodes.as_slice())?;
-    let nodes = N::of_list(alloc, shape, &order, list)?;
+    let nodes = N::of_list(alloc, &order, shape, list)?;
     Ok(Parts {
         shape: shape.copy(alloc)?,
         order,

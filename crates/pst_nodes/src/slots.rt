@@ -16,8 +16,8 @@ impl Nodes {
     /// An inverse slot of a node that is free at a place. There is none where each one holds an entry there.
     pub fn free_slot<O: Order>(
         &self,
-        shape: &Shape,
         order: &O,
+        shape: &Shape,
         id: NodeId,
         at: Pos,
     ) -> Option<SlotNo>
@@ -42,8 +42,8 @@ impl Nodes {
     /// very field. There is none where each one holds the entry of another field.
     pub fn open_slot<O: Order>(
         &self,
-        shape: &Shape,
         order: &O,
+        shape: &Shape,
         id: NodeId,
         at: Pos,
         x: NodeId,

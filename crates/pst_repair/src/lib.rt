@@ -9,7 +9,7 @@
 //! that was, each with the stamped values that it adds. (The cascade and its potential are those of Driscoll, Sarnak, Sleator
 //! and Tarjan.)
 //!
-//!     let splits = repair(&shape, &order, &mut nodes, &mut queue)?;
+//!     let splits = repair(&order, &shape, &mut nodes, &mut queue)?;
 #![tactic(auto)]
 
 mod joint;

@@ -19,8 +19,8 @@ use pst_split::split::split;
 /// its capacity waits, and all that the call needs still holds.
 #[inline(always)]
 pub fn split_next<O: Order>(
-    shape: &Shape,
     order: &O,
+    shape: &Shape,
     nodes: &mut Nodes,
     queue: &mut Queue,
 ) -> Result<bool, NoMemory>
@@ -41,7 +41,7 @@ pub fn split_next<O: Order>(
         return Ok(false);
     };
     let _first = queue.pop(nodes);
-    match split(shape, order, nodes, queue, ends.first) {
+    match split(order, shape, nodes, queue, ends.first) {
         Ok(_) => Ok(true),
         Err(refused) => {
             queue.push(nodes, ends.first);
@@ -55,8 +55,8 @@ pub fn split_next<O: Order>(
 /// capacity waits again, what was split stays so, and all that the call needs still holds.
 #[inline(always)]
 pub fn repair<O: Order>(
-    shape: &Shape,
     order: &O,
+    shape: &Shape,
     nodes: &mut Nodes,
     queue: &mut Queue,
 ) -> Result<u64, NoMemory>
@@ -75,7 +75,7 @@ pub fn repair<O: Order>(
     ensures count { IfOk result (λ n. length nodes.new.list.items ≡ length nodes.old.list.items + n) }
 {
     let mut splits = 0;
-    while split_next(shape, order, nodes, queue)? {
+    while split_next(order, shape, nodes, queue)? {
         splits += 1;
     }
     Ok(splits)

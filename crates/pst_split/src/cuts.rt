@@ -52,8 +52,8 @@ fn outer_partner<O: Order>(
 
 // Begins a segment of a slot at a place, where none begins, and queues a node that is over its capacity then.
 fn cut_slot<O: Order>(
-    shape: &Shape,
     order: &O,
+    shape: &Shape,
     nodes: &mut Nodes,
     queue: &mut Queue,
     place: Place,
@@ -79,8 +79,8 @@ fn cut_slot<O: Order>(
 
 // Cuts the partner of one slot of z at a place.
 fn cut_partner<O: Order>(
-    shape: &Shape,
     order: &O,
+    shape: &Shape,
     nodes: &mut Nodes,
     queue: &mut Queue,
     x: NodeId,
@@ -101,14 +101,14 @@ fn cut_partner<O: Order>(
     ensures named { HasQueuedPartner (O.places order.now) nodes.old nodes.new queue.old queue.new z.0 slot.0 (rank (O.places order.now) at.0) }
 {
     if let Some(place) = outer_partner(order, nodes, x, z, slot, at) {
-        cut_slot(shape, order, nodes, queue, place, at);
+        cut_slot(order, shape, nodes, queue, place, at);
     }
 }
 
 /// Cuts the partners of z's slots, from a first one up to an end, at a place.
 pub fn cut_partners<O: Order>(
-    shape: &Shape,
     order: &O,
+    shape: &Shape,
     nodes: &mut Nodes,
     queue: &mut Queue,
     x: NodeId,
@@ -132,6 +132,6 @@ pub fn cut_partners<O: Order>(
 {
     for index in first..end {
         let slot = SlotNo(index as u16);
-        cut_partner(shape, order, nodes, queue, x, z, slot, at);
+        cut_partner(order, shape, nodes, queue, x, z, slot, at);
     }
 }

@@ -6,7 +6,7 @@
 //! by at least 1. All memory is taken before the first change, and a refusal changes nothing. (The node splitting of Driscoll,
 //! Sarnak, Sleator and Tarjan; the rule for the stamp is this project's own.)
 //!
-//!     let right = split(&shape, &order, &mut nodes, &mut queue, id)?;
+//!     let right = split(&order, &shape, &mut nodes, &mut queue, id)?;
 #![tactic(auto)]
 
 mod cuts;

@@ -20,8 +20,8 @@ use pst_queue::queue::Queue;
 /// its capacity then. Gives the right half. A refusal changes nothing but room.
 #[inline(never)]
 pub fn split<O: Order>(
-    shape: &Shape,
     order: &O,
+    shape: &Shape,
     nodes: &mut Nodes,
     queue: &mut Queue,
     id: NodeId,
@@ -44,7 +44,7 @@ pub fn split<O: Order>(
     let end = first + half(shape, ty);
     let at = split_place(order, nodes, id);
     let right = part(order, nodes, id, at, first, end)?;
-    cut_partners(shape, order, nodes, queue, id, right, at, first, end);
+    cut_partners(order, shape, nodes, queue, id, right, at, first, end);
     rename_partners(order, nodes, id, right, first, end);
     queue_if_over(shape, nodes, queue, id);
     queue_if_over(shape, nodes, queue, right);

@@ -213,7 +213,7 @@ impl<O: Order + Drop, N: FatNodes> Started<O, N> {
             None => Near::FIRST,
         };
         self.nodes
-            .root_near(&self.shape, &self.order, near.node(), at.begin)
+            .root_near(&self.order, &self.shape, near.node(), at.begin)
     }
 
     /// The node of a record that lives at a place. A node that other runs cut meanwhile may stand far before it.
@@ -224,7 +224,7 @@ impl<O: Order + Drop, N: FatNodes> Started<O, N> {
         ensures live { (state_of self.now).live at result }
         ensures covers { IsIn (arena self.now) result.0 (begin_of self.now at) }
     {
-        self.nodes.cover(&self.shape, &self.order, r, at.begin)
+        self.nodes.cover(&self.order, &self.shape, r, at.begin)
     }
 
     /// The number in a field of a record, at a place.
@@ -234,10 +234,10 @@ impl<O: Order + Drop, N: FatNodes> Started<O, N> {
         requires field { kind_at self.now at r field.0 ≡ Some Int }
         ensures { result ≡ value_in ((state_of self.now).heap at) ((state_of self.now).name r) field.0 }
     {
-        let node = self.nodes.cover(&self.shape, &self.order, r, at.begin);
+        let node = self.nodes.cover(&self.order, &self.shape, r, at.begin);
         number_of(
             self.nodes
-                .read(&self.shape, &self.order, node, field, at.begin),
+                .read(&self.order, &self.shape, node, field, at.begin),
         )
     }
 
@@ -249,10 +249,10 @@ impl<O: Order + Drop, N: FatNodes> Started<O, N> {
         ensures target { option_map (state_of self.now).name result ≡ pointer_in ((state_of self.now).heap at) ((state_of self.now).name r) field.0 }
         ensures live { IfSome result ((state_of self.now).live at) }
     {
-        let id = self.nodes.cover(&self.shape, &self.order, r, at.begin);
+        let id = self.nodes.cover(&self.order, &self.shape, r, at.begin);
         target_of(
             self.nodes
-                .read(&self.shape, &self.order, id, field, at.begin),
+                .read(&self.order, &self.shape, id, field, at.begin),
         )
     }
 
@@ -303,7 +303,7 @@ impl<O: Order + Drop, N: FatNodes> Started<O, N> {
         ensures same { Same self.old self.new }
         ensures stays { Stays self.old self.new }
     {
-        self.nodes.repair(&self.shape, &self.order)
+        self.nodes.repair(&self.order, &self.shape)
     }
 
     /// Makes a record with all fields 0 or null, at a place that can be written.
@@ -356,9 +356,9 @@ impl<O: Order + Drop, N: FatNodes> Started<O, N> {
         ensures stamped { IsStamped 2 self.old self.new }
         ensures err { OnErr result (Same self.old self.new) }
     {
-        let id = self.nodes.cover(&self.shape, &self.order, r, at.begin);
+        let id = self.nodes.cover(&self.order, &self.shape, r, at.begin);
         self.nodes
-            .set_number(&self.shape, &self.order, id, field, at, n)?;
+            .set_number(&self.order, &self.shape, id, field, at, n)?;
         self.counts.value_writes += 1;
         Ok(())
     }
@@ -414,9 +414,9 @@ impl<O: Order + Drop, N: FatNodes> Started<O, N> {
         ensures stamped { IsStamped 6 self.old self.new }
         ensures err { OnErr result (Same self.old self.new) }
     {
-        let id = self.nodes.cover(&self.shape, &self.order, r, at.begin);
+        let id = self.nodes.cover(&self.order, &self.shape, r, at.begin);
         self.nodes
-            .set_null(&self.shape, &self.order, id, field, at)?;
+            .set_null(&self.order, &self.shape, id, field, at)?;
         self.counts.pointer_writes += 1;
         Ok(())
     }
@@ -457,13 +457,13 @@ impl<O: Order + Drop, N: FatNodes> Started<O, N> {
         ensures stamped { IsStamped 6 self.old self.new }
         ensures err { OnErr result (Same self.old self.new) }
     {
-        let x = self.nodes.cover(&self.shape, &self.order, r, at.begin);
-        let y = self.nodes.cover(&self.shape, &self.order, q, at.begin);
+        let x = self.nodes.cover(&self.order, &self.shape, r, at.begin);
+        let y = self.nodes.cover(&self.order, &self.shape, q, at.begin);
         match self.open_slot(at, x, field, y) {
             None => Ok(false),
             Some(slot) => {
                 self.nodes
-                    .set_target(&self.shape, &self.order, x, field, at, y, slot)?;
+                    .set_target(&self.order, &self.shape, x, field, at, y, slot)?;
                 self.counts.pointer_writes += 1;
                 Ok(true)
             }
@@ -479,7 +479,7 @@ impl<O: Order + Drop, N: FatNodes> Started<O, N> {
         ensures some { IfSome result (λ s. IsOpenTo self.now.shape (arena self.now) y.0 (begin_of self.now at) x.0 field.0 s.0) }
     {
         self.nodes
-            .open_slot(&self.shape, &self.order, y, at.begin, x, field)
+            .open_slot(&self.order, &self.shape, y, at.begin, x, field)
     }
 
     /// Writes a pointer, or null for None, at a place that can be written. It is refused exactly where the target has no room
@@ -592,7 +592,7 @@ impl<O: Order + Drop> Started<O, Arena> {
         ensures rested { IfOk result (λ more. more ≡ false → self.new.noted.queue ≡ []) }
         ensures count { IfOk result (λ more. length self.new.nodes ≡ length self.old.nodes + splits_in more) }
     {
-        self.nodes.split_next(&self.shape, &self.order)
+        self.nodes.split_next(&self.order, &self.shape)
     }
 }
 

@@ -48,7 +48,7 @@ impl Arena {
 
     /// Splits the node that waits first, and gives whether one waited: one of the splits of `repair`, which makes one node more.
     /// After `NoMemory` none was made, and the call can be made again.
-    pub fn split_next<O: Order>(&mut self, shape: &Shape, order: &O) -> Result<bool, NoMemory>
+    pub fn split_next<O: Order>(&mut self, order: &O, shape: &Shape) -> Result<bool, NoMemory>
         requires nodes { AreNodes shape.now (O.places order.now) self.old.nodes }
         requires waiting { AreWaiting shape.now self.old.nodes self.old.noted.queue }
         requires held { AreHeld (arena_at (O.places order.now) self.old.nodes) self.old.noted }
@@ -58,7 +58,7 @@ impl Arena {
         ensures rested { IfOk result (λ more. more ≡ false → self.new.noted.queue ≡ []) }
         ensures count { IfOk result (λ more. length self.new.nodes ≡ length self.old.nodes + splits_in more) }
     {
-        split_next(shape, order, &mut self.nodes, &mut self.queue)
+        split_next(order, shape, &mut self.nodes, &mut self.queue)
     }
 }
 
@@ -101,27 +101,27 @@ impl FatNodes for Arena {
     }
 
     #[inline(always)]
-    fn cover<O: Order>(&self, _shape: &Shape, order: &O, id: NodeId, at: Pos) -> NodeId {
+    fn cover<O: Order>(&self, order: &O, _shape: &Shape, id: NodeId, at: Pos) -> NodeId {
         cover(order, &self.nodes, id, at)
     }
 
-    fn root<O: Order>(&self, _shape: &Shape, order: &O, at: Pos) -> NodeId {
+    fn root<O: Order>(&self, order: &O, _shape: &Shape, at: Pos) -> NodeId {
         let held = self.roots.at(order, &self.nodes, at);
         self.nodes.cover(order, held, at)
     }
 
-    fn root_near<O: Order>(&self, shape: &Shape, order: &O, near: NodeId, at: Pos) -> NodeId {
+    fn root_near<O: Order>(&self, order: &O, shape: &Shape, near: NodeId, at: Pos) -> NodeId {
         match root_beside(order, &self.nodes, near, at) {
             Some(node) => node,
-            None => self.root(shape, order, at),
+            None => self.root(order, shape, at),
         }
     }
 
     #[inline(always)]
     fn read<O: Order>(
         &self,
-        _shape: &Shape,
         order: &O,
+        _shape: &Shape,
         id: NodeId,
         slot: SlotNo,
         at: Pos,
@@ -131,14 +131,14 @@ impl FatNodes for Arena {
 
     fn open_slot<O: Order>(
         &self,
-        shape: &Shape,
         order: &O,
+        shape: &Shape,
         id: NodeId,
         at: Pos,
         x: NodeId,
         field: SlotNo,
     ) -> Option<SlotNo> {
-        self.nodes.open_slot(shape, order, id, at, x, field)
+        self.nodes.open_slot(order, shape, id, at, x, field)
     }
 
     fn add(
@@ -154,16 +154,16 @@ impl FatNodes for Arena {
 
     fn set_number<O: Order>(
         &mut self,
-        shape: &Shape,
         order: &O,
+        shape: &Shape,
         id: NodeId,
         field: SlotNo,
         at: Place,
         n: i64,
     ) -> Result<(), NoMemory> {
         writes::set_number(
-            shape,
             order,
+            shape,
             &mut self.nodes,
             &mut self.queue,
             id,
@@ -175,15 +175,15 @@ impl FatNodes for Arena {
 
     fn set_null<O: Order>(
         &mut self,
-        shape: &Shape,
         order: &O,
+        shape: &Shape,
         id: NodeId,
         field: SlotNo,
         at: Place,
     ) -> Result<(), NoMemory> {
         writes::set_null(
-            shape,
             order,
+            shape,
             &mut self.nodes,
             &mut self.queue,
             id,
@@ -194,8 +194,8 @@ impl FatNodes for Arena {
 
     fn set_target<O: Order>(
         &mut self,
-        shape: &Shape,
         order: &O,
+        shape: &Shape,
         id: NodeId,
         field: SlotNo,
         at: Place,
@@ -203,8 +203,8 @@ impl FatNodes for Arena {
         slot: SlotNo,
     ) -> Result<(), NoMemory> {
         writes::set_target(
-            shape,
             order,
+            shape,
             &mut self.nodes,
             &mut self.queue,
             id,
@@ -216,10 +216,10 @@ impl FatNodes for Arena {
     }
 
     #[inline(always)]
-    fn repair<O: Order>(&mut self, shape: &Shape, order: &O) -> Result<(), NoMemory> {
+    fn repair<O: Order>(&mut self, order: &O, shape: &Shape) -> Result<(), NoMemory> {
         repair_and_hold(
-            shape,
             order,
+            shape,
             &mut self.nodes,
             &mut self.queue,
             &mut self.roots,
@@ -235,8 +235,8 @@ impl Listed for Arena {
 
     fn of_list<O: Order>(
         alloc: Global,
-        _shape: &Shape,
         order: &O,
+        _shape: &Shape,
         list: Nodes,
     ) -> Result<Self, NoMemory> {
         let mut roots = RootIndex::new(alloc, NodeId(0))?;

@@ -58,14 +58,14 @@ pub trait FatNodes: Drop {
         ensures { result ≡ of_node (λ n. n.head.ty) root_type (nodes self.now) id.0 };
 
     /// The node of a record that lives at a place, found along `later`.
-    fn cover<O: Order>(&self, shape: &Shape, order: &O, id: NodeId, at: Pos) -> NodeId
+    fn cover<O: Order>(&self, order: &O, shape: &Shape, id: NodeId, at: Pos) -> NodeId
         requires nodes { AreNodes shape.now (O.places order.now) (nodes self.now) }
         requires live { IsLive (arena_at (O.places order.now) (nodes self.now)) id.0 (rank (O.places order.now) at.0) }
         ensures inside { IsIn (arena_at (O.places order.now) (nodes self.now)) result.0 (rank (O.places order.now) at.0) }
         ensures same { (arena_at (O.places order.now) (nodes self.now)).name result.0 ≡ (arena_at (O.places order.now) (nodes self.now)).name id.0 };
 
     /// The node of the root record that lives at a place, found by the root index.
-    fn root<O: Order>(&self, shape: &Shape, order: &O, at: Pos) -> NodeId
+    fn root<O: Order>(&self, order: &O, shape: &Shape, at: Pos) -> NodeId
         requires nodes { AreNodes shape.now (O.places order.now) (nodes self.now) }
         requires held { AreHeld (arena_at (O.places order.now) (nodes self.now)) (noted self.now) }
         requires live { IsLive (arena_at (O.places order.now) (nodes self.now)) 0 (rank (O.places order.now) at.0) }
@@ -73,7 +73,7 @@ pub trait FatNodes: Drop {
         ensures name { (arena_at (O.places order.now) (nodes self.now)).name result.0 ≡ root_name };
 
     /// The node of the root record that lives at a place, looked for at a node and behind it, and then by the root index.
-    fn root_near<O: Order>(&self, shape: &Shape, order: &O, near: NodeId, at: Pos) -> NodeId
+    fn root_near<O: Order>(&self, order: &O, shape: &Shape, near: NodeId, at: Pos) -> NodeId
         requires nodes { AreNodes shape.now (O.places order.now) (nodes self.now) }
         requires held { AreHeld (arena_at (O.places order.now) (nodes self.now)) (noted self.now) }
         requires live { IsLive (arena_at (O.places order.now) (nodes self.now)) 0 (rank (O.places order.now) at.0) }
@@ -81,7 +81,7 @@ pub trait FatNodes: Drop {
         ensures name { (arena_at (O.places order.now) (nodes self.now)).name result.0 ≡ root_name };
 
     /// What a slot holds at a place.
-    fn read<O: Order>(&self, shape: &Shape, order: &O, id: NodeId, slot: SlotNo, at: Pos) -> Content
+    fn read<O: Order>(&self, order: &O, shape: &Shape, id: NodeId, slot: SlotNo, at: Pos) -> Content
         requires nodes { AreNodes shape.now (O.places order.now) (nodes self.now) }
         requires inside { IsIn (arena_at (O.places order.now) (nodes self.now)) id.0 (rank (O.places order.now) at.0) }
         requires slot { slot.0 < width (type_at shape.now ((arena_at (O.places order.now) (nodes self.now)).ty id.0)) }
@@ -91,8 +91,8 @@ pub trait FatNodes: Drop {
     /// one does.
     fn open_slot<O: Order>(
         &self,
-        shape: &Shape,
         order: &O,
+        shape: &Shape,
         id: NodeId,
         at: Pos,
         x: NodeId,
@@ -115,8 +115,8 @@ pub trait FatNodes: Drop {
     /// refusal changes nothing.
     fn set_number<O: Order>(
         &mut self,
-        shape: &Shape,
         order: &O,
+        shape: &Shape,
         id: NodeId,
         field: SlotNo,
         at: Place,
@@ -135,8 +135,8 @@ pub trait FatNodes: Drop {
     /// changes nothing.
     fn set_null<O: Order>(
         &mut self,
-        shape: &Shape,
         order: &O,
+        shape: &Shape,
         id: NodeId,
         field: SlotNo,
         at: Place,
@@ -154,8 +154,8 @@ pub trait FatNodes: Drop {
     /// takes its memory first. What is above its capacity then waits. A refusal changes nothing.
     fn set_target<O: Order>(
         &mut self,
-        shape: &Shape,
         order: &O,
+        shape: &Shape,
         id: NodeId,
         field: SlotNo,
         at: Place,
@@ -175,7 +175,7 @@ pub trait FatNodes: Drop {
 
     /// Splits what waits, and then lets the root index hold the root record's nodes that are new. After `NoMemory` some splits
     /// are made, the rest waits, and what is not held yet is held by the next call.
-    fn repair<O: Order>(&mut self, shape: &Shape, order: &O) -> Result<(), NoMemory>
+    fn repair<O: Order>(&mut self, order: &O, shape: &Shape) -> Result<(), NoMemory>
         requires nodes { AreNodes shape.now (O.places order.now) (nodes self.old) }
         requires waiting { AreWaiting shape.now (nodes self.old) (noted self.old).queue }
         requires held { AreHeld (arena_at (O.places order.now) (nodes self.old)) (noted self.old) }

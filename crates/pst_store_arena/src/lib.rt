@@ -7,9 +7,9 @@
 //! the arena at the places of the order that is handed in; a write takes all its memory first; the nodes over their capacity wait,
 //! and no others.
 //!
-//!     let node = arena.cover(&shape, &order, id, at);
-//!     arena.set_number(&shape, &order, node, field, place, 7)?;
-//!     arena.repair(&shape, &order)?;
+//!     let node = arena.cover(&order, &shape, id, at);
+//!     arena.set_number(&order, &shape, node, field, place, 7)?;
+//!     arena.repair(&order, &shape)?;
 #![tactic(auto)]
 
 mod adding;

@@ -24,8 +24,8 @@ pub trait Listed: FatNodes {
     /// none is above its capacity. All nodes of the root record are held. `NoMemory` where there is no memory for their index.
     fn of_list<O: Order>(
         alloc: Global,
-        shape: &Shape,
         order: &O,
+        shape: &Shape,
         list: Nodes,
     ) -> Result<Self, NoMemory>
     where

@@ -22,8 +22,8 @@ use pst_roots::RootIndex;
 /// are made, the rest waits, and what is not held yet is held by the next call.
 #[inline(always)]
 pub fn repair_and_hold<O: Order>(
-    shape: &Shape,
     order: &O,
+    shape: &Shape,
     nodes: &mut Nodes,
     queue: &mut Queue,
     roots: &mut RootIndex,
@@ -40,7 +40,7 @@ pub fn repair_and_hold<O: Order>(
     ensures all { OnOk result (AreAllHeld (arena_at (O.places order.now) (seen_in nodes.new)) (noted_of nodes.new.list.items roots.new looked_at.new)) }
 {
     let first = first_of(queue);
-    repair(shape, order, nodes, queue)?;
+    repair(order, shape, nodes, queue)?;
     hold_new(order, nodes, first, roots, looked_at)
 }
 

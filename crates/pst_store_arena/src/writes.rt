@@ -29,8 +29,8 @@ use pst_store_meaning::place::Place;
 /// Writes a number over a place, in a node that lives there. All memory is taken first; the node waits where it is above its
 /// capacity then. A refusal changes nothing but room.
 pub fn set_number<O: Order>(
-    shape: &Shape,
     order: &O,
+    shape: &Shape,
     nodes: &mut Nodes,
     queue: &mut Queue,
     id: NodeId,
@@ -61,8 +61,8 @@ pub fn set_number<O: Order>(
 /// entry of it are taken away. All memory is taken first; what is above its capacity then waits. A refusal changes nothing but
 /// room.
 pub fn set_null<O: Order>(
-    shape: &Shape,
     order: &O,
+    shape: &Shape,
     nodes: &mut Nodes,
     queue: &mut Queue,
     id: NodeId,
@@ -96,8 +96,8 @@ pub fn set_null<O: Order>(
 /// is put in by an inverse slot of the target, which lives there too. All memory is taken first; what is above its capacity
 /// then waits. A refusal changes nothing but room.
 pub fn set_target<O: Order>(
-    shape: &Shape,
     order: &O,
+    shape: &Shape,
     nodes: &mut Nodes,
     queue: &mut Queue,
     id: NodeId,
