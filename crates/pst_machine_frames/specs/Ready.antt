@@ -1,5 +1,5 @@
 -- Where a run can go on: what the machine keeps from one instruction to the next.
-use Rattle.std.specs.Prelude.{◌≡◌, ◌⊎◌, ℕ, ◌+◌, ◌<◌, ◌≤◌, ◌^◌, ℤ, List, [], ◌∷◌, ◌++◌, length, All, Bool, true, false, Option, Some, None}
+use Rattle.std.specs.Prelude.{◌≡◌, ◌⊎◌, ℕ, ◌+◌, ◌<◌, ◌≤◌, ◌^◌, ℤ, List, [], ◌∷◌, ◌++◌, length, All, false, Option, Some, None}
 use Rattle.pst_base.specs.declared.names.TrapKind.{TrapKind}
 use Rattle.pst_base.specs.declared.names.TrapKind.TheVariants.{Output}
 use Rattle.pst_program.specs.Meaning.{World}
@@ -106,6 +106,12 @@ IfOut flow.Next p = Unit {0}
 IfOut flow.Here p = Unit {0}
 IfOut flow.Out p = p
 
+-- where the frame goes on behind the instruction
+abbrev pub IfNext : Flow → Type 0 → Type 0
+IfNext flow.Next p = p
+IfNext flow.Here p = Unit {0}
+IfNext flow.Out p = Unit {0}
+
 -- what an instruction does
 pub record Acted {P R : Type 0} (parts : Parts) (s : State P R) (a : Standing P R) (instr : Instr) (step : Step) (t : State P R) (b : Standing P R) : Type 0 where
   pub acts : act parts (Some instr) (current_of parts s a) (waiting_of parts s a) (world_of s a) ≡ move_of step (current_of parts t b) (waiting_of parts t b) (world_of t b)
@@ -206,10 +212,11 @@ pub record StaysOn {P R : Type 0} (parts : Parts) (s : State P R) (a : Standing 
   pub less : total_of parts t b < total_of parts s a
   pub stays : b.current.procedure ≡ a.current.procedure
 
--- what one instruction does, and whether the frame goes on
-abbrev pub GoesOn : {P R : Type 0} → Parts → State P R → Standing P R → (on : Bool) → (out : Option Step) → State P R → Standing P R → Type 0
-GoesOn parts s a true out t b = StaysOn parts s a t b
-GoesOn parts s a false out t b = Leaves parts s a out t b
+-- what one instruction does, by how the frame goes on
+abbrev pub GoesOn : {P R : Type 0} → Parts → State P R → Standing P R → Flow → (out : Option Step) → State P R → Standing P R → Type 0
+GoesOn parts s a flow.Next out t b = StaysOn parts s a t b
+GoesOn parts s a flow.Here out t b = StaysOn parts s a t b
+GoesOn parts s a flow.Out out t b = Leaves parts s a out t b
 
 -- ---- the same of a heap with this state, where the run's current frame and charges are held apart; what it came to stands last
 
@@ -225,9 +232,9 @@ FallsApart state parts heap a frame left heap' b frame' left' step = Falls parts
 abbrev pub LeavesApart : {H P R : Type 0} → (H → State P R) → Parts → (heap : H) → Standing P R → CallFrame R → (left : ℕ) → (heap_after : H) → Standing P R → CallFrame R → (left_after : ℕ) → Option Step → Type 0
 LeavesApart state parts heap a frame left heap' b frame' left' out = Leaves parts (state heap) (whole a frame left) out (state heap') (whole b frame' left')
 
--- what one instruction does, and whether the frame goes on
-abbrev pub GoesOnApart : {H P R : Type 0} → (H → State P R) → Parts → (heap : H) → Standing P R → CallFrame R → (left : ℕ) → (out : Option Step) → (heap_after : H) → Standing P R → CallFrame R → (left_after : ℕ) → (on : Bool) → Type 0
-GoesOnApart state parts heap a frame left out heap' b frame' left' on = GoesOn parts (state heap) (whole a frame left) on out (state heap') (whole b frame' left')
+-- what one instruction does, by how the frame goes on
+abbrev pub GoesOnApart : {H P R : Type 0} → (H → State P R) → Parts → (heap : H) → Standing P R → CallFrame R → (left : ℕ) → (out : Option Step) → (heap_after : H) → Standing P R → CallFrame R → (left_after : ℕ) → Flow → Type 0
+GoesOnApart state parts heap a frame left out heap' b frame' left' flow = GoesOn parts (state heap) (whole a frame left) flow out (state heap') (whole b frame' left')
 
 -- what an instruction does, where the frame goes on like this
 abbrev pub CameApart : {H P R : Type 0} → (H → State P R) → Parts → (heap : H) → Standing P R → CallFrame R → (left : ℕ) → Instr → (out : Option Step) → (heap_after : H) → Standing P R → CallFrame R → (left_after : ℕ) → Flow → Type 0

@@ -5,10 +5,10 @@ ghost use Rattle.pst_code.specs.declared.instr.Instr.TheVariants as instr;
 ghost use Rattle.pst_code.specs.Valid.{IsValidCode};
 ghost use Rattle.pst_code.specs.Machine.{next_instr};
 ghost use Rattle.pst_places.specs.State.{Unchanged, IsFresh, IsNewType, HasRoom};
-ghost use Rattle.pst_machine_steps.specs.View.{number_in, procedure_of, AtEachMeaning, Performs};
+ghost use Rattle.pst_machine_steps.specs.View.{number_in, procedure_of, AtEachMeaning, Performs, StaysAt};
 ghost use Rattle.pst_machine_steps.specs.Live.{IsLiveSomewhere, IsRoot};
 ghost use Rattle.pst_machine_steps.specs.Calls.{held_in, HasRegister, HoldsNumber};
-ghost use Rattle.pst_machine_frames.specs.Ready.{Printed, step_of, whole, came_to, IfOut, current_of, IsRunning, IsFunded, CameApart, FallsApart, GoesOnApart, IsDue, IsOff, IsOut, IsRest, LeavesApart, Ran, RanApart};
+ghost use Rattle.pst_machine_frames.specs.Ready.{Printed, step_of, whole, came_to, IfOut, IfNext, current_of, IsRunning, IsFunded, CameApart, FallsApart, GoesOnApart, IsDue, IsOff, IsOut, IsRest, LeavesApart, Ran, RanApart};
 ghost use Rattle.pst_machine_steps.specs.Fields.{KeepsOthers};
 
 use pst_base::{Kind, NoMemory, Op, TrapKind, TypeNo};
@@ -174,19 +174,25 @@ fn go_on<H: HeapAt>(
 {
     let instrs = procedure.instructions.as_slice();
     let kinds = procedure.kinds.as_slice();
+    // An index below the length of a list can be raised by one.
+    let _count = instrs.len();
     let mut out = None;
+    // What is left of the code from the next instruction on: to go on behind it is to move one pointer.
+    let mut rest = &instrs[frame.at..];
     loop {
-        let on = step(
-            standing, frame, left, code, procedure, instrs, kinds, heap, top, &mut out,
-        )?;
-        if !on {
-            return Ok(out);
+        let instr = &rest[0];
+        match step(
+            standing, frame, left, code, procedure, kinds, heap, top, instr, &mut out,
+        )? {
+            Flow::Next => rest = &rest[1..],
+            Flow::Here => rest = &instrs[frame.at..],
+            Flow::Out => return Ok(out),
         }
     }
 }
 
-/// One instruction, and on to the next one. The answer is whether the frame goes on; where it does not, `out` is set to what the
-/// instruction came to, or to None where a call or a return is due.
+/// One instruction, and on to the next one. Where the frame does not go on, `out` is set to what the instruction came to, or to None
+/// where a call or a return is due.
 #[inline(always)]
 fn step<H: HeapAt>(
     standing: &mut Standing<H::Place, H::Ref>,
@@ -194,34 +200,33 @@ fn step<H: HeapAt>(
     left: &mut u32,
     code: &Code,
     procedure: &Procedure,
-    instrs: &[Instr],
     kinds: &[Kind],
     heap: &mut H,
     top: H::Ref,
+    instr: &Instr,
     out: &mut Option<Step>,
-) -> Result<bool, NoMemory>
+) -> Result<Flow, NoMemory>
     requires valid { IsValidCode code.now }
     requires running { IsRunning code.now (H.state heap.old) (whole standing.old frame.old left.old) }
     requires funded { IsFunded code.now (H.state heap.old) (whole standing.old frame.old left.old) }
     requires top { IsRoot (H.state heap.old) standing.old.place top }
     requires procedure { procedure_of code.now frame.old.procedure ≡ procedure.now }
-    requires instrs { instrs.now ≡ procedure.now.instructions }
     requires kinds { kinds.now ≡ procedure.now.kinds }
+    requires at { frame.old.at + 1 < 2 ^ 64 }
+    requires instr { next_instr (current_of code.now (H.state heap.old) (whole standing.old frame.old left.old)) ≡ Some instr.now }
     ensures on { IfOk result (GoesOnApart H.state code.now heap.old standing.old frame.old left.old out.new heap.new standing.new frame.new left.new) }
+    ensures next { IfOk result (λ flow. IfNext flow (frame.new.at ≡ frame.old.at + 1)) }
     ensures err { OnErr result (KeepsOthers standing.old.place (H.state heap.old) (H.state heap.new)) }
     ensures reads { OnErr result (¬ ((H.state heap.old).writable standing.old.place) → Unchanged (H.state heap.old) (H.state heap.new)) }
     ensures home { (standing.new.place ≡ standing.old.place) × (standing.new.run ≡ standing.old.run) }
 {
-    // An index below the length of a list can be raised by one.
-    let _count = instrs.len();
-    let instr = &instrs[frame.at];
     match instruction(standing, frame, left, code, kinds, heap, top, instr, out)? {
         Flow::Next => {
             frame.at += 1;
-            Ok(true)
+            Ok(Flow::Next)
         }
-        Flow::Here => Ok(true),
-        Flow::Out => Ok(false),
+        Flow::Here => Ok(Flow::Here),
+        Flow::Out => Ok(Flow::Out),
     }
 }
 
@@ -241,6 +246,7 @@ enum Flow {
 fn flow_of(step: Step, out: &mut Option<Step>) -> Flow
     ensures came { came_to result out.new ≡ Some step }
     ensures out { IfOut result (IsOff out.new) }
+    ensures next { IfNext result (step ≡ Step.Next) }
 {
     match step {
         Step::Next => Flow::Next,
@@ -257,6 +263,7 @@ fn flow_of(step: Step, out: &mut Option<Step>) -> Flow
 fn left_due(out: &mut Option<Step>) -> Flow
     ensures came { came_to result out.new ≡ None }
     ensures out { IfOut result (IsOff out.new) }
+    ensures due { result ≡ Flow.Out }
 {
     *out = None;
     Flow::Out
@@ -285,6 +292,7 @@ fn instruction<H: HeapAt>(
     requires instr { next_instr (current_of code.now (H.state heap.old) (whole standing.old frame.old left.old)) ≡ Some instr.now }
     ensures acted { IfOk result (CameApart H.state code.now heap.old standing.old frame.old left.old instr.now out.new heap.new standing.new frame.new left.new) }
     ensures out { IfOk result (λ flow. IfOut flow (IsOff out.new)) }
+    ensures still { IfOk result (λ flow. IfNext flow (frame.new.at ≡ frame.old.at)) }
     ensures err { OnErr result (KeepsOthers standing.old.place (H.state heap.old) (H.state heap.new)) }
     ensures reads { OnErr result (¬ ((H.state heap.old).writable standing.old.place) → Unchanged (H.state heap.old) (H.state heap.new)) }
     ensures home { (standing.new.place ≡ standing.old.place) × (standing.new.run ≡ standing.old.run) }
@@ -391,6 +399,7 @@ fn jump_equal<H: HeapAt>(heap: &H, frame: &mut CallFrame<H::Ref>, a: Reg, b: Reg
     requires a { IsLiveSomewhere (H.state heap.now) (held_in frame.old a) }
     requires b { IsLiveSomewhere (H.state heap.now) (held_in frame.old b) }
     ensures acts { Performs (H.state heap.now).name frame.old (instr.Jumpeq a b to) result frame.new }
+    ensures still { StaysAt frame.old result frame.new }
     ensures registers { frame.new.registers ≡ frame.old.registers }
     ensures same { frame.new.procedure ≡ frame.old.procedure }
 {
@@ -405,6 +414,7 @@ fn jump_unequal<H: HeapAt>(heap: &H, frame: &mut CallFrame<H::Ref>, a: Reg, b: R
     requires a { IsLiveSomewhere (H.state heap.now) (held_in frame.old a) }
     requires b { IsLiveSomewhere (H.state heap.now) (held_in frame.old b) }
     ensures acts { Performs (H.state heap.now).name frame.old (instr.Jumpne a b to) result frame.new }
+    ensures still { StaysAt frame.old result frame.new }
     ensures registers { frame.new.registers ≡ frame.old.registers }
     ensures same { frame.new.procedure ≡ frame.old.procedure }
 {

@@ -64,6 +64,10 @@ ActsAs name old move step new = (parts : Parts) (c : List Caller) (w : World) �
 abbrev pub Performs : {R : Type 0} → (R → Name) → (old : CallFrame R) → Instr → Step → (new : CallFrame R) → Type 0
 Performs name old instr step new = ActsAs name old (λ parts. act parts (Some instr)) step new
 
+-- a step that goes on behind its instruction leaves the frame at it
+abbrev pub StaysAt : {R : Type 0} → (old : CallFrame R) → Step → (new : CallFrame R) → Type 0
+StaysAt old step new = step ≡ Next → new.at ≡ old.at
+
 -- what is so of a frame at each of its meanings: in every code, whatever names its references have
 abbrev pub AtEachMeaning : {R : Type 0} → CallFrame R → (Frame → Type 0) → Type 0
 AtEachMeaning {R} frame fact = (parts : Parts) (name : R → Name) → fact (frame_of parts name frame)

@@ -9,7 +9,7 @@ ghost use Rattle.pst_code.specs.declared.instr.Instr.TheVariants as instr;
 ghost use Rattle.pst_code.specs.declared.procedure.Parts.{Parts};
 ghost use Rattle.pst_places.specs.State.{IsFresh, IsNewType, HasRoom};
 ghost use Rattle.pst_places.specs.Store.{MayStorePointer};
-ghost use Rattle.pst_machine_steps.specs.View.{value_of, frame_of};
+ghost use Rattle.pst_machine_steps.specs.View.{value_of, frame_of, StaysAt};
 ghost use Rattle.pst_machine_steps.specs.Live.{IsLive, IsPlainRegister, IsRoot};
 ghost use Rattle.pst_machine_steps.specs.Calls.{held_in, HasRegister, HoldsNumber};
 ghost use Rattle.pst_machine_steps.specs.Steps.{MayWriteRoot, MayStore, MayStoreElements, Reads, Stored, StoredElement, slot_in, RefusesElement};
@@ -125,6 +125,7 @@ pub fn root<H: HeapAt>(
     ensures acts { Reads (H.state heap.now) at frame.old (instr.Root d slot) result frame.new }
     ensures live { All (IsLive (H.state heap.now) at) frame.old.registers.items → All (IsLive (H.state heap.now) at) frame.new.registers.items }
     ensures same { frame.new.procedure ≡ frame.old.procedure }
+    ensures still { StaysAt frame.old result frame.new }
 {
     let v = field(heap, at, top, slot, kind_at(kinds, d));
     set(frame, d, v)
@@ -148,6 +149,7 @@ pub fn load<H: HeapAt>(
     ensures acts { Reads (H.state heap.now) at frame.old (instr.Load d object slot) result frame.new }
     ensures live { All (IsLive (H.state heap.now) at) frame.new.registers.items }
     ensures same { frame.new.procedure ≡ frame.old.procedure }
+    ensures still { StaysAt frame.old result frame.new }
 {
     match read(frame, object) {
         Register::Reference(r) => {
@@ -178,6 +180,7 @@ pub fn load_element<H: HeapAt>(
     ensures acts { let read = instr.Loadx d object element.first element.elements element.index in Reads (H.state heap.now) at frame.old read result frame.new }
     ensures live { All (IsLive (H.state heap.now) at) frame.new.registers.items }
     ensures same { frame.new.procedure ≡ frame.old.procedure }
+    ensures still { StaysAt frame.old result frame.new }
 {
     let Register::Reference(r) = read(frame, object) else {
         return Step::Trap(TrapKind::Null);
@@ -327,6 +330,7 @@ pub fn make<H: HeapAt>(
     requires numbered { made.old + 1 < 2 ^ 32 }
     requires room { HasRoom (H.state heap.old) }
     ensures ok { IfOk result (λ step. Made (H.state heap.old) at record { run = run; ordinal = made.old } frame.old d.0 ty step (H.state heap.new) frame.new) }
+    ensures still { IfOk result (λ step. StaysAt frame.old step frame.new) }
     ensures made { OnOk result (made.new ≡ made.old + 1) }
     ensures err { OnErr result (KeepsOthers at (H.state heap.old) (H.state heap.new)) }
 {

@@ -7,7 +7,7 @@ ghost use Rattle.pst_program.specs.declared.meaning.Value.TheVariants as value;
 ghost use Rattle.pst_program.specs.Value.{number_of, limited, operate};
 ghost use Rattle.pst_code.specs.declared.instr.Instr.TheVariants as instr;
 ghost use Rattle.pst_code.specs.Machine.{after_effect, apply, jump_where};
-ghost use Rattle.pst_machine_steps.specs.View.{answer_of, given_of, number_in, set_to, ActsAs, AtEachMeaning, IsArithmetic, Performs};
+ghost use Rattle.pst_machine_steps.specs.View.{answer_of, given_of, number_in, set_to, ActsAs, AtEachMeaning, IsArithmetic, Performs, StaysAt};
 ghost use Rattle.pst_machine_steps.specs.Live.{KeptFrom};
 ghost use Rattle.pst_machine_steps.specs.Calls.{HasRegister, HoldsNumber};
 ghost use Rattle.pst_machine_steps.specs.Steps.{Charged};
@@ -25,6 +25,7 @@ pub fn copy<R: Copy>(frame: &mut CallFrame<R>, d: Reg, s: Reg) -> Step
     ensures acts { (name : R → Name) → Performs name frame.old (instr.Copy d s) result frame.new }
     ensures kept { KeptFrom frame.old.registers.items frame.new.registers.items }
     ensures same { frame.new.procedure ≡ frame.old.procedure }
+    ensures still { StaysAt frame.old result frame.new }
 {
     let v = read(frame, s);
     set(frame, d, v)
@@ -37,6 +38,7 @@ fn put<R: Copy>(frame: &mut CallFrame<R>, d: Reg, answer: Result<i64, TrapKind>)
     ensures acts { (name : R → Name) → ActsAs name frame.old (λ parts. set_to d (answer_of answer)) result frame.new }
     ensures kept { KeptFrom frame.old.registers.items frame.new.registers.items }
     ensures same { frame.new.procedure ≡ frame.old.procedure }
+    ensures still { StaysAt frame.old result frame.new }
 {
     match answer {
         Ok(n) => set(frame, d, Register::Number(n)),
@@ -52,6 +54,7 @@ pub fn negate<R: Copy>(frame: &mut CallFrame<R>, d: Reg, a: Reg) -> Step
     ensures acts { (name : R → Name) → Performs name frame.old (instr.Neg d a) result frame.new }
     ensures kept { KeptFrom frame.old.registers.items frame.new.registers.items }
     ensures same { frame.new.procedure ≡ frame.old.procedure }
+    ensures still { StaysAt frame.old result frame.new }
 {
     let n = operand(frame, a);
     put(frame, d, negative(n))
@@ -84,6 +87,7 @@ pub fn apply<R: Copy>(frame: &mut CallFrame<R>, op: Op, d: Reg, a: Reg, b: Reg) 
     ensures acts { (name : R → Name) → ActsAs name frame.old (λ parts f c w. after_effect (apply op d a b f.line f.registers w) f c) result frame.new }
     ensures kept { KeptFrom frame.old.registers.items frame.new.registers.items }
     ensures same { frame.new.procedure ≡ frame.old.procedure }
+    ensures still { StaysAt frame.old result frame.new }
 {
     let left = operand(frame, a);
     let right = operand(frame, b);
@@ -120,6 +124,7 @@ pub fn jump<R: Copy>(frame: &mut CallFrame<R>, holds: bool, to: u32) -> Step
     ensures acts { (name : R → Name) → ActsAs name frame.old (λ parts. jump_where holds to) result frame.new }
     ensures registers { frame.new.registers ≡ frame.old.registers }
     ensures same { frame.new.procedure ≡ frame.old.procedure }
+    ensures still { StaysAt frame.old result frame.new }
 {
     if holds {
         frame.at = to as usize;
@@ -135,6 +140,7 @@ pub fn jump_less<R: Copy>(frame: &mut CallFrame<R>, a: Reg, b: Reg, to: u32) -> 
     ensures acts { (name : R → Name) → Performs name frame.old (instr.Jumplt a b to) result frame.new }
     ensures registers { frame.new.registers ≡ frame.old.registers }
     ensures same { frame.new.procedure ≡ frame.old.procedure }
+    ensures still { StaysAt frame.old result frame.new }
 {
     let holds = is_less(frame, a, b);
     jump(frame, holds, to)
@@ -147,6 +153,7 @@ pub fn jump_at_most<R: Copy>(frame: &mut CallFrame<R>, a: Reg, b: Reg, to: u32) 
     ensures acts { (name : R → Name) → Performs name frame.old (instr.Jumple a b to) result frame.new }
     ensures registers { frame.new.registers ≡ frame.old.registers }
     ensures same { frame.new.procedure ≡ frame.old.procedure }
+    ensures still { StaysAt frame.old result frame.new }
 {
     let holds = is_at_most(frame, a, b);
     jump(frame, holds, to)
@@ -155,7 +162,8 @@ pub fn jump_at_most<R: Copy>(frame: &mut CallFrame<R>, a: Reg, b: Reg, to: u32) 
 /// Takes a charge and keeps its line, or waits for it.
 #[inline(always)]
 pub fn take_charge<R: Copy>(left: &mut u32, frame: &mut CallFrame<R>, line: u32) -> Step
-    ensures { Charged left.old frame.old line result left.new frame.new }
+    ensures charged { Charged left.old frame.old line result left.new frame.new }
+    ensures still { StaysAt frame.old result frame.new }
 {
     if *left == 0 {
         return Step::Waits(line);

@@ -1,43 +1,67 @@
-use Rattle.std.proofs.Common.{Bool, ap, sym, subst, ◌∙◌}
+use Rattle.std.proofs.Common.{◌≡◌, ℕ, ◌+◌, ◌-◌, List, length, take, drop, ap, sym, subst, ◌∙◌}
+use Rattle.std.proofs.lemmas.List.{drop-drop, take_rest}
+use Rattle.pst_code.specs.declared.instr.Instr.{Instr}
 use Rattle.pst_machine_steps.specs.declared.standing.Step.TheVariants.{Here, Switched}
 use Rattle.pst_machine_steps.specs.View.{procedure_of}
-use Rattle.pst_machine_frames.specs.Ready.{GoesOn, Leaves, StaysOn, whole}
+use Rattle.pst_machine_frames.specs.declared.running.Flow.{Flow}
+use Rattle.pst_machine_frames.specs.Ready.{GoesOn, IfNext, Leaves, StaysOn, whole}
 use Rattle.pst_machine_frames.proofs.Moving.{ran_on, leaves_on, goes_as_moves, root_kept}
 use Rattle.pst_machine_frames.proofs.Reading.{on_err, reads_on}
 use Rattle.pst_machine_frames.proofs.running.go_on.Goals as goal
 
-pub loop-on-preserved : goal.loop-on-preserved
-loop-on-preserved g c =
+pub loop-rest-preserved-in-Next : goal.loop-rest-preserved-in-Next
+loop-rest-preserved-in-Next g c =
     let parts = c.args.code.now in
     let s0 = g.H.HeapAt.state c.args.heap.now in
     let a0 = whole c.args.standing.now c.args.frame.now c.args.left.now in
-    let s = g.H.HeapAt.state c.loop-on.heap in
-    let a = whole c.loop-on.standing c.loop-on.frame c.loop-on.left in
+    let s = g.H.HeapAt.state c.loop-rest.heap in
+    let a = whole c.loop-rest.standing c.loop-rest.frame c.loop-rest.left in
     let t = g.H.HeapAt.state c.step.new.heap in
     let b = whole c.step.new.standing c.step.new.frame c.step.new.left in
-    let goes : StaysOn parts s a t b = subst (λ (on : Bool). GoesOn parts s a on c.step.new.out t b) c.if-not-on.false c.in_ok-on.ensures.on in
+    let goes : StaysOn parts s a t b = subst (λ (x : Flow). GoesOn parts s a x c.step.new.out t b) c.in-Next.is c.in_ok-step.ensures.on in
+    let next : c.step.new.frame.at ≡ c.loop-rest.frame.at + 1 = subst (λ (x : Flow). IfNext x (c.step.new.frame.at ≡ c.loop-rest.frame.at + 1)) c.in-Next.is c.in_ok-step.ensures.next in
+    let instrs : List Instr = c.args.procedure.now.instructions in
     record {
-      ran = ran_on parts s0 s t a0 a b Switched c.loop-on.invariant.ran (goes_as_moves parts s t a b goes.ran);
-      procedure = ap (procedure_of parts) goes.stays ∙ c.loop-on.invariant.procedure;
-      top = root_kept parts s t a b Here c.args.top goes.ran c.loop-on.invariant.top;
+      ran = ran_on parts s0 s t a0 a b Switched c.loop-rest.invariant.ran (goes_as_moves parts s t a b goes.ran);
+      procedure = ap (procedure_of parts) goes.stays ∙ c.loop-rest.invariant.procedure;
+      top = root_kept parts s t a b Here c.args.top goes.ran c.loop-rest.invariant.top;
+      rest = take_rest c.loop-rest.rest.now 1 ∙ ap (drop 1) c.loop-rest.invariant.rest ∙ drop-drop 1 c.loop-rest.frame.at instrs ∙ ap (λ (i : ℕ). drop i instrs) (sym next);
     }
 
-pub returns-then-not-on-clause-ran : goal.returns-then-not-on-clause-ran
-returns-then-not-on-clause-ran g c =
+pub loop-rest-preserved : goal.loop-rest-preserved
+loop-rest-preserved g c =
     let parts = c.args.code.now in
     let s0 = g.H.HeapAt.state c.args.heap.now in
     let a0 = whole c.args.standing.now c.args.frame.now c.args.left.now in
-    let s = g.H.HeapAt.state c.loop-on.heap in
-    let a = whole c.loop-on.standing c.loop-on.frame c.loop-on.left in
+    let s = g.H.HeapAt.state c.loop-rest.heap in
+    let a = whole c.loop-rest.standing c.loop-rest.frame c.loop-rest.left in
+    let t = g.H.HeapAt.state c.step.new.heap in
+    let b = whole c.step.new.standing c.step.new.frame c.step.new.left in
+    let goes : StaysOn parts s a t b = subst (λ (x : Flow). GoesOn parts s a x c.step.new.out t b) c.in-Here.is c.in_ok-step.ensures.on in
+    let instrs : List Instr = c.args.procedure.now.instructions in
+    record {
+      ran = ran_on parts s0 s t a0 a b Switched c.loop-rest.invariant.ran (goes_as_moves parts s t a b goes.ran);
+      procedure = ap (procedure_of parts) goes.stays ∙ c.loop-rest.invariant.procedure;
+      top = root_kept parts s t a b Here c.args.top goes.ran c.loop-rest.invariant.top;
+      rest = ap (λ (is : List Instr). take (length is - c.step.new.frame.at) (drop c.step.new.frame.at is)) c.as_slice-instrs.ensures ∙ take_rest instrs c.step.new.frame.at;
+    }
+
+pub returns-in-Out-clause-ran : goal.returns-in-Out-clause-ran
+returns-in-Out-clause-ran g c =
+    let parts = c.args.code.now in
+    let s0 = g.H.HeapAt.state c.args.heap.now in
+    let a0 = whole c.args.standing.now c.args.frame.now c.args.left.now in
+    let s = g.H.HeapAt.state c.loop-rest.heap in
+    let a = whole c.loop-rest.standing c.loop-rest.frame c.loop-rest.left in
     let t = g.H.HeapAt.state c.step.new.heap in
     let b = whole c.step.new.standing c.step.new.frame c.step.new.left in
     let out = c.step.new.out in
-    let goes : Leaves parts s a out t b = subst (λ (on : Bool). GoesOn parts s a on out t b) c.if-not-on.true c.in_ok-on.ensures.on in
-    leaves_on parts s0 s t a0 a b out c.loop-on.invariant.ran (c.loop-on.invariant.procedure ∙ sym c.requires.procedure) goes
+    let goes : Leaves parts s a out t b = subst (λ (x : Flow). GoesOn parts s a x out t b) c.in-Out.is c.in_ok-step.ensures.on in
+    leaves_on parts s0 s t a0 a b out c.loop-rest.invariant.ran (c.loop-rest.invariant.procedure ∙ sym c.requires.procedure) goes
 
-pub returns-in_err-on-clause-reads : goal.returns-in_err-on-clause-reads
-returns-in_err-on-clause-reads g c =
+pub returns-in_err-step-clause-reads : goal.returns-in_err-step-clause-reads
+returns-in_err-step-clause-reads g c =
     let parts = c.args.code.now in
     let a0 = whole c.args.standing.now c.args.frame.now c.args.left.now in
-    let a = whole c.loop-on.standing c.loop-on.frame c.loop-on.left in
-    on_err c.from_residual.result (reads_on parts c.requires.valid (g.H.HeapAt.state c.args.heap.now) (g.H.HeapAt.state c.loop-on.heap) a0 a c.requires.running (g.H.HeapAt.state c.step.new.heap) c.loop-on.invariant.ran c.in_err-on.ensures.reads)
+    let a = whole c.loop-rest.standing c.loop-rest.frame c.loop-rest.left in
+    on_err c.from_residual.result (reads_on parts c.requires.valid (g.H.HeapAt.state c.args.heap.now) (g.H.HeapAt.state c.loop-rest.heap) a0 a c.requires.running (g.H.HeapAt.state c.step.new.heap) c.loop-rest.invariant.ran c.in_err-step.ensures.reads)

@@ -112,7 +112,7 @@ returns-in-Charge-clause-acted g c =
     let parts = c.args.code.now in
     came_acted c.flow_of.ensures.came
     (subst (λ (i : Instr). Acted parts s a i c.take_charge.result s (record a { left = c.take_charge.new.left; current = c.take_charge.new.frame })) (sym c.in-Charge.is)
-    (charged_acted parts s a c.requires.running.live c.in-Charge.line c.take_charge.result c.take_charge.new.left c.take_charge.new.frame c.take_charge.ensures))
+    (charged_acted parts s a c.requires.running.live c.in-Charge.line c.take_charge.result c.take_charge.new.left c.take_charge.new.frame c.take_charge.ensures.charged))
 
 pub returns-in-Jumpeq-clause-acted : goal.returns-in-Jumpeq-clause-acted
 returns-in-Jumpeq-clause-acted g c =
