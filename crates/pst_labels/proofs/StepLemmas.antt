@@ -3,8 +3,8 @@ use Rattle.std.proofs.lemmas.Bool.{cases_lt, cases_eq, lt-ltb, le-ltb}
 use Rattle.std.proofs.lemmas.Option.{slice_get-get_or, slice_get_past}
 use Rattle.std.proofs.lemmas.List.{get_or_append_left, get_or_push, drop_more, get_or-take}
 use Rattle.pst_order.specs.Places.{rank, IsIn, AreDistinct, IsInsertedAfter}
-use Rattle.pst_labels.specs.Labels.{Labelled, circle, ahead, label_of, around, offset, reach, spread, with_room, gap, labels_after, walk, IsRound, AreLinked, IsRing}
-use Rattle.pst_labels.proofs.NumberLemmas.{ahead_self, circle_is}
+use Rattle.pst_labels.specs.Labels.{Labelled, circle, ahead, label_of, around, reach, spread, with_room, gap, labels_after, walk, IsRound, AreLinked, IsRing}
+use Rattle.pst_labels.proofs.NumberLemmas.{ahead_self}
 use Rattle.pst_labels.proofs.ListLemmas.{get-rank, rank_le, length-walk, walk_step}
 use Rattle.pst_labels.proofs.RingLemmas.{circle_some, IsReached}
 use Rattle.pst_labels.proofs.InsertLemmas.{IsCircleFrom, circle_from, reached, IsDone, done}
@@ -31,9 +31,6 @@ ring_one next labels e f =
       round = ((refl, tt), omega (arith, a));
     } in
     subst (λ (ls : List ℕ). IsRing next ls) (sym f) (subst (λ (ns : List ℕ). IsRing ns (0 ∷ [])) (sym e) r)
-
-pub offset_is : (labels : List ℕ) (p x y : ℕ) → x ≡ label_of labels p → y ≡ label_of labels 0 → (x + 4611686018427387904 - y) % 4611686018427387904 ≡ offset labels p
-offset_is labels p x y e f = ap (λ (m : ℕ). (x + m - y) % m) (sym circle_is) ∙ ap₂ (λ (a b : ℕ). (a + circle - b) % circle) e f
 
 first_rank : (next : List ℕ) (n : ℕ) → 0 < n → rank (walk next n 0) 0 ≡ 0
 first_rank next zero l = absurd (omega arith)

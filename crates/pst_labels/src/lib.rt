@@ -129,7 +129,7 @@ impl Order for LabelOrder {
     }
 
     fn before(&self, a: Pos, b: Pos) -> bool {
-        offset(&self.labels, a) < offset(&self.labels, b)
+        fourfold_offset(&self.labels, a) < fourfold_offset(&self.labels, b)
     }
 
     fn follows(&self, a: Pos, b: Pos) -> bool {
@@ -147,13 +147,15 @@ impl Walked for LabelOrder {
     }
 }
 
-// How far a place's label is from the first one's.
-fn offset(labels: &[u64], place: Pos) -> u64
+// Four times how far a place's label is from the first one's: what lies beyond the circle then falls off a number of 64 bits, and
+// a comparison needs no remainder.
+#[inline(always)]
+fn fourfold_offset(labels: &[u64], place: Pos) -> u64
     requires low { AreBelow circle labels.now }
     requires place { place.0 < length labels.now }
-    ensures { result ≡ offset_of labels.now place.0 }
+    ensures { result ≡ 4 * offset_of labels.now place.0 }
 {
-    (labels[place.0 as usize] + CIRCLE - labels[0]) % CIRCLE
+    (labels[place.0 as usize] + CIRCLE - labels[0]) << 2
 }
 
 // The way round the circle from one label to another: the whole circle, from a label to itself.
