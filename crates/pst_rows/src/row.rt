@@ -149,6 +149,9 @@ impl Row {
         ensures list { P.list compare.new ≡ P.list compare.old }
         ensures calls { IsFewMore (stamped_in self.now slot.0) (P.calls compare.old) (P.calls compare.new) }
     {
+        if self.cells.is_bare(slot) {
+            return self.cells.base(slot);
+        }
         let (start, stop) = self.part(slot);
         if start < stop {
             let stamps = self.cells.stamps();
@@ -319,13 +322,7 @@ impl Row {
         ensures start { result.0 ≡ before_slot self.now.cells.stamps slot.0 }
         ensures stop { result.1 ≡ before_slot self.now.cells.stamps (slot.0 + 1) }
     {
-        let slot = usize::from(slot.0);
-        let stop = if slot + 1 < self.cells.width() {
-            self.cells.start(slot + 1) as usize
-        } else {
-            self.cells.len()
-        };
-        (self.cells.start(slot) as usize, stop)
+        self.cells.part(slot)
     }
 
     // Where a slot's stamps are, and which of them are not after a place.
