@@ -1,5 +1,5 @@
 -- What a contract sees of the slots and stamps of a row.
-use Rattle.std.specs.Prelude.{◌≡◌, ℕ, ◌+◌, ◌-◌, ◌^◌, ◌<◌, ◌≤◌, List, ◌++◌, length, map, take, drop, set, get_or}
+use Rattle.std.specs.Prelude.{◌≡◌, ℕ, ◌+◌, ◌-◌, ◌^◌, ◌<◌, ◌≤◌, List, ◌++◌, length, map, take, drop, get_or}
 use Rattle.pst_rows.specs.declared.content.Content.TheVariants.{Null}
 use Rattle.pst_rows.specs.Slots.{SlotValue}
 use Rattle.pst_rows.specs.Stamps.{StampValue}

@@ -1,4 +1,4 @@
-use Rattle.std.proofs.Common.{◌≡◌, true, sym, ◌∙◌}
+use Rattle.std.proofs.Common.{sym, ◌∙◌}
 use Rattle.std.proofs.lemmas.Bool.{eqb-true}
 use Rattle.pst_rows.proofs.EndLemmas.{head-part-in, bare-part}
 use Rattle.pst_rows.proofs.cells.Cells.is_bare.Goals as goal

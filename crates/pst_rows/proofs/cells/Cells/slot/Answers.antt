@@ -1,9 +1,9 @@
-use Rattle.std.proofs.Common.{◌≡◌, ◌<◌, ◌-◌, ℕ, List, ◌++◌, length, get_or, drop, set, ap, ◌∙◌, arith}
+use Rattle.std.proofs.Common.{◌≡◌, ◌<◌, ◌-◌, List, ◌++◌, length, get_or, ap, ◌∙◌, arith}
 use Rattle.pst_rows.specs.declared.content.Stamp.{Stamp}
 use Rattle.pst_rows.specs.Slots.{SlotValue as Slot}
 use Rattle.pst_rows.specs.Cells.{CellsValue, slot_kept, head_size}
 use Rattle.pst_rows.specs.Values.{no_slot}
-use Rattle.pst_rows.proofs.CellLemmas.{slots_in, width-is, slot-head, slot-list}
+use Rattle.pst_rows.proofs.CellLemmas.{slots_in, width-is, slot-list}
 use Rattle.pst_rows.proofs.cells.Cells.slot.Goals as goal
 
 pub returns-else-slot-lt-HEAD : goal.returns-else-slot-lt-HEAD

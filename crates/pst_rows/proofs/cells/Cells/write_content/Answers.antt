@@ -1,9 +1,8 @@
-use Rattle.std.proofs.Common.{◌≡◌, ◌<◌, ◌≤◌, ◌+◌, ◌-◌, ℕ, List, ◌++◌, length, get_or, drop, map, set, length-drop, ap, ap₂, ◌∙◌, arith}
+use Rattle.std.proofs.Common.{◌≡◌, ◌+◌, ◌-◌, List, ◌++◌, get_or, drop, map, set, ap, ap₂, ◌∙◌, arith}
 use Rattle.pst_base.specs.declared.names.SlotNo.{SlotNo}
 use Rattle.pst_order.specs.declared.order.Pos.{Pos}
 use Rattle.pst_rows.specs.declared.content.Stamp.{Stamp}
 use Rattle.pst_rows.specs.Cells.{CellsValue, slot_kept, head_size}
-use Rattle.pst_rows.specs.Steps.{with_content}
 use Rattle.pst_rows.proofs.CellLemmas.{slots_in, head-set_stamp, stamps-set, set-content}
 use Rattle.pst_rows.proofs.cells.Cells.write_content.Goals as goal
 

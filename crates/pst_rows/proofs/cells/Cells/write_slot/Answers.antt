@@ -1,7 +1,7 @@
-use Rattle.std.proofs.Common.{◌≡◌, ◌<◌, ℕ, List, ◌++◌, length, get_or, drop, set, ap, ◌∙◌, arith}
+use Rattle.std.proofs.Common.{◌≡◌, ◌<◌, List, ◌++◌, length, set, ap, ◌∙◌, arith}
 use Rattle.pst_rows.specs.declared.content.Stamp.{Stamp}
 use Rattle.pst_rows.specs.Slots.{SlotValue as Slot}
-use Rattle.pst_rows.specs.Cells.{CellsValue, slot_kept}
+use Rattle.pst_rows.specs.Cells.{CellsValue}
 use Rattle.pst_rows.proofs.CellLemmas.{slots_in, width-is, write-head, write-list}
 use Rattle.pst_rows.proofs.EndLemmas.{slot-in, sound-set}
 use Rattle.pst_rows.proofs.cells.Cells.write_slot.Goals as goal
