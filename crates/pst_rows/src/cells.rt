@@ -4,7 +4,7 @@ ghost use Rattle.std.specs.Prelude.{◌≡◌, ◌+◌, ◌-◌, ◌^◌, ◌<�
 ghost use Rattle.std.specs.List.{insert as inserted};
 ghost use Rattle.smallvec.specs.SmallVec.{HasRoomFor};
 ghost use Rattle.pst_rows.specs.Stamps.{at_place};
-ghost use Rattle.pst_rows.specs.Cells.{slot_kept, no_cell, IsPart, IsBare, IsMarked};
+ghost use Rattle.pst_rows.specs.Cells.{head_size, slot_kept, no_cell, IsPart, IsBare, IsMarked};
 ghost use Rattle.pst_rows.specs.Values.{no_slot};
 ghost use Rattle.pst_rows.specs.Parts.{bare_slot, HasStart};
 ghost use Rattle.pst_rows.specs.Steps.{with_content, with_base};
@@ -193,6 +193,7 @@ impl Cells {
     }
 
     /// Puts a slot behind the others, as long as there are no stamps. `NoMemory` where there is no memory for it.
+    #[inline(always)]
     pub fn push_slot(&mut self, content: Content) -> Result<(), NoMemory>
         requires { self.old.stamps ≡ [] }
         ensures slots { OnOk result (self.new.slots ≡ self.old.slots ++ bare_slot content ∷ []) }
@@ -203,8 +204,20 @@ impl Cells {
             self.head[slot] = slot_stamp(content, 0);
             self.width += 1;
             mark_end(&mut self.head, self.width, 0);
-            return Ok(());
+            Ok(())
+        } else {
+            self.push_behind(content)
         }
+    }
+
+    // Puts a slot behind the others where the head is full.
+    #[inline(never)]
+    fn push_behind(&mut self, content: Content) -> Result<(), NoMemory>
+        requires full { head_size ≤ length self.old.slots }
+        requires none { self.old.stamps ≡ [] }
+        ensures slots { OnOk result (self.new.slots ≡ self.old.slots ++ bare_slot content ∷ []) }
+        ensures stamps { self.new.stamps ≡ [] }
+    {
         reserve(&mut self.list, 1)?;
         self.list.push_reserved(slot_stamp(content, 0));
         self.width += 1;
@@ -332,7 +345,7 @@ fn mark_end(head: &mut [Stamp; HEAD], width: u32, count: usize)
 {
     let end = width as usize;
     if end < HEAD {
-        head[end] = slot_stamp(Content::Null, count as u32);
+        set_place(head, end, Pos(count as u32));
     }
 }
 
