@@ -1,4 +1,5 @@
 -- What a contract sees of a stamped value.
+use Rattle.std.specs.Prelude.{ℕ, ◌+◌}
 use Rattle.pst_base.specs.declared.names.SlotNo.{SlotNo}
 use Rattle.pst_order.specs.declared.order.Pos.{Pos}
 use Rattle.pst_rows.specs.declared.content.Content.{Content}
@@ -8,3 +9,7 @@ pub record StampValue : Type 0 where
   pub slot : SlotNo
   pub place : Pos
   pub content : Content
+
+-- the same, from a place with a number that is so much higher
+abbrev pub raised : StampValue → ℕ → StampValue
+raised s count = record { slot = s.slot; place = record { 0 = s.place.0 + count }; content = s.content }

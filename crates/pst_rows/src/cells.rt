@@ -187,6 +187,20 @@ impl Cells {
         insert(&mut self.list, at, stamp);
     }
 
+    /// Puts two stamps at an index, one in front of the other.
+    pub fn insert_two(&mut self, index: usize, first: Stamp, second: Stamp)
+        requires index { index ≤ length self.old.stamps }
+        requires room { length self.old.stamps + 2 ≤ self.old.capacity }
+        ensures slots { self.new.slots ≡ self.old.slots }
+        ensures stamps { self.new.stamps ≡ inserted (inserted self.old.stamps index second) index first }
+        ensures capacity { self.new.capacity ≡ self.old.capacity }
+        ensures most { self.new.capacity < 2 ^ 32 }
+    {
+        let _known_to_fit = self.list.len();
+        let at = behind(self.width) + index;
+        insert_two(&mut self.list, at, first, second);
+    }
+
     /// Gives a stamp another content.
     pub fn write_content(&mut self, index: usize, content: Content)
         requires { index < length self.old.stamps }
@@ -209,7 +223,7 @@ impl Cells {
     {
         let slot = usize::from(slot.0);
         let start = self.start(slot);
-        self.write_slot(slot, content, start);
+        self.write_slot(slot, slot_stamp(content, start));
     }
 
     /// Gives a slot another start.
@@ -220,21 +234,35 @@ impl Cells {
         ensures capacity { self.new.capacity ≡ self.old.capacity }
     {
         let content = self.slot(slot).content();
-        self.write_slot(slot, content, start);
+        self.write_slot(slot, slot_stamp(content, start));
     }
 
-    // Writes a slot anew.
-    fn write_slot(&mut self, slot: usize, content: Content, start: u32)
-        requires { slot < length self.old.slots }
-        ensures slots { self.new.slots ≡ set self.old.slots slot (record { content = content; start = start }) }
+    /// Gives a slot a start that is so much higher.
+    #[inline]
+    pub fn raise_start(&mut self, slot: usize, count: u32)
+        requires slot { slot < length self.old.slots }
+        requires few { (get_or self.old.slots slot no_slot).start + count < 2 ^ 32 }
+        ensures slots { HasStart self.old.slots self.new.slots slot ((get_or self.old.slots slot no_slot).start + count) }
         ensures stamps { self.new.stamps ≡ self.old.stamps }
         ensures capacity { self.new.capacity ≡ self.old.capacity }
     {
-        let stamp = slot_stamp(content, start);
+        let mut kept = *self.slot(slot);
+        kept.raise(count);
+        self.write_slot(slot, kept);
+    }
+
+    // Writes a slot anew.
+    #[inline(always)]
+    fn write_slot(&mut self, slot: usize, kept: Stamp)
+        requires { slot < length self.old.slots }
+        ensures slots { self.new.slots ≡ set self.old.slots slot (slot_kept kept) }
+        ensures stamps { self.new.stamps ≡ self.old.stamps }
+        ensures capacity { self.new.capacity ≡ self.old.capacity }
+    {
         if slot < HEAD {
-            self.head[slot] = stamp;
+            self.head[slot] = kept;
         } else {
-            write(&mut self.list, slot - HEAD, stamp);
+            write(&mut self.list, slot - HEAD, kept);
         }
     }
 }
@@ -268,6 +296,24 @@ fn insert(list: &mut List, index: usize, stamp: Stamp)
     ensures capacity { list.new.capacity ≡ list.old.capacity }
 {
     let _there_is_room = list.insert(index, stamp);
+}
+
+// Puts two into a list that has room.
+fn insert_two(list: &mut List, index: usize, first: Stamp, second: Stamp)
+    requires index { index ≤ length list.old.items }
+    requires room { HasRoomFor list.old 2 }
+    ensures items { list.new.items ≡ inserted (inserted list.old.items index second) index first }
+    ensures capacity { list.new.capacity ≡ list.old.capacity }
+{
+    let len = list.len();
+
+    // These two make the room, into which the later ones move.
+    list.push_reserved(first);
+    list.push_reserved(second);
+    let items = list.as_mut_slice();
+    items.copy_within(index..len, index + 2);
+    items[index] = first;
+    items[index + 1] = second;
 }
 
 // How many slots stand behind the head.

@@ -1,6 +1,7 @@
 //! What a row is made of.
 
-ghost use Rattle.std.specs.Prelude.{◌≡◌, ◌<◌};
+ghost use Rattle.std.specs.Prelude.{◌≡◌, ◌+◌, ◌^◌, ◌<◌};
+ghost use Rattle.pst_rows.specs.Stamps.{raised};
 
 use pst_base::{NodeId, SlotNo};
 use pst_order::Pos;
@@ -111,6 +112,21 @@ impl Stamp {
             StampKept::Target(_, _, node) => Content::Target(node),
             StampKept::Free(_, _) => Content::Free,
             StampKept::From(_, from, _, node) => Content::From(node, from),
+        }
+    }
+
+    /// Raises the number of the place. (Of a slot that is kept as a stamp it counts the stamps of earlier slots.)
+    #[inline]
+    pub(crate) fn raise(&mut self, count: u32)
+        requires { self.old.place.0 + count < 2 ^ 32 }
+        ensures { self.new ≡ raised self.old count }
+    {
+        match &mut self.kept {
+            StampKept::Number(_, place, _) => place.0 += count,
+            StampKept::Null(_, place) => place.0 += count,
+            StampKept::Target(_, place, _) => place.0 += count,
+            StampKept::Free(_, place) => place.0 += count,
+            StampKept::From(_, _, place, _) => place.0 += count,
         }
     }
 }
