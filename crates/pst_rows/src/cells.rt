@@ -251,6 +251,21 @@ impl Cells {
         mark_end(&mut self.head, self.width, self.list.len());
     }
 
+    /// Puts two stamps at an index, one in front of the other.
+    pub fn insert_two(&mut self, index: usize, first: Stamp, second: Stamp)
+        requires index { index ≤ length self.old.stamps }
+        requires room { length self.old.stamps + 2 ≤ self.old.capacity }
+        ensures slots { self.new.slots ≡ self.old.slots }
+        ensures stamps { self.new.stamps ≡ inserted (inserted self.old.stamps index second) index first }
+        ensures capacity { self.new.capacity ≡ self.old.capacity }
+        ensures most { self.new.capacity < 2 ^ 32 }
+    {
+        let _known_to_fit = self.list.len();
+        let at = self.behind as usize + index;
+        insert_two(&mut self.list, at, first, second);
+        mark_end(&mut self.head, self.width, self.list.len());
+    }
+
     /// Gives a stamp another content.
     pub fn write_content(&mut self, index: usize, content: Content)
         requires { index < length self.old.stamps }
@@ -335,6 +350,24 @@ fn insert(list: &mut List, index: usize, stamp: Stamp)
     ensures capacity { list.new.capacity ≡ list.old.capacity }
 {
     let _there_is_room = list.insert(index, stamp);
+}
+
+// Puts two into a list that has room.
+fn insert_two(list: &mut List, index: usize, first: Stamp, second: Stamp)
+    requires index { index ≤ length list.old.items }
+    requires room { HasRoomFor list.old 2 }
+    ensures items { list.new.items ≡ inserted (inserted list.old.items index second) index first }
+    ensures capacity { list.new.capacity ≡ list.old.capacity }
+{
+    let len = list.len();
+
+    // These two make the room, into which the later ones move.
+    list.push_reserved(first);
+    list.push_reserved(second);
+    let items = list.as_mut_slice();
+    items.copy_within(index..len, index + 2);
+    items[index] = first;
+    items[index + 1] = second;
 }
 
 // Marks the end behind so many slots with how many stamps there are, where it stands in the head.
