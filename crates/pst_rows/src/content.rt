@@ -103,7 +103,7 @@ impl Stamp {
 
     /// Gives it another place from where on it is held.
     #[inline]
-    pub fn set_place(&mut self, place: Pos)
+    pub(crate) fn set_place(&mut self, place: Pos)
         ensures { self.new ≡ at_place self.old place }
     {
         match &mut self.kept {
