@@ -4,7 +4,7 @@ use Rattle.std.proofs.lemmas.List.{take_all, map-append}
 use Rattle.pst_rows.specs.declared.content.Content.{Content}
 use Rattle.pst_rows.specs.declared.content.Stamp.{Stamp}
 use Rattle.pst_rows.specs.Slots.{SlotValue as Slot}
-use Rattle.pst_rows.specs.Cells.{slot_kept}
+use Rattle.pst_rows.specs.Cells.{slot_kept, head_size}
 use Rattle.pst_rows.specs.Steps.{with_content, with_base}
 
 -- the slots of a list whose first w are slots
@@ -16,7 +16,7 @@ length-slots_in zero xs l = refl
 length-slots_in (suc w) [] l = absurd (omega arith)
 length-slots_in (suc w) (x ∷ xs) l = ap suc (length-slots_in w xs (omega arith))
 
-pub width-is : (w : ℕ) (hs xs : List Stamp) → length hs ≡ 4 → w ≤ 4 + length xs → length (slots_in w (hs ++ xs)) ≡ w
+pub width-is : (w : ℕ) (hs xs : List Stamp) → length hs ≡ head_size → w ≤ head_size + length xs → length (slots_in w (hs ++ xs)) ≡ w
 width-is w hs xs n there = length-slots_in w (hs ++ xs) (omega (arith, length-append hs xs))
 
 pub slot_at : (w : ℕ) (xs : List Stamp) (g : ℕ) (d : Stamp) (e : Slot) → g < w → w ≤ length xs → get_or (slots_in w xs) g e ≡ slot_kept (get_or xs g d)
@@ -54,18 +54,18 @@ list-set (h ∷ hs) xs zero k e q = absurd (omega arith)
 list-set (h ∷ hs) xs (suc i) k e q = ap (λ (ys : List Stamp). h ∷ ys) (list-set hs xs i k e (omega arith))
 
 -- the slot with a number, in the head or behind it
-pub slot-head : (w : ℕ) (hs xs : List Stamp) (i : ℕ) (d : Stamp) (e : Slot) → length hs ≡ 4 → w ≤ 4 + length xs → i < w → i < 4 → slot_kept (get_or hs i d) ≡ get_or (slots_in w (hs ++ xs)) i e
+pub slot-head : (w : ℕ) (hs xs : List Stamp) (i : ℕ) (d : Stamp) (e : Slot) → length hs ≡ head_size → w ≤ head_size + length xs → i < w → i < head_size → slot_kept (get_or hs i d) ≡ get_or (slots_in w (hs ++ xs)) i e
 slot-head w hs xs i d e n there l m = sym (slot_at w (hs ++ xs) i d e l (omega (arith, length-append hs xs)) ∙ ap slot_kept (head-at hs xs i d (omega arith)))
 
-pub slot-list : (w : ℕ) (hs xs : List Stamp) (i : ℕ) (d : Stamp) (e : Slot) → length hs ≡ 4 → w ≤ 4 + length xs → i < w → 4 ≤ i → slot_kept (get_or xs (i - 4) d) ≡ get_or (slots_in w (hs ++ xs)) i e
-slot-list w hs xs i d e n there l m = sym (slot_at w (hs ++ xs) i d e l (omega (arith, length-append hs xs)) ∙ ap slot_kept (list-at hs xs i (i - 4) d (omega arith)))
+pub slot-list : (w : ℕ) (hs xs : List Stamp) (i : ℕ) (d : Stamp) (e : Slot) → length hs ≡ head_size → w ≤ head_size + length xs → i < w → head_size ≤ i → slot_kept (get_or xs (i - head_size) d) ≡ get_or (slots_in w (hs ++ xs)) i e
+slot-list w hs xs i d e n there l m = sym (slot_at w (hs ++ xs) i d e l (omega (arith, length-append hs xs)) ∙ ap slot_kept (list-at hs xs i (i - head_size) d (omega arith)))
 
 -- a slot is written, in the head or behind it
-pub write-head : (w : ℕ) (hs xs : List Stamp) (i : ℕ) (e : Stamp) (s : Slot) → length hs ≡ 4 → slot_kept e ≡ s → i < w → i < 4 → slots_in w (set hs i e ++ xs) ≡ set (slots_in w (hs ++ xs)) i s
+pub write-head : (w : ℕ) (hs xs : List Stamp) (i : ℕ) (e : Stamp) (s : Slot) → length hs ≡ head_size → slot_kept e ≡ s → i < w → i < head_size → slots_in w (set hs i e ++ xs) ≡ set (slots_in w (hs ++ xs)) i s
 write-head w hs xs i e s n is l m = ap (slots_in w) (head-set hs xs i e (omega arith)) ∙ slots-set w (hs ++ xs) i e l ∙ ap (set (slots_in w (hs ++ xs)) i) is
 
-pub write-list : (w : ℕ) (hs xs : List Stamp) (i : ℕ) (e : Stamp) (s : Slot) → length hs ≡ 4 → slot_kept e ≡ s → i < w → 4 ≤ i → slots_in w (hs ++ set xs (i - 4) e) ≡ set (slots_in w (hs ++ xs)) i s
-write-list w hs xs i e s n is l m = ap (slots_in w) (list-set hs xs i (i - 4) e (omega arith)) ∙ slots-set w (hs ++ xs) i e l ∙ ap (set (slots_in w (hs ++ xs)) i) is
+pub write-list : (w : ℕ) (hs xs : List Stamp) (i : ℕ) (e : Stamp) (s : Slot) → length hs ≡ head_size → slot_kept e ≡ s → i < w → head_size ≤ i → slots_in w (hs ++ set xs (i - head_size) e) ≡ set (slots_in w (hs ++ xs)) i s
+write-list w hs xs i e s n is l m = ap (slots_in w) (list-set hs xs i (i - head_size) e (omega arith)) ∙ slots-set w (hs ++ xs) i e l ∙ ap (set (slots_in w (hs ++ xs)) i) is
 
 -- where a stamp comes in behind the slots
 slots-insert : (w : ℕ) (xs : List Stamp) (i : ℕ) (e : Stamp) → w ≤ i → i ≤ length xs → take w (insert xs i e) ≡ take w xs
@@ -107,9 +107,9 @@ stamps-set (suc v) (x ∷ xs) (suc i) k e q = stamps-set v xs i k e (omega arith
 none_left : (v : ℕ) (xs : List Stamp) → v ≤ length xs → drop v xs ≡ [] → length xs ≡ v
 none_left v xs l none = omega (arith, ap length none, length-drop v xs)
 
-pub push-list : (w : ℕ) (hs xs : List Stamp) (e : Stamp) → length hs ≡ 4 → w ≤ 4 + length xs → 4 ≤ w → drop (w - 4) xs ≡ [] → slots_in (w + 1) (hs ++ (xs ++ e ∷ [])) ≡ slots_in w (hs ++ xs) ++ slot_kept e ∷ []
+pub push-list : (w : ℕ) (hs xs : List Stamp) (e : Stamp) → length hs ≡ head_size → w ≤ head_size + length xs → head_size ≤ w → drop (w - head_size) xs ≡ [] → slots_in (w + 1) (hs ++ (xs ++ e ∷ [])) ≡ slots_in w (hs ++ xs) ++ slot_kept e ∷ []
 push-list w hs xs e n there l none =
-    let k : length xs ≡ w - 4 = none_left (w - 4) xs (omega arith) none in
+    let k : length xs ≡ w - head_size = none_left (w - head_size) xs (omega arith) none in
     let all : take (w + 1) ((hs ++ xs) ++ e ∷ []) ≡ (hs ++ xs) ++ e ∷ [] = take_all (w + 1) ((hs ++ xs) ++ e ∷ []) (omega (arith, length-append hs xs, length-append (hs ++ xs) (e ∷ []))) in
     let old : take w (hs ++ xs) ≡ hs ++ xs = take_all w (hs ++ xs) (omega (arith, length-append hs xs)) in
     ap (slots_in (w + 1)) (sym (append_assoc hs xs (e ∷ [])))

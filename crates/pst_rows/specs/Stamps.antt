@@ -8,3 +8,7 @@ pub record StampValue : Type 0 where
   pub slot : SlotNo
   pub place : Pos
   pub content : Content
+
+-- the same content of the same slot, from another place on
+abbrev pub at_place : StampValue → Pos → StampValue
+at_place s place = record { slot = s.slot; place = place; content = s.content }

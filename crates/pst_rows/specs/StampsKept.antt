@@ -1,6 +1,5 @@
 -- The same stamped value in two layouts.
 use Rattle.std.specs.Prelude.{◌≡◌, ℕ, refl}
-use Rattle.pst_base.specs.declared.names.SlotNo.{SlotNo}
 use Rattle.pst_order.specs.declared.order.Pos.{Pos}
 use Rattle.pst_rows.specs.declared.content.Content.{Content}
 use Rattle.pst_rows.specs.declared.content.Content.TheVariants.{Number, Null, Target, Free, From}

@@ -1,9 +1,10 @@
 //! The slots and the stamped values of a row: some slots beside the life, and one list of the rest.
 
-ghost use Rattle.std.specs.Prelude.{◌≡◌, ◌+◌, ◌-◌, ◌^◌, ◌<◌, ◌≤◌, [], ◌∷◌, ◌++◌, IfOk, OnOk, OnErr, length, get_or, set};
+ghost use Rattle.std.specs.Prelude.{◌≡◌, ◌+◌, ◌-◌, ◌^◌, ◌<◌, ◌≤◌, [], ◌∷◌, ◌++◌, true, IfOk, OnOk, OnErr, length, get_or, set};
 ghost use Rattle.std.specs.List.{insert as inserted};
 ghost use Rattle.smallvec.specs.SmallVec.{HasRoomFor};
-ghost use Rattle.pst_rows.specs.Cells.{slot_kept};
+ghost use Rattle.pst_rows.specs.Stamps.{at_place};
+ghost use Rattle.pst_rows.specs.Cells.{head_size, slot_kept, no_cell, IsPart, IsBare, IsMarked};
 ghost use Rattle.pst_rows.specs.Values.{no_slot};
 ghost use Rattle.pst_rows.specs.Parts.{bare_slot, HasStart};
 ghost use Rattle.pst_rows.specs.Steps.{with_content, with_base};
@@ -24,14 +25,17 @@ const HEAD: usize = 4;
 // The slots behind the head and the stamps, of which up to two stand in the row itself.
 type List = SmallVec<Stamp, 2>;
 
-/// The slots of a row and its stamped values, in the order of slot and then place. The first four slots stand in the row, so that
-/// a read of them touches the node alone; a list has the other slots and behind them the stamped values, 16 bytes each. A slot is
-/// kept as a stamped value: in the place of its place stands how many stamped values there are of earlier slots, and there its
-/// own begin.
+/// The slots of a row and its stamped values, in the order of slot and then place. The first slots stand in the row, in its head,
+/// so that a read of them touches the node alone; a list has the other slots and behind them the stamped values, 16 bytes each. A
+/// slot is kept as a stamped value: in the place of its place stands how many stamped values there are of earlier slots, and there
+/// its own begin. Where the head has cells behind the slots, the first of them is the end: all stamped values are before it. So
+/// where the stamped values of a slot of the head end is read from the next cell, whether it is a slot or the end.
 #[derive(Drop)]
 pub struct Cells {
     width: u32,
-    head: [Stamp; 4],
+    // how many slots stand behind the head
+    behind: u32,
+    head: [Stamp; HEAD],
     list: List,
 }
 
@@ -42,7 +46,7 @@ impl Model for Cells {
 
     ghost view = { λ c. shown_cells c.width c.head c.list.items c.list.capacity };
 
-    ghost invariant = { λ c. AreSound c.width c.head c.list.items c.list.capacity };
+    ghost invariant = { λ c. AreSound c.width c.behind c.head c.list.items c.list.capacity };
 }
 
 impl Cells {
@@ -53,7 +57,8 @@ impl Cells {
     {
         let mut cells = Cells {
             width: 0,
-            head: [slot_stamp(Content::Null, 0); 4],
+            behind: 0,
+            head: [slot_stamp(Content::Null, 0); HEAD],
             list: SmallVec::new(alloc),
         };
         cells.reserve(count.saturating_sub(HEAD))?;
@@ -75,7 +80,7 @@ impl Cells {
         ensures fits { result ≤ self.now.capacity }
         ensures most { result < 2 ^ 32 }
     {
-        self.list.len() - behind(self.width)
+        self.list.len() - self.behind as usize
     }
 
     /// How many stamps need no memory.
@@ -85,7 +90,7 @@ impl Cells {
         ensures most { result < 2 ^ 32 }
     {
         let _known_to_fit = self.list.len();
-        self.list.capacity() - behind(self.width)
+        self.list.capacity() - self.behind as usize
     }
 
     /// The allocator.
@@ -112,12 +117,54 @@ impl Cells {
         self.slot(slot).place().0
     }
 
+    /// Where the stamps of a slot begin, and where they end.
+    #[inline(always)]
+    pub fn part(&self, slot: SlotNo) -> (usize, usize)
+        requires { slot.0 < length self.now.slots }
+        ensures { IsPart self.now slot.0 result.0 result.1 }
+    {
+        let slot = usize::from(slot.0);
+        if slot + 1 < HEAD {
+            (
+                self.head[slot].place().0 as usize,
+                self.head[slot + 1].place().0 as usize,
+            )
+        } else {
+            self.part_behind(slot)
+        }
+    }
+
+    /// Whether a slot is seen at once to have no stamps: it is one of the head, and not its last.
+    #[inline(always)]
+    pub fn is_bare(&self, slot: SlotNo) -> bool
+        requires { slot.0 < length self.now.slots }
+        ensures { result ≡ true → IsBare self.now slot.0 }
+    {
+        let slot = usize::from(slot.0);
+        slot + 1 < HEAD && self.head[slot].place() == self.head[slot + 1].place()
+    }
+
+    // Where the stamps of a slot begin and end, if it is the last of the head or behind it.
+    #[inline(never)]
+    fn part_behind(&self, slot: usize) -> (usize, usize)
+        requires { slot < length self.now.slots }
+        ensures { IsPart self.now slot result.0 result.1 }
+    {
+        let width = self.width();
+        let stop = if slot + 1 < width {
+            self.start(slot + 1) as usize
+        } else {
+            self.len()
+        };
+        (self.start(slot) as usize, stop)
+    }
+
     /// The stamps.
     #[inline(always)]
     pub fn stamps(&self) -> &[Stamp]
         ensures { result.now ≡ self.now.stamps }
     {
-        &self.list.as_slice()[behind(self.width)..]
+        &self.list.as_slice()[self.behind as usize..]
     }
 
     // A slot as it is kept.
@@ -146,6 +193,7 @@ impl Cells {
     }
 
     /// Puts a slot behind the others, as long as there are no stamps. `NoMemory` where there is no memory for it.
+    #[inline(always)]
     pub fn push_slot(&mut self, content: Content) -> Result<(), NoMemory>
         requires { self.old.stamps ≡ [] }
         ensures slots { OnOk result (self.new.slots ≡ self.old.slots ++ bare_slot content ∷ []) }
@@ -155,11 +203,25 @@ impl Cells {
         if slot < HEAD {
             self.head[slot] = slot_stamp(content, 0);
             self.width += 1;
-            return Ok(());
+            mark_end(&mut self.head, self.width, 0);
+            Ok(())
+        } else {
+            self.push_behind(content)
         }
+    }
+
+    // Puts a slot behind the others where the head is full.
+    #[inline(never)]
+    fn push_behind(&mut self, content: Content) -> Result<(), NoMemory>
+        requires full { head_size ≤ length self.old.slots }
+        requires none { self.old.stamps ≡ [] }
+        ensures slots { OnOk result (self.new.slots ≡ self.old.slots ++ bare_slot content ∷ []) }
+        ensures stamps { self.new.stamps ≡ [] }
+    {
         reserve(&mut self.list, 1)?;
         self.list.push_reserved(slot_stamp(content, 0));
         self.width += 1;
+        self.behind += 1;
         Ok(())
     }
 
@@ -170,6 +232,7 @@ impl Cells {
     {
         reserve(&mut self.list, 1)?;
         self.list.push_reserved(stamp);
+        mark_end(&mut self.head, self.width, self.list.len());
         Ok(())
     }
 
@@ -183,8 +246,24 @@ impl Cells {
         ensures most { self.new.capacity < 2 ^ 32 }
     {
         let _known_to_fit = self.list.len();
-        let at = behind(self.width) + index;
+        let at = self.behind as usize + index;
         insert(&mut self.list, at, stamp);
+        mark_end(&mut self.head, self.width, self.list.len());
+    }
+
+    /// Puts two stamps at an index, one in front of the other.
+    pub fn insert_two(&mut self, index: usize, first: Stamp, second: Stamp)
+        requires index { index ≤ length self.old.stamps }
+        requires room { length self.old.stamps + 2 ≤ self.old.capacity }
+        ensures slots { self.new.slots ≡ self.old.slots }
+        ensures stamps { self.new.stamps ≡ inserted (inserted self.old.stamps index second) index first }
+        ensures capacity { self.new.capacity ≡ self.old.capacity }
+        ensures most { self.new.capacity < 2 ^ 32 }
+    {
+        let _known_to_fit = self.list.len();
+        let at = self.behind as usize + index;
+        insert_two(&mut self.list, at, first, second);
+        mark_end(&mut self.head, self.width, self.list.len());
     }
 
     /// Gives a stamp another content.
@@ -196,7 +275,7 @@ impl Cells {
     {
         let written = self.stamps()[index];
         let stamp = Stamp::new(written.slot(), written.place(), content);
-        let at = behind(self.width) + index;
+        let at = self.behind as usize + index;
         write(&mut self.list, at, stamp);
     }
 
@@ -219,8 +298,11 @@ impl Cells {
         ensures stamps { self.new.stamps ≡ self.old.stamps }
         ensures capacity { self.new.capacity ≡ self.old.capacity }
     {
-        let content = self.slot(slot).content();
-        self.write_slot(slot, content, start);
+        if slot < HEAD {
+            set_place(&mut self.head, slot, Pos(start));
+        } else {
+            set_place(self.list.as_mut_slice(), slot - HEAD, Pos(start));
+        }
     }
 
     // Writes a slot anew.
@@ -270,12 +352,34 @@ fn insert(list: &mut List, index: usize, stamp: Stamp)
     let _there_is_room = list.insert(index, stamp);
 }
 
-// How many slots stand behind the head.
-#[inline(always)]
-fn behind(width: u32) -> usize
-    ensures { result ≡ width - 4 }
+// Puts two into a list that has room.
+fn insert_two(list: &mut List, index: usize, first: Stamp, second: Stamp)
+    requires index { index ≤ length list.old.items }
+    requires room { HasRoomFor list.old 2 }
+    ensures items { list.new.items ≡ inserted (inserted list.old.items index second) index first }
+    ensures capacity { list.new.capacity ≡ list.old.capacity }
 {
-    (width as usize).saturating_sub(HEAD)
+    let len = list.len();
+
+    // These two make the room, into which the later ones move.
+    list.push_reserved(first);
+    list.push_reserved(second);
+    let items = list.as_mut_slice();
+    items.copy_within(index..len, index + 2);
+    items[index] = first;
+    items[index + 1] = second;
+}
+
+// Marks the end behind so many slots with how many stamps there are, where it stands in the head.
+#[inline(always)]
+fn mark_end(head: &mut [Stamp; HEAD], width: u32, count: usize)
+    requires { count < 2 ^ 32 }
+    ensures { IsMarked head.old head.new width count }
+{
+    let end = width as usize;
+    if end < HEAD {
+        set_place(head, end, Pos(count as u32));
+    }
 }
 
 // A slot as it is kept.
@@ -283,6 +387,15 @@ fn slot_stamp(content: Content, start: u32) -> Stamp
     ensures { slot_kept result ≡ record { content = content; start = start } }
 {
     Stamp::new(SlotNo(0), Pos(start), content)
+}
+
+// Gives one of these another place.
+#[inline(always)]
+fn set_place(stamps: &mut [Stamp], index: usize, place: Pos)
+    requires { index < length stamps.old }
+    ensures { stamps.new ≡ set stamps.old index (at_place (get_or stamps.old index no_cell) place) }
+{
+    stamps[index].set_place(place);
 }
 
 // Writes one of a list anew.

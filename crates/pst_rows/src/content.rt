@@ -1,6 +1,7 @@
 //! What a row is made of.
 
 ghost use Rattle.std.specs.Prelude.{◌≡◌, ◌<◌};
+ghost use Rattle.pst_rows.specs.Stamps.{at_place};
 
 use pst_base::{NodeId, SlotNo};
 use pst_order::Pos;
@@ -97,6 +98,20 @@ impl Stamp {
             StampKept::Target(_, place, _) => place,
             StampKept::Free(_, place) => place,
             StampKept::From(_, _, place, _) => place,
+        }
+    }
+
+    /// Gives it another place from where on it is held.
+    #[inline]
+    pub(crate) fn set_place(&mut self, place: Pos)
+        ensures { self.new ≡ at_place self.old place }
+    {
+        match &mut self.kept {
+            StampKept::Number(_, kept, _) => *kept = place,
+            StampKept::Null(_, kept) => *kept = place,
+            StampKept::Target(_, kept, _) => *kept = place,
+            StampKept::Free(_, kept) => *kept = place,
+            StampKept::From(_, _, kept, _) => *kept = place,
         }
     }
 

@@ -7,7 +7,7 @@ ghost use Rattle.pst_rows.specs.Values.{before_slot};
 ghost use Rattle.pst_rows.specs.Parts.{value_of};
 ghost use Rattle.pst_rows.specs.Rows.{stamps_of, width_of, base_of, content_at, row_edge, stamped_count, stamped_in, spare_of, shown, IsRow, IsRowIn, IsInLife};
 ghost use Rattle.pst_rows.specs.Changes.{slot_count, first_content, IsNewRow, IsSegmentAround, IsSameRow, IsRowSet, IsRowCut, IsRowReplaced, IsRowSplit, IsSplitStamp, HasMore, needed, missing};
-ghost use Rattle.pst_rows.specs.Steps.{AreBounds, HasParts, IsLocated, IsStampAt, IsGap, IsInserted, IsRowPut, IsPutUnlessStamped, IsRowRestored, IsRowBegun, AreCellsBefore, AreCellsAfter, AreFirstSlots};
+ghost use Rattle.pst_rows.specs.Steps.{AreBounds, HasParts, IsLocated, IsInserted, AreInserted, IsBeginPlace, IsEndPlace, IsHeldBefore, IsWrittenBefore, AreCellsBefore, AreCellsAfter, AreFirstSlots};
 
 use crate::cells::Cells;
 use crate::content::{Content, Stamp};
@@ -149,6 +149,9 @@ impl Row {
         ensures list { P.list compare.new ≡ P.list compare.old }
         ensures calls { IsFewMore (stamped_in self.now slot.0) (P.calls compare.old) (P.calls compare.new) }
     {
+        if self.cells.is_bare(slot) {
+            return self.cells.base(slot);
+        }
         let (start, stop) = self.part(slot);
         if start < stop {
             let stamps = self.cells.stamps();
@@ -169,18 +172,7 @@ impl Row {
             (rank (O.places order.now) result.0.0) (rank (O.places order.now) result.1.0) }
     {
         let located = self.locate(&mut Counting::new(order), slot, at);
-        let stamps = self.cells.stamps();
-        let begin = if located.index == located.start {
-            self.lo
-        } else {
-            stamps[located.index - 1].place()
-        };
-        let end = if located.index == located.stop {
-            self.hi
-        } else {
-            stamps[located.index].place()
-        };
-        (begin, end)
+        (self.begin_of(located), self.end_of(located))
     }
 
     /// Sets a slot from a place to the one directly behind it: that stretch becomes a segment, and what the slot held
@@ -202,9 +194,25 @@ impl Row {
         ensures row { IsRowIn (O.places order.now) self.new }
         ensures more { HasMore (needed (rank (O.places order.now)) self.old slot.0 (rank (O.places order.now) from.0)) self.old self.new }
     {
-        let before = self.read(order, slot, from);
-        self.restore_behind(order, slot, to, before);
-        self.begin(order, slot, from, content);
+        let located = self.locate(&mut Counting::new(order), slot, from);
+        let begins = self.begin_of(located) == from;
+        if self.end_of(located) == to {
+            if begins {
+                self.write_held(located, slot, content);
+            } else {
+                self.insert(located.index, Stamp::new(slot, from, content));
+            }
+            return;
+        }
+        let before = self.held(located, slot);
+        if begins {
+            self.insert(located.index, Stamp::new(slot, to, before));
+            self.write_held(located, slot, content);
+        } else {
+            let set = Stamp::new(slot, from, content);
+            let restored = Stamp::new(slot, to, before);
+            self.insert_two(located.index, set, restored);
+        }
     }
 
     /// Cuts a segment in two at a place strictly inside it. The later part gets a content. It adds one stamped value.
@@ -219,7 +227,8 @@ impl Row {
         ensures more { HasMore 1 self.old self.new }
     {
         let located = self.locate(&mut Counting::new(order), slot, at);
-        self.insert(located.index, slot, at, content);
+        let stamp = Stamp::new(slot, at, content);
+        self.insert(located.index, stamp);
     }
 
     /// Gives the segment of a slot that covers a place another content. It adds no stamped value.
@@ -232,11 +241,7 @@ impl Row {
         ensures more { HasMore 0 self.old self.new }
     {
         let located = self.locate(&mut Counting::new(order), slot, at);
-        if located.index == located.start {
-            self.cells.write_base(slot, content);
-        } else {
-            self.cells.write_content(located.index - 1, content);
-        }
+        self.write_held(located, slot, content);
     }
 
     /// A place at which something is stamped, with at most half of the stamped values before it and at most half after
@@ -319,13 +324,7 @@ impl Row {
         ensures start { result.0 ≡ before_slot self.now.cells.stamps slot.0 }
         ensures stop { result.1 ≡ before_slot self.now.cells.stamps (slot.0 + 1) }
     {
-        let slot = usize::from(slot.0);
-        let stop = if slot + 1 < self.cells.width() {
-            self.cells.start(slot + 1) as usize
-        } else {
-            self.cells.len()
-        };
-        (self.cells.start(slot) as usize, stop)
+        self.cells.part(slot)
     }
 
     // Where a slot's stamps are, and which of them are not after a place.
@@ -347,100 +346,83 @@ impl Row {
         Located { start, index, stop }
     }
 
-    // The index of the stamp of a slot and place, or the one at which it can come in.
-    fn find<O: Order>(&self, order: &O, slot: SlotNo, place: Pos) -> Result<usize, usize>
-        requires row { IsRowIn (O.places order.now) self.now }
-        requires slot { slot.0 < width_of self.now }
-        requires place { IsIn (O.places order.now) place.0 }
-        ensures ok { IfOk result (λ i. IsStampAt (rank (O.places order.now)) self.now.cells.stamps i slot.0 (rank (O.places order.now) place.0)) }
-        ensures err { IfErr result (λ k. IsGap (rank (O.places order.now)) self.now.cells.stamps k slot.0 (rank (O.places order.now) place.0)) }
-    {
-        let located = self.locate(&mut Counting::new(order), slot, place);
-        if located.start < located.index {
-            let last = located.index - 1;
-            if self.cells.stamps()[last].place() == place {
-                return Ok(last);
-            }
-        }
-        Err(located.index)
-    }
-
     // Puts a stamp at an index.
-    fn insert(&mut self, index: usize, slot: SlotNo, place: Pos, content: Content)
+    fn insert(&mut self, index: usize, stamp: Stamp)
         requires parts { HasParts self.old }
-        requires slot { slot.0 < width_of self.old }
         requires index { index ≤ stamped_count self.old }
         requires spare { 1 ≤ spare_of self.old }
-        ensures { IsInserted self.old self.new index (record { slot = slot; place = place; content = content }) }
+        ensures { IsInserted self.old self.new index stamp }
     {
-        self.cells.insert(index, Stamp::new(slot, place, content));
-        raise_starts(&mut self.cells, slot);
+        self.cells.insert(index, stamp);
+        raise_starts(&mut self.cells, stamp.slot(), 1);
     }
 
-    // Stamps a content at a place, in the place of one that is stamped there.
-    fn put<O: Order>(&mut self, order: &O, slot: SlotNo, place: Pos, content: Content)
-        requires row { IsRowIn (O.places order.now) self.old }
-        requires slot { slot.0 < width_of self.old }
-        requires after { rank (O.places order.now) self.old.lo.0 < rank (O.places order.now) place.0 }
-        requires before { rank (O.places order.now) place.0 < rank (O.places order.now) self.old.hi.0 }
-        requires spare { 1 ≤ spare_of self.old }
-        ensures put { IsRowPut (rank (O.places order.now)) self.old self.new slot.0 (rank (O.places order.now) place.0) content }
-        ensures row { IsRowIn (O.places order.now) self.new }
-        ensures more { HasMore (missing (is_some (stamps_of (rank (O.places order.now)) self.old slot.0 (rank (O.places order.now) place.0)))) self.old self.new }
+    // Puts two stamps at an index.
+    fn insert_two(&mut self, index: usize, first: Stamp, second: Stamp)
+        requires parts { HasParts self.old }
+        requires index { index ≤ stamped_count self.old }
+        requires spare { 2 ≤ spare_of self.old }
+        ensures { AreInserted self.old self.new index first second }
     {
-        match self.find(order, slot, place) {
-            Ok(index) => self.cells.write_content(index, content),
-            Err(index) => self.insert(index, slot, place, content),
+        self.cells.insert_two(index, first, second);
+        raise_starts(&mut self.cells, first.slot(), 2);
+    }
+
+    // Where the segment of a slot begins that covers a located place.
+    #[inline(always)]
+    fn begin_of(&self, located: Located) -> Pos
+        requires low { located.start ≤ located.index }
+        requires within { located.index ≤ stamped_count self.now }
+        ensures { IsBeginPlace self.now located.start located.index result }
+    {
+        if located.index == located.start {
+            self.lo
+        } else {
+            self.cells.stamps()[located.index - 1].place()
         }
     }
 
-    // Stamps a content at a place, unless one is stamped there.
-    fn restore<O: Order>(&mut self, order: &O, slot: SlotNo, place: Pos, content: Content)
-        requires row { IsRowIn (O.places order.now) self.old }
-        requires slot { slot.0 < width_of self.old }
-        requires after { rank (O.places order.now) self.old.lo.0 < rank (O.places order.now) place.0 }
-        requires before { rank (O.places order.now) place.0 < rank (O.places order.now) self.old.hi.0 }
-        requires spare { 1 ≤ spare_of self.old }
-        ensures restored { IsPutUnlessStamped (rank (O.places order.now)) self.old self.new slot.0 (rank (O.places order.now) place.0) content }
-        ensures row { IsRowIn (O.places order.now) self.new }
-        ensures more { HasMore (missing (is_some (stamps_of (rank (O.places order.now)) self.old slot.0 (rank (O.places order.now) place.0)))) self.old self.new }
+    // Before which place the segment of a slot ends that covers a located place.
+    #[inline(always)]
+    fn end_of(&self, located: Located) -> Pos
+        requires high { located.index ≤ located.stop }
+        requires within { located.stop ≤ stamped_count self.now }
+        ensures { IsEndPlace self.now located.index located.stop result }
     {
-        match self.find(order, slot, place) {
-            Ok(_) => {}
-            Err(index) => self.insert(index, slot, place, content),
+        if located.index == located.stop {
+            self.hi
+        } else {
+            self.cells.stamps()[located.index].place()
         }
     }
 
-    // Restores a content at a place, unless the life ends there.
-    fn restore_behind<O: Order>(&mut self, order: &O, slot: SlotNo, to: Pos, content: Content)
-        requires row { IsRowIn (O.places order.now) self.old }
-        requires slot { slot.0 < width_of self.old }
-        requires after { rank (O.places order.now) self.old.lo.0 < rank (O.places order.now) to.0 }
-        requires before { rank (O.places order.now) to.0 ≤ rank (O.places order.now) self.old.hi.0 }
-        requires spare { 1 ≤ spare_of self.old }
-        ensures restored { IsRowRestored (rank (O.places order.now)) self.old self.new slot.0 (rank (O.places order.now) to.0) content }
-        ensures row { IsRowIn (O.places order.now) self.new }
-        ensures more { HasMore (missing (row_edge (rank (O.places order.now)) self.old slot.0 (rank (O.places order.now) to.0))) self.old self.new }
+    // What a slot holds at a located place.
+    #[inline(always)]
+    fn held(&self, located: Located, slot: SlotNo) -> Content
+        requires slot { slot.0 < width_of self.now }
+        requires low { located.start ≤ located.index }
+        requires within { located.index ≤ stamped_count self.now }
+        ensures { IsHeldBefore self.now slot.0 located.start located.index result }
     {
-        if to != self.hi {
-            self.restore(order, slot, to, content);
+        if located.index == located.start {
+            self.cells.base(slot)
+        } else {
+            self.cells.stamps()[located.index - 1].content()
         }
     }
 
-    // Sets what a slot holds from a place on: at the begin of the life that of the slot, and else a stamp.
-    fn begin<O: Order>(&mut self, order: &O, slot: SlotNo, from: Pos, content: Content)
-        requires row { IsRowIn (O.places order.now) self.old }
+    // Gives the segment of a slot that covers a located place another content.
+    #[inline(always)]
+    fn write_held(&mut self, located: Located, slot: SlotNo, content: Content)
         requires slot { slot.0 < width_of self.old }
-        requires life { IsInLife (O.places order.now) self.old from.0 }
-        requires spare { 1 ≤ spare_of self.old }
-        ensures begun { IsRowBegun (rank (O.places order.now)) self.old self.new slot.0 (rank (O.places order.now) from.0) content }
-        ensures row { IsRowIn (O.places order.now) self.new }
-        ensures more { HasMore (missing (row_edge (rank (O.places order.now)) self.old slot.0 (rank (O.places order.now) from.0))) self.old self.new }
+        requires low { located.start ≤ located.index }
+        requires within { located.index ≤ stamped_count self.old }
+        ensures { IsWrittenBefore self.old self.new slot.0 located.start located.index content }
     {
-        if from == self.lo {
+        if located.index == located.start {
             self.cells.write_base(slot, content);
         } else {
-            self.put(order, slot, from, content);
+            self.cells.write_content(located.index - 1, content);
         }
     }
 

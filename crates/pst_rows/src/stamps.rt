@@ -1,6 +1,6 @@
 //! Work on the lists of a row.
 
-ghost use Rattle.std.specs.Prelude.{◌≡◌, ◌-◌, ◌^◌, ◌<◌, [], nat_lt, All, OnOk, length, get_or, filter};
+ghost use Rattle.std.specs.Prelude.{◌≡◌, ◌+◌, ◌^◌, ◌<◌, [], nat_lt, All, OnOk, length, get_or, filter};
 ghost use Rattle.pst_order.specs.Places.{rank};
 ghost use Rattle.pst_rows.specs.Steps.{places_of, AreRaised, IsMiddleFrom};
 
@@ -118,15 +118,15 @@ pub fn put_after<O: Order>(
     Ok(())
 }
 
-/// Each slot behind one has one stamp more before it.
-pub fn raise_starts(cells: &mut Cells, slot: SlotNo)
-    requires few { All (λ s. s.start < 2 ^ 32 - 1) cells.old.slots }
-    ensures slots { AreRaised cells.old.slots cells.new.slots slot.0 }
+/// Each slot behind one has so many stamps more before it.
+pub fn raise_starts(cells: &mut Cells, slot: SlotNo, count: u32)
+    requires few { All (λ s. s.start + count < 2 ^ 32) cells.old.slots }
+    ensures slots { AreRaised cells.old.slots cells.new.slots slot.0 count }
     ensures stamps { cells.new.stamps ≡ cells.old.stamps }
     ensures capacity { cells.new.capacity ≡ cells.old.capacity }
 {
     for later in usize::from(slot.0) + 1..cells.width() {
         let start = cells.start(later);
-        cells.set_start(later, start + 1);
+        cells.set_start(later, start + count);
     }
 }

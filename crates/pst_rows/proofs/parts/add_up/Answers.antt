@@ -1,4 +1,4 @@
-use Rattle.std.proofs.Common.{◌≡◌, ◌<◌, List, length, refl, sym, ◌∙◌, arith}
+use Rattle.std.proofs.Common.{◌<◌, List, length, refl, sym, ◌∙◌, arith}
 use Rattle.pst_rows.specs.declared.content.Stamp.{Stamp}
 use Rattle.pst_rows.specs.Slots.{SlotValue as Slot}
 use Rattle.pst_rows.proofs.OfPartsLemmas.{IsSumMore, before_none, added_none, added_more, sum_more}

@@ -1,6 +1,5 @@
 use Rattle.std.proofs.Common.{List, sym, ◌∙◌, subst}
 use Rattle.pst_rows.specs.declared.content.Stamp.{Stamp}
-use Rattle.pst_rows.specs.Slots.{SlotValue as Slot}
 use Rattle.pst_rows.specs.Parts.{AreBare}
 use Rattle.pst_rows.specs.Steps.{AreRecounted}
 use Rattle.pst_rows.proofs.OfPartsLemmas.{bare, all_made}
