@@ -16,15 +16,6 @@ pub enum Register<R> {
     Reference(R),
 }
 
-/// What stands in the place of a number where a proof rules out that control comes: an element of an empty list. The compiler
-/// makes no code for it, and so none for the question that would lead here.
-#[inline(always)]
-fn ruled_out(none: &[i64]) -> i64
-    requires { ⊥ }
-{
-    none[0]
-}
-
 /// The number that is held.
 #[inline(always)]
 pub fn the_number<R: Copy>(v: Register<R>) -> i64
@@ -33,7 +24,12 @@ pub fn the_number<R: Copy>(v: Register<R>) -> i64
 {
     match v {
         Register::Number(n) => n,
-        Register::Null | Register::Reference(_) => ruled_out(&[]),
+        Register::Null | Register::Reference(_) => {
+            // A proof rules this out. The compiler makes no code for an element of an empty list, and so none for the question that
+            // would lead here.
+            let none: &[i64] = &[];
+            none[0]
+        }
     }
 }
 
