@@ -1,10 +1,8 @@
 //! The words of the language itself, and the names that a program can give.
 
-ghost use Rattle.std.specs.Prelude.{◌≡◌, position, map};
-ghost use Rattle.std.specs.Str.{bytes_eq};
+ghost use Rattle.std.specs.Prelude.{◌≡◌};
 ghost use Rattle.std.specs.List.{list_all};
 ghost use Rattle.pst_base.specs.Words.{
-  keywords,
   is_keyword,
   IsKeywordNumber,
   is_name,
@@ -13,30 +11,32 @@ ghost use Rattle.pst_base.specs.Words.{
   is_name_byte,
 };
 
-/// The keywords, in the order of their numbers.
-fn keywords() -> &'static [&'static [u8]]
-    ensures { map (λ keyword. keyword.now) result.now ≡ keywords }
-{
-    &[
-        b"record", b"val", b"ptr", b"root", b"proc", b"query", b"var", b"new", b"call", b"print",
-        b"if", b"else", b"while", b"return", b"null", b"and", b"or", b"not", b"int",
-    ]
-}
-
-/// Where a word stands first among others.
-fn place_among(words: &[&[u8]], word: &[u8]) -> Option<usize>
-    ensures { result ≡ position (λ other. bytes_eq other.now word.now) words.now }
-{
-    words.iter().position(|other| *other == word)
-}
-
 /// The number of the keyword that is spelled so, from 0 to 18, or None where it is none.
 pub fn keyword_number(word: &[u8]) -> Option<u8>
     ensures { IsKeywordNumber result word.now }
 {
-    let place = place_among(keywords(), word)?;
-    // (19 words, so the place is at most 18)
-    Some(place as u8)
+    match word {
+        b"record" => Some(0),
+        b"val" => Some(1),
+        b"ptr" => Some(2),
+        b"root" => Some(3),
+        b"proc" => Some(4),
+        b"query" => Some(5),
+        b"var" => Some(6),
+        b"new" => Some(7),
+        b"call" => Some(8),
+        b"print" => Some(9),
+        b"if" => Some(10),
+        b"else" => Some(11),
+        b"while" => Some(12),
+        b"return" => Some(13),
+        b"null" => Some(14),
+        b"and" => Some(15),
+        b"or" => Some(16),
+        b"not" => Some(17),
+        b"int" => Some(18),
+        _ => None,
+    }
 }
 
 /// Whether a word is a keyword.

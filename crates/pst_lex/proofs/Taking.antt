@@ -1,5 +1,5 @@
 -- Lemmas on taking the tokens of a text one after another.
-use Rattle.std.specs.Prelude.{◌≡◌, ◌==◌, ℕ, ◌<◌, ◌++◌, Bool, false, List, [], ◌∷◌, Err}
+use Rattle.std.specs.Prelude.{◌≡◌, ◌==◌, ℕ, ◌++◌, Bool, false, List, [], ◌∷◌, Err}
 use Rattle.std.proofs.Common.{refl, sym, ap, ◌∙◌, arith}
 use Rattle.pst_lex.specs.declared.types.Token.{Token}
 use Rattle.pst_lex.specs.declared.faults.LexFault.{LexFault}
@@ -49,8 +49,8 @@ pub looked_more : (text : List ℕ) (ts : List Token) (t : Token) (old new : Lex
 looked_more text ts t old new h p = lexed-append (λ r a l. (r ≡ new.rest.now) × (a ≡ new.at) × (l ≡ new.line)) text old.rest.now 0 1 old.at old.line ts (t ∷ []) h p
 
 -- all tokens were looked at
-pub looked_all : (text : List ℕ) (ts : List Token) (old new : Lexer) → Leaves text ts old.rest.now old.at old.line → EndsAt new.line old.rest.now old.at old.line → HasLexing text
-looked_all text ts old new h ends = (ts, new.line, lexed_ends (EndsAt new.line) text old.rest.now 0 1 old.at old.line ts h ends)
+pub looked_all : (text : List ℕ) (ts : List Token) (old : Lexer) (end : ℕ) → Leaves text ts old.rest.now old.at old.line → EndsAt end old.rest.now old.at old.line → HasLexing text
+looked_all text ts old end h ends = (ts, end, lexed_ends (EndsAt end) text old.rest.now 0 1 old.at old.line ts h ends)
 
 -- a fault stands behind those that were looked at
 pub looked_bad : (text : List ℕ) (ts : List Token) (old : Lexer) (f : LexFault) → Leaves text ts old.rest.now old.at old.line → FaultsAt f old.rest.now old.at old.line → Scans (Err f) text

@@ -4,7 +4,6 @@ use Rattle.std.proofs.Common.{refl, sym, ap, ◌∙◌, arith, subst, inl, inr}
 use Rattle.pst_lex.specs.declared.types.Token.{Token}
 use Rattle.pst_lex.specs.declared.types.TokenKind.{TokenKind}
 use Rattle.pst_lex.specs.declared.faults.LexFault.{LexFault}
-use Rattle.pst_lex.specs.declared.faults.LexFault.TheVariants as fault
 use Rattle.pst_lex.specs.Bytes.{gap, feeds}
 use Rattle.pst_lex.specs.Words.{Word, word_of}
 use Rattle.pst_lex.specs.Lexing.{IsToken, IsFault, LexedTo, EndsAt, FaultsAt, Lexes, Faults, LexedAs, words_of, Scans, AreWords, GivesNoFault, GivesFault}

@@ -7,7 +7,7 @@ ghost use Rattle.pst_lex.specs.Bytes.{gap_step as step, is_allowed as allowed, i
 pub fn is_white(b: u8) -> bool
     ensures { result ≡ white b }
 {
-    b == b'\t' || b == b'\n' || b == b'\r' || b == b' '
+    matches!(b, b'\t' | b'\n' | b'\r' | b' ')
 }
 
 /// A byte that may stand in a text: white space and the printable ASCII characters.
@@ -35,7 +35,12 @@ pub fn is_letter(b: u8) -> bool
 pub fn is_word(b: u8) -> bool
     ensures { result ≡ word b }
 {
-    is_letter(b) || is_digit(b)
+    if b >= b'a' {
+        // tried first, since most bytes of a word are small letters
+        b <= b'z'
+    } else {
+        is_letter(b) || is_digit(b)
+    }
 }
 
 /// Whether a comment is open behind one more byte between tokens, or nothing where the byte does not stand between tokens.
@@ -50,6 +55,9 @@ pub fn gap_step(inside: bool, b: u8) -> Option<bool>
         } else {
             None
         }
+    } else if b > b'#' {
+        // all the bytes of a word, and most of the others that begin a token
+        None
     } else if is_white(b) {
         Some(false)
     } else if b == b'#' {

@@ -97,18 +97,21 @@ step_of (Some kind) = Trap kind
 -- which is still due
 abbrev pub came_to : Flow → (out : Option Step) → Option Step
 came_to flow.Next out = Some Next
+came_to flow.Behind out = Some Next
 came_to flow.Here out = Some Here
 came_to flow.Out out = out
 
 -- where the frame does not go on
 abbrev pub IfOut : Flow → Type 0 → Type 0
 IfOut flow.Next p = Unit {0}
+IfOut flow.Behind p = Unit {0}
 IfOut flow.Here p = Unit {0}
 IfOut flow.Out p = p
 
 -- where the frame goes on behind the instruction
 abbrev pub IfNext : Flow → Type 0 → Type 0
 IfNext flow.Next p = p
+IfNext flow.Behind p = p
 IfNext flow.Here p = Unit {0}
 IfNext flow.Out p = Unit {0}
 
@@ -215,6 +218,7 @@ pub record StaysOn {P R : Type 0} (parts : Parts) (s : State P R) (a : Standing 
 -- what one instruction does, by how the frame goes on
 abbrev pub GoesOn : {P R : Type 0} → Parts → State P R → Standing P R → Flow → (out : Option Step) → State P R → Standing P R → Type 0
 GoesOn parts s a flow.Next out t b = StaysOn parts s a t b
+GoesOn parts s a flow.Behind out t b = StaysOn parts s a t b
 GoesOn parts s a flow.Here out t b = StaysOn parts s a t b
 GoesOn parts s a flow.Out out t b = Leaves parts s a out t b
 

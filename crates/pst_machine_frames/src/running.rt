@@ -185,6 +185,7 @@ fn go_on<H: HeapAt>(
             standing, frame, left, code, procedure, kinds, heap, top, instr, &mut out,
         )? {
             Flow::Next => rest = &rest[1..],
+            Flow::Behind => rest = &instrs[frame.at..],
             Flow::Here => rest = &instrs[frame.at..],
             Flow::Out => return Ok(out),
         }
@@ -225,6 +226,10 @@ fn step<H: HeapAt>(
             frame.at += 1;
             Ok(Flow::Next)
         }
+        Flow::Behind => {
+            frame.at += 1;
+            Ok(Flow::Behind)
+        }
         Flow::Here => Ok(Flow::Here),
         Flow::Out => Ok(Flow::Out),
     }
@@ -235,6 +240,9 @@ fn step<H: HeapAt>(
 enum Flow {
     /// Behind the instruction.
     Next,
+    /// Behind the instruction, on the way that jumps take. The compiler looks the next instruction up at the end of each one that
+    /// goes the other way, and not at one place for all, as long as no more than sixteen go it.
+    Behind,
     /// Where it stands.
     Here,
     /// Not at all: what the run came to is told beside, or that a call or a return is due.
@@ -255,6 +263,21 @@ fn flow_of(step: Step, out: &mut Option<Step>) -> Flow
             *out = Some(step);
             Flow::Out
         }
+    }
+}
+
+/// The same of an instruction that is seldom met or often jumps: where it goes on, it takes the way of jumps.
+#[inline(always)]
+fn flow_behind(step: Step, out: &mut Option<Step>) -> Flow
+    ensures came { came_to result out.new ≡ Some step }
+    ensures out { IfOut result (IsOff out.new) }
+    ensures next { IfNext result (step ≡ Step.Next) }
+{
+    match flow_of(step, out) {
+        Flow::Next => Flow::Behind,
+        Flow::Behind => Flow::Behind,
+        Flow::Here => Flow::Here,
+        Flow::Out => Flow::Out,
     }
 }
 
@@ -305,51 +328,51 @@ fn instruction<H: HeapAt>(
         Instr::Add(d, a, b) => Ok(flow_of(apply(frame, Op::Add, *d, *a, *b), out)),
         Instr::Sub(d, a, b) => Ok(flow_of(apply(frame, Op::Sub, *d, *a, *b), out)),
         Instr::Mul(d, a, b) => Ok(flow_of(apply(frame, Op::Mul, *d, *a, *b), out)),
-        Instr::Div(d, a, b) => Ok(flow_of(apply(frame, Op::Div, *d, *a, *b), out)),
+        Instr::Div(d, a, b) => Ok(flow_behind(apply(frame, Op::Div, *d, *a, *b), out)),
         Instr::Rem(d, a, b) => Ok(flow_of(apply(frame, Op::Rem, *d, *a, *b), out)),
-        Instr::Neg(d, a) => Ok(flow_of(negate(frame, *d, *a), out)),
+        Instr::Neg(d, a) => Ok(flow_behind(negate(frame, *d, *a), out)),
         Instr::Root(d, slot) => Ok(flow_of(
             root(heap, standing.place, top, frame, kinds, *d, *slot),
             out,
         )),
-        Instr::Setroot(slot, s) => Ok(flow_of(
+        Instr::Setroot(slot, s) => Ok(flow_behind(
             step_of(set_root(heap, standing.place, top, frame, *slot, *s)?),
             out,
         )),
-        Instr::Check(o) => Ok(flow_of(check(frame, *o), out)),
+        Instr::Check(o) => Ok(flow_behind(check(frame, *o), out)),
         Instr::Load(d, o, slot) => {
             Ok(flow_of(load(heap, standing.place, frame, kinds, *d, *o, *slot), out))
         }
-        Instr::Store(o, slot, s) => Ok(flow_of(
+        Instr::Store(o, slot, s) => Ok(flow_behind(
             step_of(store(heap, standing.place, frame, *o, *slot, *s)?),
             out,
         )),
-        Instr::Bound(i, elements) => Ok(flow_of(bound(frame, *i, *elements), out)),
+        Instr::Bound(i, elements) => Ok(flow_behind(bound(frame, *i, *elements), out)),
         Instr::Loadx(d, o, first, elements, i) => {
             let element = Element::new(*first, *elements, *i);
-            Ok(flow_of(
+            Ok(flow_behind(
                 load_element(heap, standing.place, frame, kinds, *d, *o, element),
                 out,
             ))
         }
         Instr::Storex(o, first, elements, i, s) => {
             let element = Element::new(*first, *elements, *i);
-            Ok(flow_of(
+            Ok(flow_behind(
                 step_of(store_element(heap, standing.place, frame, *o, element, *s)?),
                 out,
             ))
         }
         Instr::New(d, ty) => {
             let made = &mut standing.made;
-            Ok(flow_of(
+            Ok(flow_behind(
                 make(heap, standing.place, standing.run, made, frame, *d, *ty)?,
                 out,
             ))
         }
-        Instr::Print(s) => Ok(flow_of(print(&mut standing.printed, frame, *s)?, out)),
+        Instr::Print(s) => Ok(flow_behind(print(&mut standing.printed, frame, *s)?, out)),
         Instr::Jump(to) => Ok(flow_of(jump(frame, true, *to), out)),
-        Instr::Jumpeq(a, b, to) => Ok(flow_of(jump_equal(heap, frame, *a, *b, *to), out)),
-        Instr::Jumpne(a, b, to) => Ok(flow_of(jump_unequal(heap, frame, *a, *b, *to), out)),
+        Instr::Jumpeq(a, b, to) => Ok(flow_behind(jump_equal(heap, frame, *a, *b, *to), out)),
+        Instr::Jumpne(a, b, to) => Ok(flow_behind(jump_unequal(heap, frame, *a, *b, *to), out)),
         Instr::Jumplt(a, b, to) => Ok(flow_of(jump_less(frame, *a, *b, *to), out)),
         Instr::Jumple(a, b, to) => Ok(flow_of(jump_at_most(frame, *a, *b, *to), out)),
         Instr::Jumpgt(a, b, to) => Ok(flow_of(jump_less(frame, *b, *a, *to), out)),

@@ -1,6 +1,7 @@
 //! The instructions that stay in their frame and leave the heap alone.
 
-ghost use Rattle.std.specs.Prelude.{◌≡◌, neg_ℤ, int_lt, int_le};
+ghost use Rattle.std.specs.Prelude.{◌≡◌, ◌*ℤ◌, neg_ℤ, int_lt, int_le, FitsSigned, SomeIff};
+ghost use Rattle.std.specs.Int.{w64};
 ghost use Rattle.pst_base.specs.declared.names.Name.{Name};
 ghost use Rattle.pst_program.specs.declared.meaning.Value.{Value};
 ghost use Rattle.pst_program.specs.declared.meaning.Value.TheVariants as value;
@@ -201,7 +202,7 @@ fn operate(op: Op, n: i64, m: i64) -> Result<i64, TrapKind>
     match op {
         Op::Add => limited(n.checked_add(m)),
         Op::Sub => limited(n.checked_sub(m)),
-        Op::Mul => limited(n.checked_mul(m)),
+        Op::Mul => limited(product(n, m)),
         Op::Div => quotient(n, m),
         Op::Rem => remainder(n, m),
         // No operator that compares or decides is an instruction.
@@ -214,6 +215,14 @@ fn operate(op: Op, n: i64, m: i64) -> Result<i64, TrapKind>
         | Op::And
         | Op::Or => unreachable!(),
     }
+}
+
+/// The product, if it is a number of 64 bits. It is taken in 128 bits once, and not again in 64.
+#[inline(always)]
+fn product(n: i64, m: i64) -> Option<i64>
+    ensures { SomeIff result (FitsSigned w64 (n *ℤ m)) (n *ℤ m) }
+{
+    i64::try_from(i128::from(n) * i128::from(m)).ok()
 }
 
 /// The quotient, rounded towards zero.

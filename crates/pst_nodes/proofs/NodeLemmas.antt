@@ -1,14 +1,16 @@
-use Rattle.std.proofs.Common.{◌≡◌, ◌≢◌, ℕ, zero, suc, ◌+◌, ◌≤◌, ◌<◌, true, false, List, [], ◌∷◌, ◌++◌, length, get_or, set, map, Option, Some, refl, sym, ap, ◌∙◌, subst, ⊎_elim, arith, Bool}
-use Rattle.std.proofs.lemmas.Bool.{cases_eq, cases_lt}
+use Rattle.std.proofs.Common.{◌≡◌, ◌≢◌, ℕ, zero, suc, ◌+◌, ◌≤◌, ◌<◌, true, false, List, [], ◌∷◌, ◌++◌, length, get_or, set, map, Option, Some, refl, sym, ap, ◌∙◌, subst, ⊎_elim, arith, Bool, not}
+use Rattle.std.proofs.lemmas.Bool.{cases_eq, cases_lt, cases_Bool}
 use Rattle.std.specs.Option.{option_map}
 use Rattle.pst_order.specs.declared.order.Pos.{Pos}
-use Rattle.std.proofs.lemmas.List.{get_or-set_same, get_or-set_other, get_or_default, length-set, length-map, get_or-map, get_or_past, get_or_push, get_or_append_left, length_push}
+use Rattle.std.proofs.lemmas.List.{set-get_or, get_or-set_same, get_or-set_other, get_or_default, length-set, length-map, get_or-map, get_or_past, get_or_push, get_or_append_left, length_push}
 use Rattle.pst_rows.specs.declared.row.Row.{Row}
 use Rattle.pst_rows.specs.declared.content.Content.{Content}
 use Rattle.pst_order.specs.Places.{rank}
 use Rattle.pst_rows.specs.Values.{RowValue, edge_in, content_in, IsValue, IsValueSet, IsValueCut, IsValueReplaced, IsValueSplit}
 use Rattle.pst_rows.specs.Rows.{IsRow, content_at, row_edge, shown, width_of, stamped_count}
-use Rattle.pst_rows.specs.Changes.{slot_count, IsRowCut, IsRowSet, IsRowReplaced, IsRowSplit, IsSameRow, missing, needed, IsSegmentAround}
+use Rattle.pst_rows.specs.Changes.{slot_count, IsRowCut, IsRowSet, IsRowReplaced, IsRowSplit, IsSameRow, HasMore, missing, needed, IsSegmentAround}
+use Rattle.pst_mirror.specs.Mirror.{Chart, is_there}
+use Rattle.pst_mirror.proofs.MirrorLemmas.{there_is}
 use Rattle.pst_mirror.specs.Charts.{AllRows, IsSlotSet, HasOneEdgeMore, chart_of, row_holds, IsMovedApart}
 use Rattle.pst_mirror.specs.Segments.{IsSegmentOf}
 use Rattle.pst_nodes.specs.Arena.{HasRoom, IsTyped, type_of, rows_of, values_of, no_frame, row_at, Frame, frame_of, frame_at, link_at, lo_at, hi_at, AreRows, chart, lives, IsAlive, IsSlot, IsSegmentAt}
@@ -332,10 +334,68 @@ cut_in_two_at qs ns x z node left right there read s is_z h l r o p all =
       parts_rows qs ns x node left right there read s h (ap name l) (ap ty l) behind (ap link l) (ap name r) (ap ty r) (ap later r) (ap link r) o p all,
     )
 
--- inside a segment
-module _ (qs : List ℕ) (ns : List Node) (x : ℕ) (node : Node) (there : x < length ns) (read : node ≡ get_or ns x node) (slot n : ℕ) (all : AreRows qs ns) (is : IsSlot qs ns x slot n) (inside : (chart qs ns).edge x slot n ≡ false) where
-  pub not_edge : row_edge (rank qs) node.row slot n ≡ false
-  not_edge = subst (λ (w : Row). row_edge (rank qs) w slot n ≡ false) (the_row ns x node there read node.row) (edge_is qs ns x slot n node.row all is n ∙ inside)
+-- an edge of the row of a node is one of the chart
+pub node_edge : (qs : List ℕ) (ns : List Node) (x : ℕ) (node : Node) (there : x < length ns) (read : node ≡ get_or ns x node) (slot n : ℕ) → AreRows qs ns → IsSlot qs ns x slot n → (m : ℕ) → row_edge (rank qs) node.row slot m ≡ (chart qs ns).edge x slot m
+node_edge qs ns x node there read slot n all is m = subst (λ (w : Row). row_edge (rank qs) w slot m ≡ (chart qs ns).edge x slot m) (the_row ns x node there read node.row) (edge_is qs ns x slot n node.row all is m)
+
+pub missing_few : (b : Bool) → missing b ≤ 1
+missing_few b = elim b as (λ b. missing b ≤ 1) [ true ↦ omega arith | false ↦ omega arith ]
+
+-- a segment that is to begin at a position, where one begins or not
+module _ (qs : List ℕ) (ns : List Node) (x : ℕ) (node : Node) (there : x < length ns) (read : node ≡ get_or ns x node) (slot n : ℕ) (all : AreRows qs ns) (is : IsSlot qs ns x slot n) (new : Row) (begun : Bool)
+    (free : begun ≡ not (row_edge (rank qs) node.row slot n)) (cut : begun ≡ true → IsRowCut (rank qs) node.row new slot n (content_at (rank qs) node.row slot n)) (same : begun ≡ false → new ≡ node.row) (more : HasMore (missing (row_edge (rank qs) node.row slot n)) node.row new) where
+  abbrev after : List Node
+  after = set ns x (record { header = node.header; row = new })
+
+  pub begun_same : begun ≡ false → after ≡ ns
+  begun_same e = ap (λ (w : Row). set ns x (record { header = node.header; row = w })) (same e) ∙ ap (set ns x) read ∙ set-get_or ns x node
+
+  pub begun_edge : begun ≡ not ((chart qs ns).edge x slot n)
+  begun_edge = free ∙ ap not (node_edge qs ns x node there read slot n all is n)
+
+  pub begun_cut : HasOneEdgeMore (chart qs ns) (chart qs after) x slot n
+  begun_cut =
+      ⊎_elim
+      (λ (e : begun ≡ true). slot_cut qs ns x node there read (record { header = node.header; row = new }) slot n (content_at (rank qs) node.row slot n) (cut e) refl)
+      (λ (e : begun ≡ false). subst (λ (ms : List Node). HasOneEdgeMore (chart qs ns) (chart qs ms) x slot n) (sym (begun_same e)) (edge_there (chart qs ns) x slot n (not_false ((chart qs ns).edge x slot n) (sym begun_edge ∙ e))))
+      (cases_Bool begun)
+    where
+      not_false : (b : Bool) → not b ≡ false → b ≡ true
+      not_false true e = refl
+      not_false false e = cc
+
+      edge_there : (w : Chart) (i g m : ℕ) → w.edge i g m ≡ true → HasOneEdgeMore w w i g m
+      edge_there w i g m e = record {
+        holds = λ j h k. refl;
+        edges = λ j h k. ⊎_elim
+            (λ (q : is_there i g m j h k ≡ true). let p = there_is i g m j h k q in rw q (rw (p.0, p.1, p.2) e))
+            (λ (q : is_there i g m j h k ≡ false). rw q refl)
+            (cases_Bool (is_there i g m j h k));
+      }
+
+  -- in both cases the life and the width stay
+  frame_kept : (new.lo.0 ≡ node.row.lo.0) × (new.hi.0 ≡ node.row.hi.0) × (width_of new ≡ width_of node.row)
+  frame_kept =
+      ⊎_elim
+      (λ (e : begun ≡ true). (ap (λ p. p.0) (cut e).lo, ap (λ p. p.0) (cut e).hi, (cut e).width))
+      (λ (e : begun ≡ false). (ap (λ (w : Row). w.lo.0) (same e), ap (λ (w : Row). w.hi.0) (same e), ap width_of (same e)))
+      (cases_Bool begun)
+
+  pub begun_touched : IsTouched 1 ns after x
+  begun_touched =
+      let few : missing (row_edge (rank qs) node.row slot n) ≤ 1 = missing_few (row_edge (rank qs) node.row slot n) in
+      touched ns x node there read (record { header = node.header; row = new }) 1 refl refl frame_kept.0 frame_kept.1 frame_kept.2 (omega (arith, more.count, few)) (λ j h. omega (arith, h, more.spare, few)) (λ j t e h. omega (arith, e, h, more.count, more.spare))
+
+  pub begun_stamped : begun ≡ true → (d : Row) → stamped_count (row_at after x d) ≡ stamped_count (row_at ns x d) + 1
+  begun_stamped e d =
+      let one : missing (row_edge (rank qs) node.row slot n) ≡ 1 = not_true (row_edge (rank qs) node.row slot n) (sym free ∙ e) in
+      let now : stamped_count (row_at after x d) ≡ stamped_count new = ap stamped_count (new_row ns x node there read (record { header = node.header; row = new }) d) in
+      let was : stamped_count (row_at ns x d) ≡ stamped_count node.row = ap stamped_count (the_row ns x node there read d) in
+      omega (arith, one, now, was, more.count)
+    where
+      not_true : (b : Bool) → not b ≡ true → missing b ≡ 1
+      not_true true e = cc
+      not_true false e = refl
 
 -- a node that lives at a position
 pub alive_of : (qs : List ℕ) (ns : List Node) (x n : ℕ) → IsIn (lives qs ns) x n → IsAlive qs ns x n
@@ -381,17 +441,14 @@ end_is types ns x row typed e = ap width_of (e row) ∙ typed.width row
 pub counted_row : (qs : List ℕ) (ns : List Node) (x : ℕ) (node : Node) (there : x < length ns) (read : node ≡ get_or ns x node) (slot n : ℕ) → AreRows qs ns → IsSlot qs ns x slot n → (d : Row) →
     stamped_count node.row + needed (rank qs) node.row slot n ≡ stamped_count (row_at ns x d) + added (chart qs ns) x slot n
 counted_row qs ns x node there read slot n all is d =
-    let e : (m : ℕ) → row_edge (rank qs) node.row slot m ≡ (chart qs ns).edge x slot m = λ m. subst (λ (w : Row). row_edge (rank qs) w slot m ≡ (chart qs ns).edge x slot m) (the_row ns x node there read node.row) (edge_is qs ns x slot n node.row all is m) in
-    let a : missing (row_edge (rank qs) node.row slot n) ≡ missing ((chart qs ns).edge x slot n) = ap missing (e n) in
-    let b : missing (row_edge (rank qs) node.row slot (n + 1)) ≡ missing ((chart qs ns).edge x slot (n + 1)) = ap missing (e (n + 1)) in
+    let a : missing (row_edge (rank qs) node.row slot n) ≡ missing ((chart qs ns).edge x slot n) = ap missing (node_edge qs ns x node there read slot n all is n) in
+    let b : missing (row_edge (rank qs) node.row slot (n + 1)) ≡ missing ((chart qs ns).edge x slot (n + 1)) = ap missing (node_edge qs ns x node there read slot n all is (n + 1)) in
     let c : stamped_count (row_at ns x d) ≡ stamped_count node.row = ap stamped_count (the_row ns x node there read d) in
     omega arith
 
 -- setting a slot over one position needs two values at most
 pub needed_few : (r : ℕ → ℕ) (row : Row) (slot n : ℕ) → needed r row slot n ≤ 2
-needed_few r row slot n =
-    let one : (b : Bool) → missing b ≤ 1 = λ b. elim b as (λ b. missing b ≤ 1) [ true ↦ omega arith | false ↦ omega arith ] in
-    omega (arith, one (row_edge r row slot n), one (row_edge r row slot (n + 1)))
+needed_few r row slot n = omega (arith, missing_few (row_edge r row slot n), missing_few (row_edge r row slot (n + 1)))
 
 pub in_of : (qs : List ℕ) (ns : List Node) (x n : ℕ) → IsAlive qs ns x n → IsIn (lives qs ns) x n
 in_of qs ns x n a = record {

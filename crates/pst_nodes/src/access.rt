@@ -1,6 +1,6 @@
 //! The arena: adding nodes, reading and changing one slot of one node.
 
-ghost use Rattle.std.specs.Prelude.{◌≡◌, ◌≢◌, ℕ, ◌+◌, ◌<◌, ◌≤◌, List, [], ◌∷◌, ◌++◌, length, IfOk, OnOk, OnErr, IfSome, IfNone, false, true, if◌then◌else◌, ◌==◌, ◌↔◌, IsTrue, IsOk};
+ghost use Rattle.std.specs.Prelude.{◌≡◌, ◌≢◌, ℕ, ◌+◌, ◌<◌, ◌≤◌, List, [], ◌∷◌, ◌++◌, length, IfOk, OnOk, OnErr, IfSome, IfNone, false, true, not, if◌then◌else◌, ◌==◌, ◌↔◌, IsTrue, IsOk};
 ghost use Rattle.std.proofs.Common.{rules};
 ghost use Rattle.pst_rows.specs.declared.row.Row.{Row};
 ghost use Rattle.pst_order.specs.Places.{rank};
@@ -15,7 +15,7 @@ use crate::node::{Node, Nodes};
 use pst_base::{Name, NoMemory, NodeId, Shape, SlotNo, TypeNo};
 use pst_order::{Order, Pos};
 use pst_queue::links::{Link, Links};
-use pst_rows::{Content, Row};
+use pst_rows::{Content, Row, Segment};
 use std::alloc::Global;
 
 impl Links for Nodes {
@@ -144,13 +144,16 @@ impl Nodes {
         self.row(id).read(order, slot, at)
     }
 
-    /// The segment of a slot that covers a place.
-    pub fn segment<O: Order>(&self, order: &O, id: NodeId, slot: SlotNo, at: Pos) -> (Pos, Pos)
+    /// The segment of a slot that covers a place, with what the slot holds there.
+    #[inline(always)]
+    pub fn covering<O: Order>(&self, order: &O, id: NodeId, slot: SlotNo, at: Pos) -> Segment
         requires rows { AreRows (O.places order.now) self.now.list.items }
         requires slot { IsSlot (O.places order.now) self.now.list.items id.0 slot.0 (rank (O.places order.now) at.0) }
-        ensures { IsSegmentAt (O.places order.now) self.now.list.items id.0 slot.0 (rank (O.places order.now) at.0) result.0.0 result.1.0 }
+        ensures segment { IsSegmentAt (O.places order.now) self.now.list.items id.0 slot.0 (rank (O.places order.now) at.0)
+            result.begin.0 result.end.0 }
+        ensures content { result.content ≡ (chart (O.places order.now) self.now.list.items).holds id.0 slot.0 (rank (O.places order.now) at.0) }
     {
-        self.row(id).segment(order, slot, at)
+        self.row(id).covering(order, slot, at)
     }
 
     /// Makes room for so many more stamped values in a row. A refusal changes nothing.
@@ -188,20 +191,21 @@ impl Nodes {
         node.row.set_over(order, slot, from, to, content);
     }
 
-    /// Cuts the segment that covers a place, and begins another one there with the same content.
-    pub fn cut<O: Order>(&mut self, order: &O, id: NodeId, slot: SlotNo, at: Pos)
+    /// Begins a segment of a slot at a place where none begins, with the content that is held there. It answers whether it did;
+    /// where one begins there nothing changes.
+    pub fn begin_segment<O: Order>(&mut self, order: &O, id: NodeId, slot: SlotNo, at: Pos) -> bool
         requires rows { AreRows (O.places order.now) self.old.list.items }
         requires slot { IsSlot (O.places order.now) self.old.list.items id.0 slot.0 (rank (O.places order.now) at.0) }
-        requires inside { (chart (O.places order.now) self.old.list.items).edge id.0 slot.0 (rank (O.places order.now) at.0) ≡ false }
         requires room { (d : Row) → HasRoom (row_at self.old.list.items id.0 d) 1 }
+        ensures begun { result ≡ not ((chart (O.places order.now) self.old.list.items).edge id.0 slot.0 (rank (O.places order.now) at.0)) }
         ensures cut { IsSegmentBegun (O.places order.now) self.old.list.items self.new.list.items id.0 slot.0 (rank (O.places order.now) at.0) }
+        ensures same { result ≡ false → self.new.list.items ≡ self.old.list.items }
         ensures rows { AreRows (O.places order.now) self.new.list.items }
         ensures touched { IsTouched 1 self.old.list.items self.new.list.items id.0 }
-        ensures stamped { (d : Row) → stamped_count (row_at self.new.list.items id.0 d) ≡ stamped_count (row_at self.old.list.items id.0 d) + 1 }
+        ensures stamped { result ≡ true → (d : Row) → stamped_count (row_at self.new.list.items id.0 d) ≡ stamped_count (row_at self.old.list.items id.0 d) + 1 }
     {
-        let content = self.row(id).read(order, slot, at);
         let node = &mut self.list[id.0 as usize];
-        node.row.cut(order, slot, at, content);
+        node.row.begin_segment(order, slot, at)
     }
 
     /// Sets the content of the segment that covers a place, over its whole length.

@@ -1,4 +1,5 @@
 pub mod Atoms
+pub mod Kept
 pub mod Opened
 pub mod Parsed
 pub mod Taken

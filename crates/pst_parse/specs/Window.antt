@@ -4,9 +4,19 @@ use Rattle.pst_lex.specs.declared.types.Token.{Token}
 use Rattle.pst_lex.specs.declared.lexer.Lexer.{Lexer}
 use Rattle.pst_lex.specs.Lexing.{Lexes}
 use Rattle.pst_lex.specs.Taking.{Left, bytes_left}
+use Rattle.pst_lex.specs.declared.words.Mark.TheVariants.{Record, Root, Proc, Query}
 use Rattle.pst_parse_expressions.specs.declared.lexeme.Atom.{Atom}
+use Rattle.pst_parse_expressions.specs.declared.lexeme.Atom.TheVariants as atom
 use Rattle.pst_parse_expressions.specs.View.{atoms_of}
 use Rattle.pst_parse.specs.declared.window.Window.{Window}
+
+-- the words that begin declarations, which stand nowhere else in a program
+abbrev pub begins_declaration : Atom → Bool
+begins_declaration (atom.Mark Record line) = true
+begins_declaration (atom.Mark Root line) = true
+begins_declaration (atom.Mark Proc line) = true
+begins_declaration (atom.Mark Query line) = true
+begins_declaration a = false
 
 -- these tokens are left, as the parser has them at hand, and the end has this line
 abbrev pub Follows : Lexer → List Atom → (end : ℕ) → Type 0

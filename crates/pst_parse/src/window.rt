@@ -1,22 +1,46 @@
 //! The next tokens of a text: as many as are read at once.
 
 ghost use Rattle.std.specs.Prelude.{◌≡◌, ◌+◌, ◌-◌, ◌<◌, ◌≤◌, ◌^◌, length, drop, IfOk, OnOk};
+ghost use Rattle.pst_parse.specs.Window.{begins_declaration as begins};
 
 use pst_base::NoMemory;
-use pst_lex::Lexer;
+use pst_lex::{Lexer, Mark};
 use pst_parse_expressions::Atom;
 use std::alloc::Global;
 
-/// How many tokens are taken at once, at least.
-const LEAST: usize = 4_096;
+/// How many tokens are at hand, at least, where no more are taken at once than up to the begin of a declaration.
+const LEAST: usize = 1_024;
+
+/// How many tokens may be taken at once in any case.
+const MOST: usize = 8_192;
+
+/// Whether a token begins a declaration. No declaration has such a token behind its first.
+fn begins_declaration(token: &Atom<'_>) -> bool
+    ensures { result ≡ begins token.now }
+{
+    match token {
+        Atom::Mark(mark, _) => match mark {
+            Mark::Record | Mark::Root | Mark::Proc | Mark::Query => true,
+            _ => false,
+        },
+        _ => false,
+    }
+}
 
 /// Lets the front of a list go, and keeps so many items at its end.
+#[tactic(auto, using(crate::proofs::Kept::last_alone))]
 fn keep_last<T: Drop>(items: &mut Vec<T>, left: usize)
     requires { left ≤ length items.old.items }
     ensures { items.new.items ≡ drop (length items.old.items - left) items.old.items }
 {
     let read = items.len() - left;
-    items.drain(..read);
+    if left == 1 {
+        // One alone is put to the front, and nothing else is moved.
+        items.swap(0, read);
+        items.truncate(1);
+    } else {
+        items.drain(..read);
+    }
 }
 
 /// The next tokens of a text that has tokens up to its end, and the text behind them. Their names borrow from the text.
@@ -72,8 +96,10 @@ impl<'a> Window<'a> {
         keep_last(&mut self.tokens, left);
     }
 
-    /// Takes as many tokens more as are at hand, and a few at least, up to the end of the text. So what is read again, for want
-    /// of them, is no more than what is taken.
+    /// Takes some tokens more, up to the end of the text: up to the next that begins a declaration, once there are enough, so that
+    /// what is at hand ends with whole declarations and is read once. Where a declaration is so long that none comes, it takes as
+    /// many as are at hand, or as there is room for, and a few at least: so what is read again, for want of the rest of it, is no
+    /// more than what is taken.
     ///
     /// # Errors
     /// Want of memory.
@@ -82,9 +108,18 @@ impl<'a> Window<'a> {
         ensures ahead { OnOk result (KeepsAhead self.old self.new) }
         ensures filled { OnOk result (IsFilled self.old self.new) }
     {
-        for _ in 0..self.tokens.len().max(LEAST) {
+        let kept = self.tokens.len();
+        let room = self.tokens.capacity().saturating_sub(kept);
+        for taken in 0..kept.max(room).max(MOST) {
             match self.lexer.next_token() {
-                Ok(Some(token)) => self.tokens.push(Atom::from_token(token))?,
+                Ok(Some(token)) => {
+                    let atom = Atom::from_token(token);
+                    let begins = begins_declaration(&atom);
+                    self.tokens.push(atom)?;
+                    if begins && taken > 0 && self.tokens.len() > LEAST {
+                        return Ok(());
+                    }
+                }
                 Ok(None) => return Ok(()),
                 // No fault stands where there are tokens up to the end.
                 Err(_) => return Ok(()),

@@ -1,2 +1,3 @@
 pub mod PieceLemmas
 pub mod RootLemmas
+pub mod StretchLemmas

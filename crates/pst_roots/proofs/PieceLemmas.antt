@@ -208,6 +208,14 @@ module _ (ps : List (List ℕ)) (starts : List ℕ) (are : starts ≡ starts_fro
     some : IsPiece (get_or ps k [])
     some = each k [] l
 
+    -- where a piece starts is an index that falls into it
+    pub own_piece : IsPieceAt starts (get_or starts k 0) k
+    own_piece = record {
+      there = omega (arith, l, many_starts);
+      early = omega arith;
+      late = λ j a b. omega (arith, start_at k l, start_at j (omega (arith, b, many_starts)), before_next ps k l, before_rises ps (suc k) j a, some.some);
+    }
+
     pub first_within : get_or starts k 0 < length (concat ps)
     first_within = omega (arith, start_at k l, end_within ps k l, some.some)
 

@@ -9,6 +9,10 @@ use Rattle.std.proofs.Math.Nat.{pow-le-pow_right}
 use Rattle.std.proofs.Math.Pow.{shl_exact}
 use Rattle.pst_nodes.specs.declared.node.Node.{Node}
 use Rattle.pst_nodes.specs.Arena.{lo_at}
+use Rattle.pst_roots.specs.declared.pieces.Stretch.{Stretch}
+use Rattle.pst_roots.specs.declared.pieces.Halves.{Halves}
+use Rattle.pst_roots.specs.Pieces.{Held}
+use Rattle.pst_roots.specs.Stretches.{AreHalvesOf}
 use Rattle.pst_roots.specs.Roots.{begins_of, AreRoots, IsLastIndex, IsLastBefore, IsAddedRoot}
 
 pow_more : (k : ℕ) → 2 ^ (k + 1) ≡ 2 * 2 ^ k
@@ -127,6 +131,46 @@ module _ (list : List ℕ) (nodes : List Node) (held : List ℕ) (at : ℕ) (are
       count = b.count;
       few = omega (arith, b.few, pow_grows b.more left);
     }
+
+-- where a stretch in which the node stands is cut in two
+module _ (list : List ℕ) (nodes : List Node) (held : Held) (at : ℕ) (are : AreRoots list nodes held.nodes at) (stretch : Stretch) (left old new : ℕ) (b : IsBetween list nodes held.nodes at stretch.low stretch.high left old new) (two : 1 < stretch.high - stretch.low) (cut : Halves) (halves : AreHalvesOf held stretch ((1 * 2 ^ (left - 1)) % 2 ^ 64) cut) where
+  there : cut.second.low < length held.nodes
+  there = omega (arith, halves.second.ordered, halves.second.within)
+
+  begins : lo_at nodes cut.node.0 ≡ get_or (begins_of nodes held.nodes) cut.second.low 0
+  begins = ap (lo_at nodes) halves.node ∙ sym (get_or-map (lo_at nodes) held.nodes cut.second.low 0 0 there)
+
+  -- the first node of the second half begins at a place of the list
+  pub begins_in : rank list (lo_at nodes cut.node.0) < length list
+  begins_in = subst (λ (p : ℕ). rank list p < length list) (sym begins) (are.rising.each cut.second.low (omega arith) there)
+
+  some : 0 < left
+  some = some_left list nodes held.nodes at are stretch.low stretch.high left old new b two
+
+  shift : (1 * 2 ^ (left - 1)) % 2 ^ 64 ≡ 2 ^ (left - 1)
+  shift = shifted list nodes held.nodes at are stretch.low stretch.high left old new b some
+
+  pub in_first : (new' : ℕ) → new' ≡ new + 1 → rank list at < rank list (lo_at nodes cut.node.0) → IsBetween list nodes held.nodes at cut.first.low cut.first.high (left - 1) old new'
+  in_first new' called h =
+      let found : IsBetween list nodes held.nodes at stretch.low cut.second.low (left - 1) old new' =
+      before_middle list nodes held.nodes at are stretch.low stretch.high left old new b (left - 1) cut.second.low new' refl some
+      (omega (arith, halves.first.ordered, halves.low, halves.meet))
+      (omega (arith, halves.second.ordered, halves.high))
+      called
+      (omega (arith, halves.first_most, halves.low, halves.meet, shift))
+      (subst (λ (p : ℕ). rank list at < rank list p) begins h) in
+      subst (λ (i : ℕ). IsBetween list nodes held.nodes at i cut.first.high (left - 1) old new') (sym halves.low) (subst (λ (i : ℕ). IsBetween list nodes held.nodes at stretch.low i (left - 1) old new') (sym halves.meet) found)
+
+  pub in_second : (new' : ℕ) → new' ≡ new + 1 → rank list (lo_at nodes cut.node.0) ≤ rank list at → IsBetween list nodes held.nodes at cut.second.low cut.second.high (left - 1) old new'
+  in_second new' called h =
+      let found : IsBetween list nodes held.nodes at cut.second.low stretch.high (left - 1) old new' =
+      from_middle list nodes held.nodes at are stretch.low stretch.high left old new b (left - 1) cut.second.low new' refl some
+      (omega (arith, halves.first.ordered, halves.low, halves.meet))
+      (omega (arith, halves.second.ordered, halves.high))
+      called
+      (omega (arith, halves.second_most, halves.high, shift))
+      (subst (λ (p : ℕ). rank list p ≤ rank list at) begins h) in
+      subst (λ (i : ℕ). IsBetween list nodes held.nodes at cut.second.low i (left - 1) old new') (sym halves.high) found
 
 -- a held node does not begin after the place, and the next one does
 pub last_beside : (list : List ℕ) (nodes : List Node) (held : List ℕ) (at k : ℕ) → AreRoots list nodes held at → suc k < length held → rank list (get_or (begins_of nodes held) k 0) ≤ rank list at → rank list at < rank list (get_or (begins_of nodes held) (suc k) 0) → IsLastIndex list nodes held at k

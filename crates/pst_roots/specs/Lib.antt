@@ -2,3 +2,4 @@ pub mod Numbers
 pub mod Pieces
 pub mod Roots
 pub mod Spots
+pub mod Stretches

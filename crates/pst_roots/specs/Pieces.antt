@@ -4,10 +4,11 @@ use Rattle.std.specs.List.{concat}
 use Rattle.std.specs.declared.vec.Vec.{Vec}
 use Rattle.std.specs.declared.alloc.Global.{Global}
 
--- What a list in pieces holds, and how many empty pieces it has.
+-- What a list in pieces holds, how many empty pieces it has, and where each of the others starts.
 pub record Held : Type 0 where
   pub nodes : List ℕ
   pub spare : ℕ
+  pub starts : List ℕ
 
 -- where each piece starts, from a number on: each one at the end of the piece before it
 abbrev pub starts_from : ℕ → List (List ℕ) → List ℕ

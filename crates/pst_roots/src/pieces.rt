@@ -20,6 +20,31 @@ pub struct Spot {
     pub node: NodeId,
 }
 
+/// Nodes of a list from an index up to another one, and the pieces that they stand in: the one of the first node, and up to which
+/// piece.
+#[derive(Clone, Copy)]
+pub struct Stretch {
+    pub low: usize,
+    pub high: usize,
+    pub piece: usize,
+    pub end: usize,
+}
+
+/// A stretch in two, and the first node of the second half.
+#[derive(Clone, Copy)]
+pub struct Halves {
+    pub first: Stretch,
+    pub second: Stretch,
+    pub node: NodeId,
+}
+
+/// An index at which a stretch is cut in two, and the piece that it falls into.
+#[derive(Clone, Copy)]
+pub struct Cut {
+    pub index: usize,
+    pub piece: usize,
+}
+
 /// Nodes in an order, in pieces. Each piece has a node, and at most `PIECE`. Empty pieces are kept for those to come.
 #[derive(Drop)]
 pub struct Pieces {
@@ -37,14 +62,15 @@ impl Model for Pieces {
 
     ghost Value = { Held };
 
-    ghost view = { λ s. record { nodes = concat s.pieces.items; spare = length s.pool.items } };
+    ghost view = { λ s. record { nodes = concat s.pieces.items; spare = length s.pool.items; starts = s.starts.items } };
 
     ghost invariant = { λ s. ArePieces s.pieces s.starts s.pool s.count };
 }
 
 impl Pieces {
-    ghost use Rattle.std.specs.Prelude.{◌≡◌, suc, ◌+◌, ◌<◌, ◌≤◌, [], ◌∷◌, length, get_or, insert, IfOk, IfSome, OnOk, OnErr};
+    ghost use Rattle.std.specs.Prelude.{◌≡◌, suc, ◌+◌, ◌-◌, ◌*◌, ◌<◌, ◌≤◌, [], ◌∷◌, length, get_or, insert, IfOk, IfSome, OnOk, OnErr};
     ghost use Rattle.pst_roots.specs.Spots.{IsSpotIn};
+    ghost use Rattle.pst_roots.specs.Stretches.{IsStretch, IsCut, AreHalvesOf};
 
     /// The list of one node. `NoMemory` where there is no memory for it.
     pub fn new(alloc: Global, first: NodeId) -> Result<Pieces, NoMemory>
@@ -83,13 +109,95 @@ impl Pieces {
         self.pieces[piece].get(index - self.starts[piece])
     }
 
-    /// Where the piece starts that an index falls into.
+    /// All nodes.
     #[inline]
-    pub fn start_of(&self, index: usize) -> usize
-        requires { index < length self.now.nodes }
-        ensures { result ≤ index }
+    pub fn whole(&self) -> Stretch
+        requires { 0 < length self.now.nodes }
+        ensures stretch { IsStretch self.now result }
+        ensures low { result.low ≡ 0 }
+        ensures high { result.high ≡ length self.now.nodes }
     {
-        self.starts[piece_at(&self.starts, index)]
+        Stretch {
+            low: 0,
+            high: self.count,
+            piece: 0,
+            end: self.pieces.len(),
+        }
+    }
+
+    /// A stretch in two, with at most so many nodes in each half.
+    #[inline]
+    pub fn halves(&self, stretch: Stretch, most: usize) -> Halves
+        requires stretch { IsStretch self.now stretch }
+        requires some { stretch.low + 1 < stretch.high }
+        requires most { stretch.high - stretch.low ≤ 2 * most }
+        ensures { AreHalvesOf self.now stretch most result }
+    {
+        let Cut { index, piece } = self.cut_of(stretch, most);
+        let start = self.starts[piece];
+        let end = if start < index { piece + 1 } else { piece };
+        Halves {
+            first: Stretch {
+                high: index,
+                end,
+                ..stretch
+            },
+            second: Stretch {
+                low: index,
+                piece,
+                ..stretch
+            },
+            node: self.pieces[piece].get(index - start),
+        }
+    }
+
+    // Where a stretch is cut: where the middle one of its pieces starts, if that leaves few enough nodes on both sides, since what
+    // stands there is looked at by most searches, and its piece is known; and else in its middle.
+    #[inline]
+    fn cut_of(&self, stretch: Stretch, most: usize) -> Cut
+        requires stretch { IsStretch self.now stretch }
+        requires some { stretch.low + 1 < stretch.high }
+        requires most { stretch.high - stretch.low ≤ 2 * most }
+        ensures { IsCut self.now stretch most result }
+    {
+        let Stretch {
+            low,
+            high,
+            piece,
+            end,
+        } = stretch;
+        let middle = low + (high - low) / 2;
+        if end - piece == 1 {
+            return Cut {
+                index: middle,
+                piece,
+            };
+        }
+        let piece = piece + (end - piece) / 2;
+        let start = self.starts[piece];
+        if start - low <= most && high - start <= most {
+            return Cut {
+                index: start,
+                piece,
+            };
+        }
+        Cut {
+            index: middle,
+            piece: piece_at(&self.starts, middle),
+        }
+    }
+
+    /// The first node of a stretch.
+    #[inline]
+    pub fn first_of(&self, stretch: Stretch) -> Spot
+        requires { IsStretch self.now stretch }
+        ensures index { result.index ≡ stretch.low }
+        ensures node { IsSpotIn self.now.nodes result }
+    {
+        let index = stretch.low;
+        let start = self.starts[stretch.piece];
+        let node = self.pieces[stretch.piece].get(index - start);
+        Spot { index, node }
     }
 
     /// How many pieces there are.

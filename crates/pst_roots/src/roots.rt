@@ -4,9 +4,10 @@ ghost use Rattle.std.specs.Prelude.{◌≡◌, ℕ, ◌+◌, ◌-◌, ◌*◌, �
 ghost use Rattle.pst_order.specs.Places.{IsIn};
 ghost use Rattle.pst_order.specs.Search.{IsFewMore};
 ghost use Rattle.pst_nodes.specs.Arena.{lo_at};
+ghost use Rattle.pst_roots.specs.Spots.{IsSpotIn};
 ghost use Rattle.pst_roots.specs.Roots.{held_of, spare_of, begins_of, AreRoots, IsLastIndex, IsLastBefore, IsAddedRoot};
 
-use crate::pieces::Pieces;
+use crate::pieces::{Pieces, Spot};
 use pst_base::{NoMemory, NodeId};
 use pst_nodes::node::Nodes;
 use pst_order::{Compare, Counting, Order, Pos};
@@ -54,6 +55,7 @@ impl RootIndex {
 
     /// The last held node that does not begin after a place, found by bisection in at most `s` comparisons, where `2 ^ s` is
     /// at most `2 * n + 1` for the `n` nodes held.
+    #[inline(always)]
     pub fn at_with<P: Compare>(&self, compare: &mut P, nodes: &Nodes, place: Pos) -> NodeId
         requires roots { AreRoots (P.list compare.old) nodes.now.list.items (held_of self.now) place.0 }
         requires place { IsIn (P.list compare.old) place.0 }
@@ -63,7 +65,7 @@ impl RootIndex {
         ensures calls { IsFewMore (length (held_of self.now)) (P.calls compare.old) (P.calls compare.new) }
     {
         let last = self.last_before(compare, nodes, place);
-        self.held_at(last)
+        last.node
     }
 
     /// Makes room for so many nodes more. A refusal changes nothing.
@@ -107,7 +109,9 @@ impl RootIndex {
         }
         match self.guess(order, nodes, near, place) {
             Some(index) if self.is_last(order, nodes, index, place) => index,
-            Some(_) | None => self.last_before(&mut Counting::new(order), nodes, place),
+            Some(_) | None => self
+                .last_before(&mut Counting::new(order), nodes, place)
+                .index,
         }
     }
 
@@ -164,51 +168,31 @@ impl RootIndex {
         begin_of(nodes, self.held_at(index))
     }
 
-    // The index of the last held node that does not begin after a place. Before each comparison it is decided how many of the
-    // nodes may be left after it, half as many as before, so that a power of two more than all of them bounds the comparisons;
-    // within that, the comparison is made where a piece starts.
-    fn last_before<P: Compare>(&self, compare: &mut P, nodes: &Nodes, place: Pos) -> usize
+    // The last held node that does not begin after a place. Before each comparison it is decided how many of the nodes may be left
+    // after it, half as many as before, so that a power of two more than all of them bounds the comparisons; within that, the
+    // comparison is made where a piece starts.
+    #[inline(always)]
+    fn last_before<P: Compare>(&self, compare: &mut P, nodes: &Nodes, place: Pos) -> Spot
         requires roots { AreRoots (P.list compare.old) nodes.now.list.items (held_of self.now) place.0 }
         requires place { IsIn (P.list compare.old) place.0 }
         requires calls { P.calls compare.old ≤ 2 ^ 63 }
-        ensures found { IsLastIndex (P.list compare.old) nodes.now.list.items (held_of self.now) place.0 result }
+        ensures found { IsLastIndex (P.list compare.old) nodes.now.list.items (held_of self.now) place.0 result.index }
+        ensures node { IsSpotIn (held_of self.now) result }
         ensures list { P.list compare.new ≡ P.list compare.old }
         ensures calls { IsFewMore (length (held_of self.now)) (P.calls compare.old) (P.calls compare.new) }
     {
-        let mut low = 0;
-        let mut high = self.count();
-        let mut left = high.ilog2() + 1;
-        while high - low > 1 {
+        let mut stretch = self.pieces.whole();
+        let mut left = stretch.high.ilog2() + 1;
+        while stretch.high - stretch.low > 1 {
             left -= 1;
-            let middle = self.between(low, high, 1 << left);
-            if compare.before(place, self.begin_at(nodes, middle)) {
-                high = middle;
+            let cut = self.pieces.halves(stretch, 1 << left);
+            if compare.before(place, begin_of(nodes, cut.node)) {
+                stretch = cut.first;
             } else {
-                low = middle;
+                stretch = cut.second;
             }
         }
-        low
-    }
-
-    // An index between two others with at most so many up to the second one, and from the first one on: one at which a piece
-    // starts, where there is one near their middle, since what stands there is looked at by most searches.
-    #[inline]
-    fn between(&self, low: usize, high: usize, most: usize) -> usize
-        requires some { low + 1 < high }
-        requires within { high ≤ length (held_of self.now) }
-        requires most { high - low ≤ 2 * most }
-        ensures after { low < result }
-        ensures before { result < high }
-        ensures first { result - low ≤ most }
-        ensures second { high - result ≤ most }
-    {
-        let middle = low + (high - low) / 2;
-        let start = self.pieces.start_of(middle);
-        if low < start && high - start <= most {
-            start
-        } else {
-            middle
-        }
+        self.pieces.first_of(stretch)
     }
 
     // How many nodes are held.

@@ -22,6 +22,16 @@ head-kept (suc w) (h ∷ hs) (k ∷ ks) xs n e =
     let ih : take w (ks ++ xs) ≡ take w (hs ++ xs) = head-kept w hs ks xs (omega arith) rest in
     cc
 
+-- the slots stay where the head keeps them and what comes into the list comes in behind them
+pub slots-kept : (cells : CellsValue) (w : ℕ) (hs ks xs ys : List Stamp) (cap : ℕ) → shown_cells w hs xs cap ≡ cells → length ks ≡ length hs → take w ks ≡ take w hs → take w (hs ++ ys) ≡ take w (hs ++ xs) → slots_in w (ks ++ ys) ≡ cells.slots
+slots-kept cells w hs ks xs ys cap is n e kept = ap (map slot_kept) (head-kept w hs ks ys n e ∙ kept) ∙ ap (λ (v : CellsValue). v.slots) is
+
+-- where a stamp of an index stands in the list: behind the slots
+pub stamp-behind : (cells : CellsValue) (w b : ℕ) (hs xs : List Stamp) (cap i : ℕ) → AreSound w b hs xs cap → shown_cells w hs xs cap ≡ cells → i ≤ length cells.stamps → (b + i ≡ (w - head_size) + i) × (w ≤ length hs + (b + i)) × (b + i ≤ length xs)
+stamp-behind cells w b hs xs cap i sound is l =
+    let few : i + (w - head_size) ≤ length xs = omega (arith, l, ap (λ (v : CellsValue). length v.stamps) is, length-drop (w - head_size) xs, sound.there) in
+    (omega (arith, sound.rest), omega (arith, sound.rest, sound.whole), omega (arith, sound.rest, few))
+
 -- where a slot is put into the head
 pub push-head : (w : ℕ) (hs ks xs : List Stamp) (e : Stamp) → length hs ≡ head_size → w < head_size → length ks ≡ length (set hs w e) → take (w + 1) ks ≡ take (w + 1) (set hs w e) → slots_in (w + 1) (ks ++ xs) ≡ slots_in w (hs ++ xs) ++ slot_kept e ∷ []
 push-head w hs ks xs e n l m kept =

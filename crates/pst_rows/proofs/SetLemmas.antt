@@ -1,4 +1,4 @@
-use Rattle.std.proofs.Common.{◌≡◌, ℕ, zero, suc, ◌+◌, ◌-◌, ◌<◌, ◌≤◌, Bool, true, false, eqb, List, [], ◌∷◌, ◌++◌, length, get_or, take, drop, set, refl, sym, ap, ◌∙◌, subst, ◌⊎◌, inl, inr, ⊎_elim, arith}
+use Rattle.std.proofs.Common.{◌≡◌, ℕ, zero, suc, ◌+◌, ◌-◌, ◌<◌, ◌≤◌, Bool, true, false, eqb, is_some, List, [], ◌∷◌, ◌++◌, length, get_or, take, drop, set, refl, sym, ap, ◌∙◌, subst, ◌⊎◌, inl, inr, ⊎_elim, arith}
 use Rattle.std.specs.List.{insert, CopiedTo, SameBelow}
 use Rattle.std.proofs.lemmas.Bool.{cases_eq, cases_lt, eq-eqb, eqb-true, false≢true}
 use Rattle.std.proofs.lemmas.List.{ext_get_or, length-set, get_or_append_left, get_or-set_same, get_or-set_other}
@@ -12,15 +12,15 @@ use Rattle.pst_rows.specs.declared.row.Row.{Row}
 use Rattle.pst_rows.specs.Slots.{SlotValue as Slot}
 use Rattle.pst_rows.specs.Values.{no_slot}
 use Rattle.pst_rows.specs.Rows.{stamps_of, base_of, width_of, content_at, row_edge, spare_of, no_stamp, IsRow}
-use Rattle.pst_rows.specs.Changes.{IsRowSet, IsRowReplaced, HasMore, missing, needed}
-use Rattle.pst_rows.specs.Steps.{IsLocated, IsStampAt, IsGap, IsInserted, AreInserted, IsRowRestored, IsRowBegun, IsBeginPlace, IsEndPlace, IsHeldBefore, IsWrittenBefore, with_content, with_base}
+use Rattle.pst_rows.specs.Changes.{IsRowSet, IsRowCut, IsRowReplaced, HasMore, missing, needed}
+use Rattle.pst_rows.specs.Steps.{IsLocated, IsStampAt, IsGap, IsInserted, AreInserted, IsBeginPlace, IsEndPlace, IsHeldBefore, IsWrittenBefore, with_content, with_base}
 use Rattle.pst_rows.proofs.TimelineLemmas.{edge_here}
-use Rattle.pst_rows.proofs.StampLemmas.{stamp_inside}
+use Rattle.pst_rows.proofs.StampLemmas.{stamp_inside, gap_none}
 use Rattle.pst_rows.proofs.CellLemmas.{head-insert, stamps-insert}
 use Rattle.pst_rows.proofs.PartLemmas.{last_le, located_gap, content_base, content_last}
 use Rattle.pst_rows.proofs.ReadLemmas.{Begins, Ends, begins_low, begins_last, ends_high, ends_next}
-use Rattle.pst_rows.proofs.RowLemmas.{based_row, based_begun, written_row, written_put, written_more, more_none, more_inner, restored_row, begun_put, set_steps, set_more}
-use Rattle.pst_rows.proofs.CallLemmas.{base_replaced, stamp_replaced, stamp_replaced_more, there_more, there_restored, new_put, new_row, new_more, new_restored}
+use Rattle.pst_rows.proofs.RowLemmas.{IsRowRestored, IsRowBegun, inner_edge, based_row, based_begun, written_row, written_put, written_more, more_none, more_inner, restored_row, begun_put, set_steps, set_more}
+use Rattle.pst_rows.proofs.CallLemmas.{cut_is, base_replaced, stamp_replaced, stamp_replaced_more, there_more, there_restored, new_put, new_row, new_more, new_restored}
 
 -- the position of a place that is another one, and of one that is not
 pub rank_same : (ps : List ℕ) (p q : Pos) (k : ℕ) {b : Bool} → b ≡ eqb p.0 q.0 → b ≡ true → rank ps q.0 ≡ k → rank ps p.0 ≡ k
@@ -222,6 +222,13 @@ pub record IsSetDone (r : ℕ → ℕ) (places : ℕ) (old new : Row) (f n : ℕ
   pub set : IsRowSet r old new f n c
   pub row : IsRow r places new
   pub more : HasMore (needed r old f n) old new
+
+-- a segment begun where none began, with what is held there
+pub record IsBegunThere (r : ℕ → ℕ) (places : ℕ) (old new : Row) (f n : ℕ) : Type 0 where
+  pub free : row_edge r old f n ≡ false
+  pub cut : IsRowCut r old new f n (content_at r old f n)
+  pub row : IsRow r places new
+  pub more : HasMore (missing (row_edge r old f n)) old new
 
 steps_done : (r : ℕ → ℕ) (places : ℕ) (old mid new : Row) (f n : ℕ) (v c : Content) → IsRow r places old → r old.lo.0 ≤ n → n < r old.hi.0 → v ≡ content_at r old f n → IsRestoredStep r places old mid f (n + 1) v → IsBegunStep r places mid new f n c → IsSetDone r places old new f n c
 steps_done r places old mid new f n v c row low high is one two = record {
@@ -450,3 +457,21 @@ module _ (r : ℕ → ℕ) (places : ℕ) (old : Row) (f n start index stop : �
         stamp_replaced_more r places old f n start index stop row loc low high new c l w.lo w.hi slots items w.capacity,
       ))
       (cases_eq index start)
+
+  -- a segment begins at the position, or none does
+  pub begins_edge : (p : Pos) → IsBeginPlace old start index p → r p.0 ≡ n → row_edge r old f n ≡ true
+  begins_edge p b e =
+      let begin : Begins r places old f n start index stop row loc (r p.0) = begins_of p b in
+      subst (λ (m : ℕ). row_edge r old f m ≡ true) e begin.edge
+
+  pub begun_there : (new : Row) (t : Stamp) (p : Pos) → f < width_of old → IsBeginPlace old start index p → (r p.0 ≡ n → ⊥) → IsHeldBefore old f start index t.content → t.slot.0 ≡ f → r t.place.0 ≡ n → IsInserted old new index t → 1 ≤ spare_of old → IsBegunThere r places old new f n
+  begun_there new t p there b ne held is_slot is_place ins spare =
+      let g = begins_gap p b ne in
+      let free : row_edge r old f n ≡ false = inner_edge (stamps_of r old f) (r old.lo.0) (r old.hi.0) n g.1 high ∙ ap is_some (gap_none r old.cells.stamps index f n g.0) in
+      let both = cut_is r places old f n start index stop row loc low high new t free there is_slot is_place ins in
+      record {
+        free = free;
+        cut = subst (λ (c : Content). IsRowCut r old new f n c) (held_is t.content held) both.0;
+        row = both.1;
+        more = more_inner r old new f n g.1 high (new_more r places old new index f n t row g.0 there g.1 high is_slot is_place ins spare);
+      }

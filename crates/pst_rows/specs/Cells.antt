@@ -21,7 +21,7 @@ no_cell = record { slot = record { 0 = 0 }; place = record { 0 = 0 }; content = 
 
 -- how many slots stand in the head
 abbrev pub head_size : ℕ
-head_size = 4
+head_size = 3
 
 -- so many slots, the first in the head and the others in front of the list, and behind them the stamps
 abbrev pub shown_cells : (width : ℕ) (head list : List StampValue) (capacity : ℕ) → CellsValue

@@ -20,10 +20,10 @@ use std::marker::Model;
 const MOST_CELLS: usize = 0xFFFF_FF00;
 
 /// How many slots stand in the head.
-const HEAD: usize = 4;
+const HEAD: usize = 3;
 
-// The slots behind the head and the stamps, of which up to two stand in the row itself.
-type List = SmallVec<Stamp, 2>;
+// The slots behind the head and the stamps, of which one stands in the row itself.
+type List = SmallVec<Stamp, 1>;
 
 /// The slots of a row and its stamped values, in the order of slot and then place. The first slots stand in the row, in its head,
 /// so that a read of them touches the node alone; a list has the other slots and behind them the stamped values, 16 bytes each. A

@@ -22,6 +22,14 @@ pub enum Content {
     From(NodeId, SlotNo),
 }
 
+/// A stretch of a slot, from a place to another one, without that, and what the slot holds there.
+#[derive(Clone, Copy)]
+pub struct Segment {
+    pub begin: Pos,
+    pub end: Pos,
+    pub content: Content,
+}
+
 /// A content that a slot holds from a place on, up to the slot's next stamp or to the end of the row's life. It takes 16 bytes;
 /// contracts see the slot, the place and the content.
 #[derive(Clone, Copy)]

@@ -18,7 +18,7 @@ mod stamps;
 #[cfg(test)]
 mod tests;
 
-pub use content::{Content, Stamp};
+pub use content::{Content, Segment, Stamp};
 pub use laws::{
     cuts_hold, insertions_keep_rows, parts_hold, replacements_hold, rows_are_inside,
     rows_are_steady, sets_hold, splits_hold,

@@ -1,6 +1,6 @@
 //! Rows.
 
-ghost use Rattle.std.specs.Prelude.{◌≡◌, ℕ, ◌+◌, ◌-◌, ◌^◌, ◌<◌, ◌≤◌, ◌↔◌, [], IfOk, OnOk, IfErr, OnErr, IfSome, IsNone, length, false, is_some};
+ghost use Rattle.std.specs.Prelude.{◌≡◌, ℕ, ◌+◌, ◌-◌, ◌^◌, ◌<◌, ◌≤◌, ◌↔◌, [], IfOk, OnOk, IfErr, OnErr, IfSome, IsNone, length, true, false, not, is_some};
 ghost use Rattle.pst_order.specs.Places.{rank, IsIn};
 ghost use Rattle.pst_order.specs.Search.{IsFewMore};
 ghost use Rattle.pst_rows.specs.Values.{before_slot};
@@ -10,7 +10,7 @@ ghost use Rattle.pst_rows.specs.Changes.{slot_count, first_content, IsNewRow, Is
 ghost use Rattle.pst_rows.specs.Steps.{AreBounds, HasParts, IsLocated, IsInserted, AreInserted, IsBeginPlace, IsEndPlace, IsHeldBefore, IsWrittenBefore, AreCellsBefore, AreCellsAfter, AreFirstSlots};
 
 use crate::cells::Cells;
-use crate::content::{Content, Stamp};
+use crate::content::{Content, Segment, Stamp};
 use crate::parts::{cells_of, recount};
 use crate::stamps::{
     Bounds, Located, StampPlaces, middle_from, put_after, put_before, raise_starts,
@@ -171,8 +171,26 @@ impl Row {
         ensures { IsSegmentAround (rank (O.places order.now)) self.now slot.0 (rank (O.places order.now) at.0)
             (rank (O.places order.now) result.0.0) (rank (O.places order.now) result.1.0) }
     {
+        let found = self.covering(order, slot, at);
+        (found.begin, found.end)
+    }
+
+    /// The segment of a slot that covers a place of the life, with what the slot holds there, found by one bisection.
+    #[inline(always)]
+    pub fn covering<O: Order>(&self, order: &O, slot: SlotNo, at: Pos) -> Segment
+        requires row { IsRowIn (O.places order.now) self.now }
+        requires slot { slot.0 < width_of self.now }
+        requires life { IsInLife (O.places order.now) self.now at.0 }
+        ensures segment { IsSegmentAround (rank (O.places order.now)) self.now slot.0 (rank (O.places order.now) at.0)
+            (rank (O.places order.now) result.begin.0) (rank (O.places order.now) result.end.0) }
+        ensures content { result.content ≡ content_at (rank (O.places order.now)) self.now slot.0 (rank (O.places order.now) at.0) }
+    {
         let located = self.locate(&mut Counting::new(order), slot, at);
-        (self.begin_of(located), self.end_of(located))
+        Segment {
+            begin: self.begin_of(located),
+            end: self.end_of(located),
+            content: self.held(located, slot),
+        }
     }
 
     /// Sets a slot from a place to the one directly behind it: that stretch becomes a segment, and what the slot held
@@ -229,6 +247,30 @@ impl Row {
         let located = self.locate(&mut Counting::new(order), slot, at);
         let stamp = Stamp::new(slot, at, content);
         self.insert(located.index, stamp);
+    }
+
+    /// Begins a segment of a slot at a place of the life where none begins: it holds what is held there, and one stamped value
+    /// is added. It answers whether it did; where one begins there nothing changes.
+    #[inline(always)]
+    pub fn begin_segment<O: Order>(&mut self, order: &O, slot: SlotNo, at: Pos) -> bool
+        requires row { IsRowIn (O.places order.now) self.old }
+        requires slot { slot.0 < width_of self.old }
+        requires life { IsInLife (O.places order.now) self.old at.0 }
+        requires spare { 1 ≤ spare_of self.old }
+        ensures begun { result ≡ not (row_edge (rank (O.places order.now)) self.old slot.0 (rank (O.places order.now) at.0)) }
+        ensures cut { result ≡ true → IsRowCut (rank (O.places order.now)) self.old self.new slot.0 (rank (O.places order.now) at.0)
+            (content_at (rank (O.places order.now)) self.old slot.0 (rank (O.places order.now) at.0)) }
+        ensures same { result ≡ false → self.new ≡ self.old }
+        ensures row { IsRowIn (O.places order.now) self.new }
+        ensures more { HasMore (missing (row_edge (rank (O.places order.now)) self.old slot.0 (rank (O.places order.now) at.0))) self.old self.new }
+    {
+        let located = self.locate(&mut Counting::new(order), slot, at);
+        if self.begin_of(located) == at {
+            return false;
+        }
+        let stamp = Stamp::new(slot, at, self.held(located, slot));
+        self.insert(located.index, stamp);
+        true
     }
 
     /// Gives the segment of a slot that covers a place another content. It adds no stamped value.

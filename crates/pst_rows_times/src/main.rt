@@ -239,7 +239,7 @@ fn print_orders(rt: &HostRuntime, alloc: Global) -> io::Result<()> {
 /// Prints how many bytes a row and a stamped value take.
 fn print_sizes(rt: &HostRuntime) -> io::Result<()> {
     println!(rt;
-        "a row of 4 slots and 2 stamped values or fewer: {} bytes",
+        "a row of 3 slots and 1 stamped value or fewer: {} bytes",
         size_of::<Row>()
     )?;
     println!(rt; "a stamped value: {} bytes", size_of::<Stamp>())

@@ -70,9 +70,7 @@ fn cut_slot<O: Order>(
     ensures queue { KeepsQueue (λ _. ⊥) shape.now nodes.old.list.items nodes.new.list.items queue.old queue.new }
     ensures named { HasQueuedOnly (λ i. i ≡ place.node.0) nodes.old.list.items nodes.new.list.items queue.old queue.new }
 {
-    let (begin, _) = nodes.segment(order, place.node, place.slot, at);
-    if begin.0 != at.0 {
-        nodes.cut(order, place.node, place.slot, at);
+    if nodes.begin_segment(order, place.node, place.slot, at) {
         queue_if_over(shape, nodes, queue, place.node);
     }
 }

@@ -29,7 +29,7 @@ fn moved_node(x: NodeId, z: NodeId, node: NodeId) -> NodeId
     if node.0 == x.0 { z } else { node }
 }
 
-// The partner of the segment of z's slot that begins at a place, and what it is to hold.
+// The partner of the segment of z's slot that begins at a place and has a content, and what it is to hold.
 fn partner_of<O: Order>(
     order: &O,
     nodes: &Nodes,
@@ -37,14 +37,16 @@ fn partner_of<O: Order>(
     z: NodeId,
     slot: SlotNo,
     at: Pos,
+    held: Content,
 ) -> Option<Partner>
     requires rows { AreRows (O.places order.now) nodes.now.list.items }
     requires slot { IsSlot (O.places order.now) nodes.now.list.items z.0 slot.0 (rank (O.places order.now) at.0) }
     requires renamable { IsRenamable (chart (O.places order.now) nodes.now.list.items) x.0 z.0 (begin_of (O.places order.now) nodes.now.list.items z.0) }
+    requires held { held ≡ (chart (O.places order.now) nodes.now.list.items).holds z.0 slot.0 (rank (O.places order.now) at.0) }
     ensures some { IfSome result (λ p. IsPartnerOf (O.places order.now) nodes.now.list.items x.0 z.0 slot.0 (rank (O.places order.now) at.0) p) }
     ensures none { IfNone result (HasNoPartner (to_come (O.places order.now) nodes.now.list.items x.0 z.0) z.0 slot.0 (rank (O.places order.now) at.0)) }
 {
-    match nodes.read(order, z, slot, at) {
+    match held {
         Content::Target(y) => {
             let node = moved_node(x, z, y);
             Some(Partner {
@@ -62,7 +64,7 @@ fn partner_of<O: Order>(
     }
 }
 
-// Sets the partner of the segment of z's slot that begins at a place.
+// Sets the partner of the segment of z's slot that begins at a place and has a content.
 fn rename_segment<O: Order>(
     order: &O,
     nodes: &mut Nodes,
@@ -70,16 +72,18 @@ fn rename_segment<O: Order>(
     z: NodeId,
     slot: SlotNo,
     at: Pos,
+    held: Content,
 )
     requires rows { AreRows (O.places order.now) nodes.old.list.items }
     requires slot { IsSlot (O.places order.now) nodes.old.list.items z.0 slot.0 (rank (O.places order.now) at.0) }
     requires renamable { IsRenamable (chart (O.places order.now) nodes.old.list.items) x.0 z.0 (begin_of (O.places order.now) nodes.old.list.items z.0) }
+    requires held { held ≡ (chart (O.places order.now) nodes.old.list.items).holds z.0 slot.0 (rank (O.places order.now) at.0) }
     ensures renamed { IsSegmentRenamed (O.places order.now) nodes.old.list.items nodes.new.list.items x.0 z.0 slot.0 (rank (O.places order.now) at.0) }
     ensures edges { KeepsEdgesFrom (O.places order.now) nodes.old.list.items nodes.new.list.items z.0 slot.0 (rank (O.places order.now) at.0) }
     ensures rows { AreRows (O.places order.now) nodes.new.list.items }
     ensures same { AreReplaced nodes.old.list.items nodes.new.list.items }
 {
-    if let Some(partner) = partner_of(order, nodes, x, z, slot, at) {
+    if let Some(partner) = partner_of(order, nodes, x, z, slot, at, held) {
         nodes.replace(order, partner.node, partner.slot, at, partner.content);
     }
 }
@@ -98,9 +102,9 @@ fn rename_slot<O: Order>(order: &O, nodes: &mut Nodes, x: NodeId, z: NodeId, slo
     let mut at = nodes.row(z).lo();
     let end = nodes.row(z).hi();
     while at.0 != end.0 {
-        let (_, next) = nodes.segment(order, z, slot, at);
-        rename_segment(order, nodes, x, z, slot, at);
-        at = next;
+        let found = nodes.covering(order, z, slot, at);
+        rename_segment(order, nodes, x, z, slot, at, found.content);
+        at = found.end;
     }
 }
 

@@ -46,6 +46,24 @@ loop-rest-preserved g c =
       rest = ap (λ (is : List Instr). take (length is - c.step.new.frame.at) (drop c.step.new.frame.at is)) c.as_slice-instrs.ensures ∙ take_rest instrs c.step.new.frame.at;
     }
 
+pub loop-rest-preserved-in-Behind : goal.loop-rest-preserved-in-Behind
+loop-rest-preserved-in-Behind g c =
+    let parts = c.args.code.now in
+    let s0 = g.H.HeapAt.state c.args.heap.now in
+    let a0 = whole c.args.standing.now c.args.frame.now c.args.left.now in
+    let s = g.H.HeapAt.state c.loop-rest.heap in
+    let a = whole c.loop-rest.standing c.loop-rest.frame c.loop-rest.left in
+    let t = g.H.HeapAt.state c.step.new.heap in
+    let b = whole c.step.new.standing c.step.new.frame c.step.new.left in
+    let goes : StaysOn parts s a t b = subst (λ (x : Flow). GoesOn parts s a x c.step.new.out t b) c.in-Behind.is c.in_ok-step.ensures.on in
+    let instrs : List Instr = c.args.procedure.now.instructions in
+    record {
+      ran = ran_on parts s0 s t a0 a b Switched c.loop-rest.invariant.ran (goes_as_moves parts s t a b goes.ran);
+      procedure = ap (procedure_of parts) goes.stays ∙ c.loop-rest.invariant.procedure;
+      top = root_kept parts s t a b Here c.args.top goes.ran c.loop-rest.invariant.top;
+      rest = ap (λ (is : List Instr). take (length is - c.step.new.frame.at) (drop c.step.new.frame.at is)) c.as_slice-instrs.ensures ∙ take_rest instrs c.step.new.frame.at;
+    }
+
 pub returns-in-Out-clause-ran : goal.returns-in-Out-clause-ran
 returns-in-Out-clause-ran g c =
     let parts = c.args.code.now in

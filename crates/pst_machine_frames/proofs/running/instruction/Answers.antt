@@ -119,7 +119,7 @@ returns-in-Jumpeq-clause-acted g c =
     let s = g.H.HeapAt.state c.args.heap.now in
     let a = whole c.args.standing.now c.args.frame.now c.args.left.now in
     let parts = c.args.code.now in
-    came_acted c.flow_of-in-Jumpeq.ensures.came
+    came_acted c.flow_behind-in-Jumpeq.ensures.came
     (subst (λ (i : Instr). Acted parts s a i c.jump_equal.result s (record a { current = c.jump_equal.new.frame })) (sym c.in-Jumpeq.is)
     (frame_acted parts s a c.requires.running.live c.jump_equal.new.frame (Jumpeq c.in-Jumpeq.a c.in-Jumpeq.b c.in-Jumpeq.to) c.jump_equal.result (c.jump_equal.ensures.acts parts (waiting_of parts s a) (world_of s a))
     (subst (λ (xs : Vec (Register g.row.H-Ref.Denot) Global). All (IsLive s a.place) xs.items) (sym c.jump_equal.ensures.registers) c.requires.running.live.current) c.jump_equal.ensures.same))
@@ -129,7 +129,7 @@ returns-in-Jumpne-clause-acted g c =
     let s = g.H.HeapAt.state c.args.heap.now in
     let a = whole c.args.standing.now c.args.frame.now c.args.left.now in
     let parts = c.args.code.now in
-    came_acted c.flow_of-in-Jumpne.ensures.came
+    came_acted c.flow_behind-in-Jumpne.ensures.came
     (subst (λ (i : Instr). Acted parts s a i c.jump_unequal.result s (record a { current = c.jump_unequal.new.frame })) (sym c.in-Jumpne.is)
     (frame_acted parts s a c.requires.running.live c.jump_unequal.new.frame (Jumpne c.in-Jumpne.a c.in-Jumpne.b c.in-Jumpne.to) c.jump_unequal.result (c.jump_unequal.ensures.acts parts (waiting_of parts s a) (world_of s a))
     (subst (λ (xs : Vec (Register g.row.H-Ref.Denot) Global). All (IsLive s a.place) xs.items) (sym c.jump_unequal.ensures.registers) c.requires.running.live.current) c.jump_unequal.ensures.same))
@@ -158,7 +158,7 @@ returns-in_ok-print-in-Print-clause-acted g c =
     let a = whole c.args.standing.now c.args.frame.now c.args.left.now in
     let parts = c.args.code.now in
     let step = c.in_ok-print-in-Print.field-0 in
-    came_acted c.flow_of-in-Print.ensures.came
+    came_acted c.flow_behind-in-Print.ensures.came
     (subst (λ (i : Instr). Acted parts s a i step s (record a { printed = c.print.new.printed })) (sym c.in-Print.is)
     (printed_acted parts s a c.requires.running.live c.in-Print.s step c.print.new.printed (c.in_ok-print-in-Print.ensures parts s.name)))
 
@@ -235,7 +235,7 @@ returns-in-Div-clause-acted g c =
     let s = g.H.HeapAt.state c.args.heap.now in
     let a = whole c.args.standing.now c.args.frame.now c.args.left.now in
     let parts = c.args.code.now in
-    came_acted c.flow_of-in-Div.ensures.came
+    came_acted c.flow_behind.ensures.came
     (subst (λ (i : Instr). Acted parts s a i c.apply-in-Div.result s (record a { current = c.apply-in-Div.new.frame })) (sym c.in-Div.is)
     (plain_acted parts s a c.requires.running.live c.apply-in-Div.new.frame (Div c.in-Div.d c.in-Div.a c.in-Div.b) c.apply-in-Div.result (c.apply-in-Div.ensures.acts s.name parts (waiting_of parts s a) (world_of s a)) c.apply-in-Div.ensures.kept c.apply-in-Div.ensures.same))
 
@@ -253,7 +253,7 @@ returns-in-Neg-clause-acted g c =
     let s = g.H.HeapAt.state c.args.heap.now in
     let a = whole c.args.standing.now c.args.frame.now c.args.left.now in
     let parts = c.args.code.now in
-    came_acted c.flow_of-in-Neg.ensures.came
+    came_acted c.flow_behind-in-Neg.ensures.came
     (subst (λ (i : Instr). Acted parts s a i c.negate.result s (record a { current = c.negate.new.frame })) (sym c.in-Neg.is)
     (plain_acted parts s a c.requires.running.live c.negate.new.frame (Neg c.in-Neg.d c.in-Neg.a) c.negate.result (c.negate.ensures.acts s.name parts (waiting_of parts s a) (world_of s a)) c.negate.ensures.kept c.negate.ensures.same))
 
@@ -275,7 +275,7 @@ returns-in-Check-clause-acted g c =
     let s = g.H.HeapAt.state c.args.heap.now in
     let a = whole c.args.standing.now c.args.frame.now c.args.left.now in
     let parts = c.args.code.now in
-    came_acted c.flow_of-in-Check.ensures.came
+    came_acted c.flow_behind-in-Check.ensures.came
     (subst (λ (i : Instr). Acted parts s a i c.check.result s a) (sym c.in-Check.is)
     (plain_acted parts s a c.requires.running.live a.current (Check c.in-Check.o) c.check.result (c.check.ensures.acts s.name parts (waiting_of parts s a) (world_of s a)) (kept_same a.current.registers.items) refl))
 
@@ -284,7 +284,7 @@ returns-in-Bound-clause-acted g c =
     let s = g.H.HeapAt.state c.args.heap.now in
     let a = whole c.args.standing.now c.args.frame.now c.args.left.now in
     let parts = c.args.code.now in
-    came_acted c.flow_of-in-Bound.ensures.came
+    came_acted c.flow_behind-in-Bound.ensures.came
     (subst (λ (i : Instr). Acted parts s a i c.bound.result s a) (sym c.in-Bound.is)
     (plain_acted parts s a c.requires.running.live a.current (Bound c.in-Bound.i c.in-Bound.elements) c.bound.result (c.bound.ensures.acts s.name parts (waiting_of parts s a) (world_of s a)) (kept_same a.current.registers.items) refl))
 
@@ -359,7 +359,7 @@ returns-in_ok-set_root-in-Setroot-clause-acted g c =
     let parts = c.args.code.now in
     let t = g.H.HeapAt.state c.set_root.new.heap in
     let trap = c.in_ok-set_root-in-Setroot.field-0 in
-    came_acted c.flow_of-in-Setroot.ensures.came
+    came_acted c.flow_behind-in-Setroot.ensures.came
     (subst (λ (x : Step). Acted parts s a c.args.instr.now x t a) (sym c.step_of.ensures)
     (subst (λ (i : Instr). Acted parts s a i (step_of trap) t a) (sym c.in-Setroot.is)
     (written_acted parts s t a c.requires.running.live (Setroot c.in-Setroot.slot c.in-Setroot.s) root_name c.in-Setroot.slot.0 c.in-Setroot.s trap c.requires.running.shape refl c.in_ok-set_root-in-Setroot.ensures.ok)))
@@ -372,7 +372,7 @@ returns-in_ok-store-in-Store-clause-acted g c =
     let t = g.H.HeapAt.state c.store.new.heap in
     let instr = Store c.in-Store.o c.in-Store.slot c.in-Store.s in
     let trap = c.in_ok-store-in-Store.field-0 in
-    came_acted c.flow_of-in-Store.ensures.came
+    came_acted c.flow_behind-in-Store.ensures.came
     (subst (λ (x : Step). Acted parts s a c.args.instr.now x t a) (sym c.step_of-in-Store.ensures)
     (subst (λ (i : Instr). Acted parts s a i (step_of trap) t a) (sym c.in-Store.is)
     (stored_acted parts s a c.requires.running.live t c.in-Store.o c.in-Store.s c.in-Store.slot trap (held_in a.current c.in-Store.o) refl c.requires.running.shape c.in_ok-store-in-Store.ensures.ok
@@ -386,7 +386,7 @@ returns-in-Loadx-clause-acted g c =
     let i = c.in-Loadx in
     let e = c.new-element.result in
     let f = c.load_element.new.frame in
-    came_acted c.flow_of-in-Loadx.ensures.came
+    came_acted c.flow_behind-in-Loadx.ensures.came
     (subst (λ (instr : Instr). Acted parts s a instr c.load_element.result s (record a { current = f })) (ap (λ (e : Element). Loadx i.d i.o e.first e.elements e.index) c.new-element.ensures ∙ sym i.is)
     (frame_acted parts s a c.requires.running.live f (Loadx i.d i.o e.first e.elements e.index) c.load_element.result
     (c.load_element.ensures.acts parts (waiting_of parts s a) (world_of s a) c.requires.running.shape refl) c.load_element.ensures.live c.load_element.ensures.same))
@@ -401,7 +401,7 @@ returns-in_ok-store_element-in-Storex-clause-acted g c =
     let t = g.H.HeapAt.state c.store_element.new.heap in
     let instr = Storex i.o e.first e.elements e.index i.s in
     let trap = c.in_ok-store_element-in-Storex.field-0 in
-    came_acted c.flow_of-in-Storex.ensures.came
+    came_acted c.flow_behind-in-Storex.ensures.came
     (subst (λ (x : Step). Acted parts s a c.args.instr.now x t a) (sym c.step_of-in-Storex.ensures)
     (subst (λ (instr : Instr). Acted parts s a instr (step_of trap) t a) (ap (λ (e : Element). Storex i.o e.first e.elements e.index i.s) c.new-element-in-Storex.ensures ∙ sym i.is)
     (element_acted parts s t a c.requires.running.live i.o i.s e.index e.first e.elements c.requires.running.shape trap c.in_ok-store_element-in-Storex.ensures.ok
@@ -669,7 +669,7 @@ returns-in_ok-make-in-New-clause-acted g c =
     let parts = c.args.code.now in
     let t = g.H.HeapAt.state c.make.new.heap in
     let step = c.in_ok-make-in-New.field-0 in
-    came_acted c.flow_of-in-New.ensures.came
+    came_acted c.flow_behind-in-New.ensures.came
     (subst (λ (i : Instr). Acted parts s a i step t (record a { current = c.make.new.frame; made = c.make.new.made })) (sym c.in-New.is)
     (made_acted parts s t a c.requires.running.live c.make.new.frame c.make.new.made c.in-New.d c.in-New.ty step c.requires.running.shape (target_here parts s a c.requires.valid c.requires.running c.in-New.d c.in-New.ty (c.requires.instr ∙ ap (λ (i : Instr). Some i) c.in-New.is)) c.in_ok-make-in-New.ensures.ok c.in_ok-make-in-New.ensures.made))
 

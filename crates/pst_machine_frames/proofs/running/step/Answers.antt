@@ -14,6 +14,11 @@ overflow_add-frame g c =
     let still : c.instruction.new.frame.at ≡ c.args.frame.now.at = subst (λ (x : Flow). IfNext x (c.instruction.new.frame.at ≡ c.args.frame.now.at)) c.in-Next.is c.in_ok-instruction.ensures.still in
     omega (arith, still, c.requires.at)
 
+pub overflow_add-frame-in-Behind : goal.overflow_add-frame-in-Behind
+overflow_add-frame-in-Behind g c =
+    let still : c.instruction.new.frame.at ≡ c.args.frame.now.at = subst (λ (x : Flow). IfNext x (c.instruction.new.frame.at ≡ c.args.frame.now.at)) c.in-Behind.is c.in_ok-instruction.ensures.still in
+    omega (arith, still, c.requires.at)
+
 pub returns-in-Next-clause-on : goal.returns-in-Next-clause-on
 returns-in-Next-clause-on g c =
     let s = g.H.HeapAt.state c.args.heap.now in
@@ -27,9 +32,27 @@ returns-in-Next-clause-on g c =
     let on = acted_on parts s t a b instr c.requires.valid c.requires.running c.requires.funded c.requires.instr acted in
     record { ran = on.0; less = on.1; stays = acted.stays tt }
 
+pub returns-in-Behind-clause-on : goal.returns-in-Behind-clause-on
+returns-in-Behind-clause-on g c =
+    let s = g.H.HeapAt.state c.args.heap.now in
+    let a = whole c.args.standing.now c.args.frame.now c.args.left.now in
+    let parts = c.args.code.now in
+    let t = g.H.HeapAt.state c.instruction.new.heap in
+    let b = whole c.instruction.new.standing c.instruction.new.frame c.instruction.new.left in
+    let out = c.instruction.new.out in
+    let instr = c.args.instr.now in
+    let acted : Acted parts s a instr Next t b = subst (λ (x : Flow). CameTo parts s a instr (came_to x out) t b) c.in-Behind.is c.in_ok-instruction.ensures.acted in
+    let on = acted_on parts s t a b instr c.requires.valid c.requires.running c.requires.funded c.requires.instr acted in
+    record { ran = on.0; less = on.1; stays = acted.stays tt }
+
 pub returns-in-Next-clause-next : goal.returns-in-Next-clause-next
 returns-in-Next-clause-next g c =
     let still : c.instruction.new.frame.at ≡ c.args.frame.now.at = subst (λ (x : Flow). IfNext x (c.instruction.new.frame.at ≡ c.args.frame.now.at)) c.in-Next.is c.in_ok-instruction.ensures.still in
+    omega (arith, still)
+
+pub returns-in-Behind-clause-next : goal.returns-in-Behind-clause-next
+returns-in-Behind-clause-next g c =
+    let still : c.instruction.new.frame.at ≡ c.args.frame.now.at = subst (λ (x : Flow). IfNext x (c.instruction.new.frame.at ≡ c.args.frame.now.at)) c.in-Behind.is c.in_ok-instruction.ensures.still in
     omega (arith, still)
 
 pub returns-in-Here-clause-on : goal.returns-in-Here-clause-on

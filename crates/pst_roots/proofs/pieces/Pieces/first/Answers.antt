@@ -1,7 +1,6 @@
-use Rattle.std.proofs.Common.{◌≡◌, ◌<◌, ℕ, List, [], length, get_or, ap, ◌∙◌, sym, arith}
+use Rattle.std.proofs.Common.{◌<◌, ℕ, List, [], length, get_or, ap, ◌∙◌, sym, arith}
 use Rattle.std.proofs.lemmas.List.{get_or_read}
 use Rattle.pst_roots.specs.Pieces.{Held}
-use Rattle.pst_roots.specs.Spots.{IsSpotIn}
 use Rattle.pst_roots.proofs.PieceLemmas.{many_starts, start_read, first_within, first_element}
 use Rattle.pst_roots.proofs.pieces.Pieces.first.Goals as goal
 

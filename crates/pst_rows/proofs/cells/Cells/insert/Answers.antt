@@ -1,27 +1,20 @@
-use Rattle.std.proofs.Common.{◌≡◌, ◌≤◌, ◌+◌, ◌-◌, List, ◌++◌, length, drop, map, length-drop, ap, ◌∙◌, arith}
+use Rattle.std.proofs.Common.{◌+◌, ◌-◌, List, ◌++◌, drop, take, ap, ◌∙◌, arith}
 use Rattle.std.specs.List.{insert}
 use Rattle.pst_rows.specs.declared.content.Stamp.{Stamp}
-use Rattle.pst_rows.specs.Cells.{CellsValue, slot_kept, head_size}
-use Rattle.pst_rows.proofs.CellLemmas.{slots_in, head-insert, stamps-insert}
-use Rattle.pst_rows.proofs.EndLemmas.{head-kept}
+use Rattle.pst_rows.specs.Cells.{CellsValue, head_size}
+use Rattle.pst_rows.proofs.EndLemmas.{slots-kept, stamp-behind}
+use Rattle.pst_rows.proofs.CellLemmas.{head-insert, stamps-insert}
 use Rattle.pst_rows.proofs.cells.Cells.insert.Goals as goal
 
 pub returns-clause-slots : goal.returns-clause-slots
 returns-clause-slots c =
-    let slots : slots_in c.self.inside.width (c.self.inside.head ++ c.self.inside.list.items) ≡ c.args.self.now.slots = ap (λ (v : CellsValue). v.slots) c.self.view_is in
-    let stamps : drop (c.self.inside.width - head_size) c.self.inside.list.items ≡ c.args.self.now.stamps = ap (λ (v : CellsValue). v.stamps) c.self.view_is in
-    let few : c.args.index + (c.self.inside.width - head_size) ≤ length c.self.inside.list.items = omega (arith, c.requires.index, ap length stamps, length-drop (c.self.inside.width - head_size) c.self.inside.list.items, c.self.invariant.there) in
-    let at : c.self.inside.behind + c.args.index ≡ (c.self.inside.width - head_size) + c.args.index = omega (arith, c.self.invariant.rest) in
-    ap (map slot_kept) (head-kept c.self.inside.width c.self.inside.head c.mark_end.new.head c.insert.new.list.items c.mark_end.ensures.whole c.mark_end.ensures.slots)
-    ∙ ap (λ (xs : List Stamp). slots_in c.self.inside.width (c.self.inside.head ++ xs)) c.insert.ensures.items
-    ∙ ap (map slot_kept) (head-insert c.self.inside.width c.self.inside.head c.self.inside.list.items (c.self.inside.behind + c.args.index) c.args.stamp (omega (arith, at, c.self.invariant.whole)) (omega (arith, at, few)))
-    ∙ slots
+    let at = stamp-behind c.args.self.now c.self.inside.width c.self.inside.behind c.self.inside.head c.self.inside.list.items c.self.inside.list.capacity c.args.index c.self.invariant c.self.view_is c.requires.index in
+    slots-kept c.args.self.now c.self.inside.width c.self.inside.head c.mark_end.new.head c.self.inside.list.items c.insert.new.list.items c.self.inside.list.capacity c.self.view_is c.mark_end.ensures.whole c.mark_end.ensures.slots
+    (ap (λ (xs : List Stamp). take c.self.inside.width (c.self.inside.head ++ xs)) c.insert.ensures.items ∙ head-insert c.self.inside.width c.self.inside.head c.self.inside.list.items (c.self.inside.behind + c.args.index) c.args.stamp at.1 at.2)
 
 pub returns-clause-stamps : goal.returns-clause-stamps
 returns-clause-stamps c =
-    let stamps : drop (c.self.inside.width - head_size) c.self.inside.list.items ≡ c.args.self.now.stamps = ap (λ (v : CellsValue). v.stamps) c.self.view_is in
-    let few : c.args.index + (c.self.inside.width - head_size) ≤ length c.self.inside.list.items = omega (arith, c.requires.index, ap length stamps, length-drop (c.self.inside.width - head_size) c.self.inside.list.items, c.self.invariant.there) in
-    let at : c.self.inside.behind + c.args.index ≡ (c.self.inside.width - head_size) + c.args.index = omega (arith, c.self.invariant.rest) in
+    let at = stamp-behind c.args.self.now c.self.inside.width c.self.inside.behind c.self.inside.head c.self.inside.list.items c.self.inside.list.capacity c.args.index c.self.invariant c.self.view_is c.requires.index in
     ap (drop (c.self.inside.width - head_size)) c.insert.ensures.items
-    ∙ stamps-insert (c.self.inside.width - head_size) c.self.inside.list.items (c.self.inside.behind + c.args.index) c.args.index c.args.stamp at (omega (arith, few))
-    ∙ ap (λ (xs : List Stamp). insert xs c.args.index c.args.stamp) stamps
+    ∙ stamps-insert (c.self.inside.width - head_size) c.self.inside.list.items (c.self.inside.behind + c.args.index) c.args.index c.args.stamp at.0 (omega (arith, at.0, at.2))
+    ∙ ap (λ (v : CellsValue). insert v.stamps c.args.index c.args.stamp) c.self.view_is
