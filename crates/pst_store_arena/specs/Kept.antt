@@ -1,5 +1,5 @@
 -- What an arena of fat nodes keeps: the nodes as a store sees them, and what is noted beside them.
-use Rattle.std.specs.Prelude.{◌≡◌, ℕ, suc, List, [], ◌∷◌, ◌++◌, length}
+use Rattle.std.specs.Prelude.{◌≡◌, ◌<◌, ◌≤◌, ℕ, suc, List, [], ◌∷◌, ◌++◌, length}
 use Rattle.pst_base.specs.declared.names.Name.{Name}
 use Rattle.pst_base.specs.declared.names.TypeNo.{TypeNo}
 use Rattle.pst_base.specs.declared.shape.TypeShape.{TypeShape}
@@ -10,7 +10,8 @@ use Rattle.pst_queue.specs.declared.links.Link.{Link}
 use Rattle.pst_queue.specs.declared.links.Link.TheVariants.{Out, Last, Before}
 use Rattle.pst_queue.specs.declared.queue.Queue.{Queue}
 use Rattle.pst_nodes.specs.declared.node.Node.{Node}
-use Rattle.pst_nodes.specs.Arena.{new_node, lives, frame_at}
+use Rattle.pst_order.specs.Places.{rank}
+use Rattle.pst_nodes.specs.Arena.{new_node, lives, frame_at, lo_at}
 use Rattle.pst_mirror.specs.Lives.{IsIn as IsInLives}
 use Rattle.pst_base.specs.Name.{root_name}
 use Rattle.pst_split.specs.Steps.{Queues}
@@ -59,4 +60,10 @@ pub record IsRowAdded (shape : List TypeShape) (old new : List Node) (id : ℕ) 
 -- a node is one of the root record, and lives at a position
 pub record IsRootAt (qs : List ℕ) (ns : List Node) (i n : ℕ) : Type 0 where
   pub inside : IsInLives (lives qs ns) i n
+  pub root : (frame_at ns i).name ≡ root_name
+
+-- a node is one of the root record, and does not begin after a position
+pub record IsRootBy (qs : List ℕ) (ns : List Node) (i n : ℕ) : Type 0 where
+  pub there : i < length ns
+  pub begun : rank qs (lo_at ns i) ≤ n
   pub root : (frame_at ns i).name ≡ root_name

@@ -105,6 +105,8 @@ impl FatNodes for Arena {
         cover(order, &self.nodes, id, at)
     }
 
+    // Asked where no node nearby was the one: that it stands apart lets what comes before it take few registers.
+    #[inline(never)]
     fn root<O: Order>(&self, order: &O, _shape: &Shape, at: Pos) -> NodeId {
         let held = self.roots.at(order, &self.nodes, at);
         self.nodes.cover(order, held, at)

@@ -12,6 +12,9 @@ use Rattle.pst_store_arena.proofs.arena.ArenaFatNodes.root_near.Goals as goal
 pub root_beside-requires-clause-rows : goal.root_beside-requires-clause-rows
 root_beside-requires-clause-rows g c = (known_sound c.args.shape.now (g.O.Order.places c.args.order.now) c.self.inside.nodes.list.items c.self.inside.roots c.self.inside.looked_at c.args.self.now c.self.view_is c.requires.nodes).rows
 
+pub root_beside-requires-clause-chained : goal.root_beside-requires-clause-chained
+root_beside-requires-clause-chained g c = (known_sound c.args.shape.now (g.O.Order.places c.args.order.now) c.self.inside.nodes.list.items c.self.inside.roots c.self.inside.looked_at c.args.self.now c.self.view_is c.requires.nodes).chained
+
 pub root_beside-requires-clause-place : goal.root_beside-requires-clause-place
 root_beside-requires-clause-place g c =
     let s : IsSound c.args.shape.now (g.O.Order.places c.args.order.now) c.self.inside.nodes.list.items = known_sound c.args.shape.now (g.O.Order.places c.args.order.now) c.self.inside.nodes.list.items c.self.inside.roots c.self.inside.looked_at c.args.self.now c.self.view_is c.requires.nodes in
