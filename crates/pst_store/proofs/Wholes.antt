@@ -54,3 +54,7 @@ whole_small o g s e f k = subst (λ (g : Option Stored). queue_in g ≡ [] → I
 
 pub inside_open : (o g : Option Stored) (s : Stored) (at : Place) → o ≡ g → o ≡ Some s → (state_in g).writable at → IsOpen s.forks at
 inside_open o g s at e f p = inside o g s (λ o. (state_in o).writable at) e f p
+
+-- what is not so of a store that is not started is not required of one
+pub not_started : (o g : Option Stored) (P : Option Stored → Type 0) → o ≡ g → o ≡ None → P g → P None
+not_started o g P e f p = subst P (sym e ∙ f) p

@@ -1,7 +1,7 @@
 //! The store as a heap at many places, which are forked and published.
 
 use crate::store::StoreOf;
-use pst_base::{Counts, Name, NoMemory, NodeId, ROOT, RunNo, SlotNo, TypeNo, VersionNo};
+use pst_base::{Counts, Name, NoMemory, NodeId, RunNo, SlotNo, TypeNo, VersionNo};
 use pst_order::Order;
 use pst_places::{HeapAt, StoreFault, VersionedHeap};
 use pst_store_arena::FatNodes;
@@ -30,7 +30,7 @@ impl<O: Order + Drop, N: FatNodes> HeapAt for StoreOf<O, N> {
 
     fn root(&self, at: Place) -> NodeId {
         match &self.started {
-            None => NodeId(0),
+            None => none(),
             Some(started) => started.root(at),
         }
     }
@@ -38,7 +38,7 @@ impl<O: Order + Drop, N: FatNodes> HeapAt for StoreOf<O, N> {
     #[inline(always)]
     fn load_value(&self, at: Place, r: NodeId, field: SlotNo) -> i64 {
         match &self.started {
-            None => 0,
+            None => none(),
             Some(started) => started.number(at, r, field),
         }
     }
@@ -46,21 +46,21 @@ impl<O: Order + Drop, N: FatNodes> HeapAt for StoreOf<O, N> {
     #[inline(always)]
     fn load_pointer(&self, at: Place, r: NodeId, field: SlotNo) -> Option<NodeId> {
         match &self.started {
-            None => None,
+            None => none(),
             Some(started) => started.pointer(at, r, field),
         }
     }
 
     fn name_of(&self, r: NodeId) -> Name {
         match &self.started {
-            None => ROOT,
+            None => none(),
             Some(started) => started.name(r),
         }
     }
 
     fn type_of(&self, r: NodeId) -> TypeNo {
         match &self.started {
-            None => TypeNo(0),
+            None => none(),
             Some(started) => started.ty(r),
         }
     }
@@ -73,7 +73,7 @@ impl<O: Order + Drop, N: FatNodes> HeapAt for StoreOf<O, N> {
         ensures covers { IfSome self.now (λ s. IsIn (arena s) result.0 (begin_of s at)) }
     {
         match &self.started {
-            None => r,
+            None => none(),
             Some(started) => started.nearest(at, r),
         }
     }
@@ -81,7 +81,7 @@ impl<O: Order + Drop, N: FatNodes> HeapAt for StoreOf<O, N> {
     #[inline(always)]
     fn same(&self, r: NodeId, q: NodeId) -> bool {
         match &self.started {
-            None => true,
+            None => none(),
             Some(started) => r == q || started.name(r) == started.name(q),
         }
     }
@@ -97,7 +97,7 @@ impl<O: Order + Drop, N: FatNodes> HeapAt for StoreOf<O, N> {
         ensures held { IfOk result (λ _. IfSome self.new HoldsRoots) }
     {
         match &mut self.started {
-            None => Err(NoMemory),
+            None => none(),
             Some(started) => started.make(at, ty, name),
         }
     }
@@ -114,7 +114,7 @@ impl<O: Order + Drop, N: FatNodes> HeapAt for StoreOf<O, N> {
         ensures stamps { Stamps 2 self.old self.new }
     {
         match &mut self.started {
-            None => Err(NoMemory),
+            None => none(),
             Some(started) => started.write_number(at, r, field, n),
         }
     }
@@ -133,7 +133,7 @@ impl<O: Order + Drop, N: FatNodes> HeapAt for StoreOf<O, N> {
         ensures stamps { Stamps 6 self.old self.new }
     {
         match &mut self.started {
-            None => Err(StoreFault::Memory),
+            None => none(),
             Some(started) => started.point(at, r, field, target),
         }
     }
@@ -206,4 +206,14 @@ impl<O: Order + Drop, N: FatNodes> VersionedHeap for StoreOf<O, N> {
             Some(started) => started.counts(),
         }
     }
+}
+
+// What a call answers of a store that is not started, where what the call requires rules that out. The compiler makes no code for
+// an element of an empty list, and so none for the question that would lead here.
+#[inline(always)]
+fn none<T: Copy>() -> T
+    requires { ⊥ }
+{
+    let none: &[T] = &[];
+    none[0]
 }

@@ -1,5 +1,11 @@
-use Rattle.pst_store.proofs.Wholes.{inside_open}
+use Rattle.std.proofs.Common.{Option}
+use Rattle.pst_store.specs.Whole.{state_in}
+use Rattle.pst_store_meaning.specs.Store.{Stored}
+use Rattle.pst_store.proofs.Wholes.{inside_open, not_started}
 use Rattle.pst_store.proofs.store_heap.StoreOfHeapAt.store_value.Goals as goal
 
 pub write_number-requires-clause-writable : goal.write_number-requires-clause-writable
 write_number-requires-clause-writable g c = inside_open _ _ c.in-Some.started c.args.at c.self.view_is c.in-Some.is c.requires.writable
+
+pub none-requires : goal.none-requires
+none-requires g c = not_started _ _ (λ (o : Option Stored). (state_in o).writable c.args.at) c.self.view_is c.in-None.is c.requires.writable

@@ -1,0 +1,8 @@
+use Rattle.std.proofs.Common.{Option}
+use Rattle.pst_store_meaning.specs.Store.{Stored}
+use Rattle.pst_store.specs.Whole.{state_in}
+use Rattle.pst_store.proofs.Wholes.{not_started}
+use Rattle.pst_store.proofs.store_heap.StoreOfHeapAt.root.Goals as goal
+
+pub none-requires : goal.none-requires
+none-requires g c = not_started _ _ (λ (o : Option Stored). (state_in o).has c.args.at) c.self.view_is c.in-None.is c.requires
