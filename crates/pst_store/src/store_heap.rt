@@ -1,5 +1,7 @@
 //! The store as a heap at many places, which are forked and published.
 
+ghost use Rattle.std.specs.Prelude.{◌≡◌, ◌<◌, Some, length, slice_get};
+
 use crate::store::StoreOf;
 use pst_base::{Counts, Name, NoMemory, NodeId, RunNo, SlotNo, TypeNo, VersionNo};
 use pst_order::Order;
@@ -30,7 +32,7 @@ impl<O: Order + Drop, N: FatNodes> HeapAt for StoreOf<O, N> {
 
     fn root(&self, at: Place) -> NodeId {
         match &self.started {
-            None => none(),
+            None => first_of(&[]),
             Some(started) => started.root(at),
         }
     }
@@ -38,7 +40,7 @@ impl<O: Order + Drop, N: FatNodes> HeapAt for StoreOf<O, N> {
     #[inline(always)]
     fn load_value(&self, at: Place, r: NodeId, field: SlotNo) -> i64 {
         match &self.started {
-            None => none(),
+            None => first_of(&[]),
             Some(started) => started.number(at, r, field),
         }
     }
@@ -46,21 +48,21 @@ impl<O: Order + Drop, N: FatNodes> HeapAt for StoreOf<O, N> {
     #[inline(always)]
     fn load_pointer(&self, at: Place, r: NodeId, field: SlotNo) -> Option<NodeId> {
         match &self.started {
-            None => none(),
+            None => first_of(&[]),
             Some(started) => started.pointer(at, r, field),
         }
     }
 
     fn name_of(&self, r: NodeId) -> Name {
         match &self.started {
-            None => none(),
+            None => first_of(&[]),
             Some(started) => started.name(r),
         }
     }
 
     fn type_of(&self, r: NodeId) -> TypeNo {
         match &self.started {
-            None => none(),
+            None => first_of(&[]),
             Some(started) => started.ty(r),
         }
     }
@@ -73,7 +75,7 @@ impl<O: Order + Drop, N: FatNodes> HeapAt for StoreOf<O, N> {
         ensures covers { IfSome self.now (λ s. IsIn (arena s) result.0 (begin_of s at)) }
     {
         match &self.started {
-            None => none(),
+            None => first_of(&[]),
             Some(started) => started.nearest(at, r),
         }
     }
@@ -81,7 +83,7 @@ impl<O: Order + Drop, N: FatNodes> HeapAt for StoreOf<O, N> {
     #[inline(always)]
     fn same(&self, r: NodeId, q: NodeId) -> bool {
         match &self.started {
-            None => none(),
+            None => first_of(&[]),
             Some(started) => r == q || started.name(r) == started.name(q),
         }
     }
@@ -97,7 +99,7 @@ impl<O: Order + Drop, N: FatNodes> HeapAt for StoreOf<O, N> {
         ensures held { IfOk result (λ _. IfSome self.new HoldsRoots) }
     {
         match &mut self.started {
-            None => none(),
+            None => first_of(&[]),
             Some(started) => started.make(at, ty, name),
         }
     }
@@ -114,7 +116,7 @@ impl<O: Order + Drop, N: FatNodes> HeapAt for StoreOf<O, N> {
         ensures stamps { Stamps 2 self.old self.new }
     {
         match &mut self.started {
-            None => none(),
+            None => first_of(&[]),
             Some(started) => started.write_number(at, r, field, n),
         }
     }
@@ -133,7 +135,7 @@ impl<O: Order + Drop, N: FatNodes> HeapAt for StoreOf<O, N> {
         ensures stamps { Stamps 6 self.old self.new }
     {
         match &mut self.started {
-            None => none(),
+            None => first_of(&[]),
             Some(started) => started.point(at, r, field, target),
         }
     }
@@ -208,12 +210,12 @@ impl<O: Order + Drop, N: FatNodes> VersionedHeap for StoreOf<O, N> {
     }
 }
 
-// What a call answers of a store that is not started, where what the call requires rules that out. The compiler makes no code for
-// an element of an empty list, and so none for the question that would lead here.
+// The first element of a list. A store that is not started answers that of an empty one, where what the call requires rules that
+// out: the compiler makes no code for it, and so none for the question that would lead there.
 #[inline(always)]
-fn none<T: Copy>() -> T
-    requires { ⊥ }
+fn first_of<T: Copy>(list: &[T]) -> T
+    requires { 0 < length list.now }
+    ensures { slice_get list.now 0 ≡ Some result }
 {
-    let none: &[T] = &[];
-    none[0]
+    list[0]
 }

@@ -7,5 +7,5 @@ use Rattle.pst_store.proofs.store_heap.StoreOfHeapAt.store_value.Goals as goal
 pub write_number-requires-clause-writable : goal.write_number-requires-clause-writable
 write_number-requires-clause-writable g c = inside_open _ _ c.in-Some.started c.args.at c.self.view_is c.in-Some.is c.requires.writable
 
-pub none-requires : goal.none-requires
-none-requires g c = not_started _ _ (λ (o : Option Stored). (state_in o).writable c.args.at) c.self.view_is c.in-None.is c.requires.writable
+pub first_of-requires : goal.first_of-requires
+first_of-requires g c = absurd (not_started _ _ (λ (o : Option Stored). (state_in o).writable c.args.at) c.self.view_is c.in-None.is c.requires.writable)
