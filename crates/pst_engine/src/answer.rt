@@ -49,7 +49,7 @@ pub(crate) fn answer<H: VersionedHeap, C: Meant>(
             arguments,
         } => call_run(code, heap, engine, *run, procedure, arguments),
         Command::StepRun { run, charges } => step_run(code, heap, engine, *run, *charges),
-        Command::CloseRun { run } => close_run(alloc, code, heap, engine, *run),
+        Command::CloseRun { run } => close_run(code, heap, engine, *run),
         Command::DropRun { run } => Ok(drop_run(code, heap, engine, *run)),
         Command::Budget { charges } => {
             engine.budget = *charges;

@@ -6,11 +6,10 @@ ghost use Rattle.pst_engine.specs.Stands.{MayPublish, Settled};
 ghost use Rattle.pst_engine.specs.Changes.{Closes};
 
 use pst_base::{NoMemory, Numbers, RunNo, VersionNo};
-use pst_engine_runs::{Meant, OpenEntry, advance, copy_of, known};
+use pst_engine_runs::{Meant, OpenEntry, advance, known};
 use pst_places::VersionedHeap;
 use pst_program::Ended;
 use pst_script::Reply;
-use std::alloc::Global;
 
 /// Publishes the place of a run that is done, and gives the answer to the run's end.
 fn settle<H: VersionedHeap>(
@@ -36,10 +35,9 @@ fn settle<H: VersionedHeap>(
     }
 }
 
-/// Carries an open run to its end, and publishes its version where it is done. Publishing is the last that can find no memory,
-/// so the versions are then those of before.
+/// Carries an open run to its end, and publishes its version where it is done. The run's own list of printed numbers goes into the
+/// answer. Publishing is the last that can find no memory, so the versions are then those of before.
 pub(crate) fn close<H: VersionedHeap, C: Meant>(
-    alloc: Global,
     code: &C,
     heap: &mut H,
     active: &mut Vec<OpenEntry<H>>,
@@ -57,12 +55,11 @@ pub(crate) fn close<H: VersionedHeap, C: Meant>(
     known::<H, C>(code);
     let entry = &mut active[at];
     let end = advance(code, &mut entry.activation, heap, u32::MAX)?;
-    let printed = copy_of(alloc, entry.activation.printed())?;
     let place = entry.activation.place();
     let parent = entry.parent;
+    let closed = active.remove(at);
+    let printed = closed.activation.into_printed();
     heap.known();
     heap.known_versions();
-    let reply = settle(heap, parent, run, place, end, printed)?;
-    active.remove(at);
-    Ok(reply)
+    settle(heap, parent, run, place, end, printed)
 }

@@ -87,7 +87,7 @@ pub(crate) fn run<H: VersionedHeap, C: Meant>(
     let budget = engine.budget;
     let active = &mut engine.active.items;
     let at = open_with(alloc, code, heap, active, budget, run, first)?;
-    let reply = close(alloc, code, heap, active, at, run)?;
+    let reply = close(code, heap, active, at, run)?;
     engine.next_run = RunNo(run.0 + 1);
     Ok(reply)
 }
@@ -137,7 +137,6 @@ pub(crate) fn step_run<H: VersionedHeap, C: Meant>(
 
 /// Carries an open run to its end.
 pub(crate) fn close_run<H: VersionedHeap, C: Meant>(
-    alloc: Global,
     code: &C,
     heap: &mut H,
     engine: &mut Engine<H>,
@@ -149,7 +148,7 @@ pub(crate) fn close_run<H: VersionedHeap, C: Meant>(
     ensures same_failed { engine.new.failed ≡ engine.old.failed }
 {
     let at = index_of(&engine.active, run);
-    close(alloc, code, heap, &mut engine.active.items, at, run)
+    close(code, heap, &mut engine.active.items, at, run)
 }
 
 /// Gives an open run up.

@@ -1,6 +1,7 @@
 -- Finding the entry of a run; and what is refused.
 use Rattle.std.proofs.Common.{◌≡◌, ℕ, ℤ, ◌+◌, ◌<◌, ◌≤◌, List, [], ◌∷◌, length, refl, ap, sym, ◌∙◌, subst, arith, zero, suc, slice_get, Option, Some, None, Bool, true, false, cond}
-use Rattle.std.specs.Prelude.{IfSome, IsSome, not, nat_lt, nat_le, position}
+use Rattle.std.specs.Prelude.{IfSome, IsSome, is_some, not, nat_lt, nat_le, position}
+use Rattle.std.proofs.lemmas.Bool.{false≢true}
 use Rattle.std.specs.List.{position_or_len}
 use Rattle.std.specs.Option.{option_and_then}
 use Rattle.std.proofs.lemmas.Option.{same_Some, get_or_from_slice_get}
@@ -92,6 +93,22 @@ is-run-at active run at w = if-some (λ f. f.run ≡ run) (slice_get active at) 
 -- the entry at an index
 pub entry-there : {H P R : Type 0} (active : List (OpenEntry H R P)) (at : ℕ) (run : RunNo) → at < length active → IsRunAt active at run → (e : OpenEntry H R P) × (slice_get active at ≡ Some e) × (e.run ≡ run)
 entry-there active at run less is = let w = present active at less in (w.0, w.1, run-is active at w.0 run w.1 is)
+
+-- a run that has an entry is open
+open-at : {H P R : Type 0} (active : List (OpenEntry H R P)) (run : RunNo) (at : ℕ) → at < length active → IsRunAt active at run → None ≡ run_by (entry_of active run)
+open-at {H = H} {P = P} {R = R} active run at less is = by-position (position (is_run run) active) refl
+  where
+    by-position : (o : Option ℕ) → position (is_run run) active ≡ o → None ≡ run_by (option_and_then (slice_get active) o)
+    by-position None p = let w = entry-there active at run less is in absurd (absent (is_run run) active p at w.0 w.1 (eq-eqb w.0.run.0 run.0 (ap (λ (r : RunNo). r.0) w.2)))
+    by-position (Some k) p = let w = found-at active run k p in sym (ap run_by w.found)
+
+pub open-where : {H P R : Type 0} (active : List (OpenEntry H R P)) (run : RunNo) (o : Option ℕ) → is_some o ≡ true → IfSome o (λ at. at < length active) → IfSome o (λ at. IsRunAt active at run) → None ≡ run_by (entry_of active run)
+open-where active run None some within is = absurd (false≢true some)
+open-where active run (Some at) some within is = open-at active run at within is
+
+-- the entry that was looked at is that of the run
+pub looked-at : {H P R : Type 0} (active : List (OpenEntry H R P)) (run : RunNo) (at : ℕ) (e : OpenEntry H R P) → slice_get active at ≡ Some e → is_run run e ≡ true → IsRunAt active at run
+looked-at active run at e found is = if-some (λ f. f.run ≡ run) (slice_get active at) e found (same-run run e is)
 
 -- it is the entry of the run
 pub entry_of-at : {H P R : Type 0} (active : List (OpenEntry H R P)) (run : RunNo) (at : ℕ) (e : OpenEntry H R P) → position (is_run run) active ≡ Some at → slice_get active at ≡ Some e → entry_of active run ≡ Some e

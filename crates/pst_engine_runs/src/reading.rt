@@ -58,6 +58,5 @@ pub fn query<H: VersionedHeap, C: Meant>(
     let mut activation = bare(code, alloc, at, number, budget)?;
     add(code, &mut activation, &first.procedure, &first.arguments)?;
     let end = advance(code, &mut activation, heap, u32::MAX)?;
-    let printed = copy_of(alloc, activation.printed())?;
-    Ok(queried(printed, end))
+    Ok(queried(activation.into_printed(), end))
 }

@@ -1,6 +1,6 @@
 //! Why a command is refused.
 
-ghost use Rattle.std.specs.Prelude.{◌≡◌, ◌<◌, IsSome, length, position};
+ghost use Rattle.std.specs.Prelude.{◌≡◌, ◌<◌, IfSome, IsSome, length, position};
 ghost use Rattle.pst_history.specs.History.{first};
 ghost use Rattle.pst_history.specs.Meaning.{kinds_refusal};
 ghost use Rattle.pst_engine_runs.specs.Stands.{IsRunAt};
@@ -27,13 +27,33 @@ fn entry_at<H: VersionedHeap>(active: &[OpenEntry<H>], run: RunNo) -> Option<usi
     active.iter().position(|entry| is_run(entry, run))
 }
 
+/// The index of the entry of a run that stands as far behind the first entry as its number is above that of the first: so it does
+/// where all runs that were opened from that one on are open yet. None where no run or another one stands there.
+fn expected_at<H: VersionedHeap>(active: &[OpenEntry<H>], run: RunNo) -> Option<usize>
+    ensures within { IfSome result (λ at. at < length active.now) }
+    ensures run { IfSome result (λ at. IsRunAt active.now at run) }
+{
+    if active.is_empty() || run.0 < active[0].run.0 {
+        return None;
+    }
+    let at = (run.0 - active[0].run.0) as usize;
+    if at < active.len() && is_run(&active[at], run) {
+        return Some(at);
+    }
+    None
+}
+
 /// The index of the entry of a run that is open.
 pub fn index_of<H: VersionedHeap>(active: &Activations<H>, run: RunNo) -> usize
     requires { IsSome (position (is_run run) active.now.items.items) }
     ensures at { result < length active.now.items.items }
     ensures run { IsRunAt active.now.items.items result run }
 {
-    entry_at(active.items.as_slice(), run).unwrap()
+    let entries = active.items.as_slice();
+    if let Some(at) = expected_at(entries, run) {
+        return at;
+    }
+    entry_at(entries, run).unwrap()
 }
 
 /// Whether no version has the number.
@@ -70,6 +90,9 @@ fn refusal_of_open_runs<H: VersionedHeap>(active: &[OpenEntry<H>]) -> Option<Ref
 fn refusal_of_run<H: VersionedHeap>(active: &[OpenEntry<H>], run: RunNo) -> Option<Refusal>
     ensures { result ≡ run_by (entry_of active.now run) }
 {
+    if expected_at(active, run).is_some() {
+        return None;
+    }
     match entry_at(active, run) {
         None => Some(Refusal::Run),
         Some(_) => None,

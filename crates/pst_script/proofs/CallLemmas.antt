@@ -1,11 +1,15 @@
 -- The arguments of a call, one after the other.
-use Rattle.std.proofs.Common.{◌≡◌, ℕ, Bool, true, false, List, [], ◌∷◌, ◌++◌, refl, sym, ap, ◌∙◌, Option, Some, None, append_assoc}
-use Rattle.std.specs.Prelude.{ℤ, is_some, if◌then◌else◌, ◌&&◌}
+use Rattle.std.proofs.Common.{◌≡◌, ℕ, Bool, true, false, List, [], ◌∷◌, ◌++◌, refl, sym, ap, ◌∙◌, Option, Some, None, Result, Ok, Err, subst, append_assoc, ◌<◌, ◌^◌, pos, negsuc, rules, tests, SFits}
+use mir.Syntax.{w64}
+use borrow.Author.Rules.{sfits_of}
+use Rattle.std.specs.Prelude.{ℤ, is_some, if◌then◌else◌, ◌&&◌, nat_lt, IsOkAnd, ⊤}
 use Rattle.std.specs.Option.{option_map}
 use Rattle.std.specs.List.{list_all}
 use Rattle.std.proofs.lemmas.Bool.{false≢true}
 use Rattle.pst_script.specs.Numerals.{passing, fits_64_bits, argument_of}
-use Rattle.pst_script.specs.Commands.{with_both, arguments_of, all_fit}
+use Rattle.pst_script.specs.Commands.{with_both, arguments_of, all_fit, judged, fault_of, IsReadAs}
+use Rattle.pst_script.specs.declared.command.LineFault.{LineFault}
+use Rattle.pst_script.specs.declared.command.LineFault.TheVariants.{Number, Memory}
 
 abbrev pub onto : Option ℤ → Option (List ℤ) → Option (List ℤ)
 onto first rest = with_both (λ n ns. n ∷ ns) first rest
@@ -29,15 +33,6 @@ rest_decides n None rest h = let clash : Some n ≡ None = h in cc
 rest_decides n (Some z) None h = refl
 rest_decides n (Some z) (Some ns) h = sym (ap (λ b. b && list_all fits_64_bits ns) (found n z h).0)
 
-pub rest_fits : (first : Option ℤ) (rest : Option (List ℤ)) → is_some (onto first rest) ≡ true → all_fit (onto first rest) ≡ true → all_fit rest ≡ true
-rest_fits None rest w h = absurd (false≢true w)
-rest_fits (Some z) None w h = refl
-rest_fits (Some z) (Some ns) w h = by_test (fits_64_bits z) h
-  where
-    by_test : (b : Bool) → (b && list_all fits_64_bits ns) ≡ true → list_all fits_64_bits ns ≡ true
-    by_test true k = k
-    by_test false k = absurd (false≢true k)
-
 one_behind : (before : List ℤ) (n : ℤ) (ns : List ℤ) → (before ++ n ∷ []) ++ ns ≡ before ++ n ∷ ns
 one_behind before n ns = rw append_assoc refl
 
@@ -56,10 +51,49 @@ pub words_decide : (all rest : List (List ℕ)) (word : List ℕ) (r : Option �
 words_decide all rest word None e p h = absurd (false≢true h)
 words_decide all rest word (Some n) e p h = rest_decides n (argument_of word) (arguments_of rest) p ∙ sym (ap (λ ws. all_fit (arguments_of ws)) e)
 
-pub words_fit : (all rest : List (List ℕ)) (word : List ℕ) → all ≡ word ∷ rest → is_some (arguments_of all) ≡ true → all_fit (arguments_of all) ≡ true → all_fit (arguments_of rest) ≡ true
-words_fit all rest word e w h = rest_fits (argument_of word) (arguments_of rest) (sym (ap (λ ws. is_some (arguments_of ws)) e) ∙ w) (sym (ap (λ ws. all_fit (arguments_of ws)) e) ∙ h)
-
 pub word_read : (all rest : List (List ℕ)) (word : List ℕ) (r : Option ℤ) (n : ℤ) (before now : List ℤ) (whole : Option (List ℤ)) → all ≡ word ∷ rest → r ≡ passing fits_64_bits (argument_of word) → r ≡ Some n → now ≡ before ++ n ∷ [] → option_map (λ ns. before ++ ns) (arguments_of all) ≡ whole → option_map (λ ns. now ++ ns) (arguments_of rest) ≡ whole
 word_read all rest word r n before now whole e p some push h =
     ap (λ (xs : List ℤ). option_map (λ ns. xs ++ ns) (arguments_of rest)) push
     ∙ (one_more before n (argument_of word) (arguments_of rest) (sym some ∙ p) ∙ (sym (ap (λ ws. option_map (λ ns. before ++ ns) (arguments_of ws)) e) ∙ h))
+
+-- ---- what is read, or what is wrong with it
+
+-- where those before fit, the others decide
+both_fit : (before ns : List ℤ) → list_all fits_64_bits before ≡ true → list_all fits_64_bits (before ++ ns) ≡ list_all fits_64_bits ns
+both_fit [] ns h = refl
+both_fit (n ∷ before) ns h = by_test (fits_64_bits n) (λ k. both_fit before ns k) h
+  where
+    by_test : (b : Bool) → (list_all fits_64_bits before ≡ true → list_all fits_64_bits (before ++ ns) ≡ list_all fits_64_bits ns) → (b && list_all fits_64_bits before) ≡ true → (b && list_all fits_64_bits (before ++ ns)) ≡ list_all fits_64_bits ns
+    by_test true rest k = rest k
+    by_test false rest k = absurd (false≢true k)
+
+-- a number that was read fits, and so do those so far with it
+pub more_fit : (before now : List ℤ) (r first : Option ℤ) (n : ℤ) → r ≡ passing fits_64_bits first → r ≡ Some n → now ≡ before ++ n ∷ [] → list_all fits_64_bits before ≡ true → list_all fits_64_bits now ≡ true
+more_fit before now r None n p some e h = let clash : Some n ≡ None = sym some ∙ p in cc
+more_fit before now r (Some z) n p some e h =
+    let is = found n z (sym some ∙ p) in
+    ap (list_all fits_64_bits) e ∙ (both_fit before (n ∷ []) h ∙ ap (λ b. b && true) (ap fits_64_bits is.1 ∙ is.0))
+
+below : (n : ℕ) → nat_lt n (2 ^ 63) ≡ true → n < 2 ^ 63
+below n h = search (rules, tests)
+
+in_64_bits : (z : ℤ) → fits_64_bits z ≡ true → SFits w64 z
+in_64_bits (pos n) h = sfits_of (below n h)
+in_64_bits (negsuc n) h = sfits_of (below n h)
+
+-- a number that was read is one of 64 bits
+pub read_in_64_bits : (n : ℤ) (r first : Option ℤ) → r ≡ passing fits_64_bits first → r ≡ Some n → SFits w64 n
+read_in_64_bits n r None p some = let clash : Some n ≡ None = sym some ∙ p in cc
+read_in_64_bits n r (Some z) p some = let is = found n z (sym some ∙ p) in in_64_bits n (ap fits_64_bits is.1 ∙ is.0)
+
+-- what is wrong with the words that are left is wrong with all
+pub fault_told : (before : List ℤ) (left whole : Option (List ℤ)) → list_all fits_64_bits before ≡ true → option_map (λ ns. before ++ ns) left ≡ whole → IsReadAs (λ (_ : List ℤ). ⊤) (judged (list_all fits_64_bits) whole) (Err (fault_of left))
+fault_told before None whole fit h = ap (judged (list_all fits_64_bits)) (sym h)
+fault_told before (Some ns) whole fit h = by_test (list_all fits_64_bits ns) refl
+  where
+    told : (b : Bool) → list_all fits_64_bits ns ≡ b → judged (list_all fits_64_bits) whole ≡ (if b then Ok (before ++ ns) else Err Number)
+    told b e = ap (judged (list_all fits_64_bits)) (sym h) ∙ ap (λ b. if b then Ok (before ++ ns) else Err Number) (both_fit before ns fit ∙ e)
+
+    by_test : (b : Bool) → list_all fits_64_bits ns ≡ b → IsReadAs (λ (_ : List ℤ). ⊤) (judged (list_all fits_64_bits) whole) (Err (if b then Memory else Number))
+    by_test true e = subst (λ (r : Result (List ℤ) LineFault). IsOkAnd r (λ _. ⊤)) (sym (told true e)) tt
+    by_test false e = told false e

@@ -1,5 +1,5 @@
 -- The commands that lines of a script are.
-use Rattle.std.specs.Prelude.{◌≡◌, ℕ, ◌==◌, ◌&&◌, Bool, true, List, [], ◌∷◌, ℤ, Option, Some, None, Result, Ok, Err, if◌then◌else◌, slice_index, codes, IsOkAnd, is_some}
+use Rattle.std.specs.Prelude.{◌≡◌, ℕ, ◌==◌, ◌&&◌, Bool, true, List, [], ◌∷◌, ℤ, Option, Some, None, Result, Ok, Err, if◌then◌else◌, slice_index, codes, IsOkAnd}
 use Rattle.std.specs.Option.{option_map, option_or}
 use Rattle.std.specs.Str.{bytes_eq}
 use Rattle.std.specs.List.{list_all}
@@ -165,13 +165,17 @@ IsReadAs taken what (Err Memory) = IsOkAnd what taken
 
 -- ---- the parts of a call
 
--- the words are those of a call, which are what they have to be by their form
+-- the words are those of a call, but for its arguments, which may be none
 pub record IsCallOf (call : CallWords) (all : List (List ℕ)) : Type 0 where
   pub numeral : is_numeral call.number.now ≡ true
-  pub written : is_some (arguments_of (words call.arguments.now)) ≡ true
   pub called : called_of all ≡ with_both (make_called call.procedure.now) (number_of call.number.now) (arguments_of (words call.arguments.now))
 
 -- all numbers have 64 bits, if there are any
 abbrev pub all_fit : Option (List ℤ) → Bool
 all_fit None = true
 all_fit (Some ns) = list_all fits_64_bits ns
+
+-- what is wrong where words were not read as arguments: their form, or else a range, or else there was no memory
+abbrev pub fault_of : Option (List ℤ) → LineFault
+fault_of None = Line
+fault_of (Some ns) = if list_all fits_64_bits ns then Memory else Number

@@ -1,15 +1,20 @@
 //! The calls of a script: which procedure runs on which version or in which run, with which arguments.
 ghost use Rattle.std.specs.Prelude.{◌≡◌, true, is_some, IfOk, MatchOption, Some, None, ⊤};
 ghost use Rattle.pst_script.specs.Words.{words};
-ghost use Rattle.pst_script.specs.Commands.{arguments_of, all_fit, called_of, on_version, to_run, IsCallOf, IsReadAs, judged, called_in_range};
+ghost use Rattle.std.specs.List.{list_all};
+ghost use Rattle.pst_script.specs.Numerals.{argument_of, fits_64_bits, passing};
+ghost use Rattle.pst_script.specs.Commands.{arguments_of, all_fit, called_of, on_version, to_run, IsCallOf, IsReadAs, judged, called_in_range, fault_of};
 
 use crate::command::{Call, Command, LineFault};
 use crate::numerals::{argument, is_argument, is_numeral, number};
 use crate::words::split_word;
 use pst_base::{Numbers, RunNo, Text, VersionNo, is_name};
-use std::alloc::{AllocError, Global};
+use std::alloc::Global;
 
-/// The words of a call. The arguments stand in one piece.
+/// The most parameters that a procedure has.
+const MOST_PARAMETERS: usize = 8;
+
+/// The words of a call. The arguments stand in one piece, and are not looked at yet.
 #[derive(Clone, Copy)]
 struct CallWords<'a> {
     number: &'a [u8],
@@ -78,19 +83,52 @@ fn fit_arguments(rest: &[u8]) -> bool
     true
 }
 
-/// The arguments.
-fn read_arguments(alloc: Global, rest: &[u8]) -> Result<Numbers, AllocError>
-    requires written { is_some (arguments_of (words rest.now)) ≡ true }
-    requires fit { all_fit (arguments_of (words rest.now)) ≡ true }
-    ensures { IfOk result (λ arguments. arguments_of (words rest.now) ≡ Some arguments) }
+/// What is wrong where words were not read as arguments: their form, or else the range of a number, or else want of memory.
+fn fault_of_arguments(rest: &[u8]) -> LineFault
+    ensures { result ≡ fault_of (arguments_of (words rest.now)) }
 {
-    let mut arguments = Vec::new(alloc);
+    if !are_arguments(rest) {
+        return LineFault::Line;
+    }
+    if !fit_arguments(rest) {
+        return LineFault::Number;
+    }
+    LineFault::Memory
+}
+
+/// The number that a word writes as an argument. None where the word is no argument, or has more than 64 bits.
+fn read_argument(word: &[u8]) -> Option<i64>
+    ensures { result ≡ passing fits_64_bits (argument_of word.now) }
+{
+    if !is_argument(word) {
+        return None;
+    }
+    argument(word)
+}
+
+/// The arguments. Words that are all as they have to be are looked at once; what is wrong is told apart by looking again.
+fn read_arguments(alloc: Global, rest: &[u8]) -> Result<Numbers, LineFault>
+    ensures { IsReadAs (λ _. ⊤) (judged (list_all fits_64_bits) (arguments_of (words rest.now))) result }
+{
+    let Ok(mut arguments) = Vec::with_capacity(alloc, room_for_arguments(rest)) else {
+        return Err(fault_of_arguments(rest));
+    };
     let mut left = rest;
     while let Some((word, behind)) = split_word(left) {
-        arguments.push(argument(word).unwrap())?;
+        let Some(number) = read_argument(word) else {
+            return Err(fault_of_arguments(left));
+        };
+        let Ok(()) = arguments.push(number) else {
+            return Err(fault_of_arguments(left));
+        };
         left = behind;
     }
     Ok(Numbers::from_vec(arguments))
+}
+
+/// How many arguments the words can be, up to as many as a procedure has parameters at most.
+fn room_for_arguments(rest: &[u8]) -> usize {
+    (rest.len() / 2).min(MOST_PARAMETERS)
 }
 
 /// The words of a call. None where one of them has not the form.
@@ -100,9 +138,6 @@ fn split_call(rest: &[u8]) -> Option<CallWords<'_>>
     let (number, behind) = split_word(rest)?;
     let (procedure, arguments) = split_word(behind)?;
     if !is_numeral(number) || !is_name(procedure) {
-        return None;
-    }
-    if !are_arguments(arguments) {
         return None;
     }
     Some(CallWords {
@@ -120,14 +155,16 @@ pub(crate) fn read_called(alloc: Global, rest: &[u8]) -> Result<Called, LineFaul
         return Err(LineFault::Line);
     };
     let Some(number) = number(call.number) else {
+        if !are_arguments(call.arguments) {
+            return Err(LineFault::Line);
+        }
         return Err(LineFault::Number);
     };
-    if !fit_arguments(call.arguments) {
-        return Err(LineFault::Number);
-    }
+    let arguments = read_arguments(alloc, call.arguments)?;
+    let procedure = Text::from_vec(Vec::from_slice(alloc, call.procedure)?);
     Ok(Called {
         number,
-        procedure: Text::from_vec(Vec::from_slice(alloc, call.procedure)?),
-        arguments: read_arguments(alloc, call.arguments)?,
+        procedure,
+        arguments,
     })
 }

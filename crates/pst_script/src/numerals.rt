@@ -68,5 +68,10 @@ pub(crate) fn argument(word: &[u8]) -> Option<i64>
     requires { is_some (argument_of word.now) ≡ true }
     ensures { result ≡ passing fits_64_bits (argument_of word.now) }
 {
+    if word[0] != b'-' {
+        if let Some(small) = number(word) {
+            return Some(i64::from(small));
+        }
+    }
     str::from_utf8(word).ok()?.parse().ok()
 }

@@ -66,7 +66,7 @@ returns-clause-ok g c = λ active h stand accepted.
     let adv = c.in_ok-end.ensures.ok _ _ _ _ waiting in
     let same = reads g at.After-advance (c.in_ok-add.ensures.place ∙ c.in_ok-activation.ensures.place) in record {
       stands = read-keeps m x s t (c.known-2.ensures.stays c.args.heap.now c.advance.new.heap) c.known_versions.ensures c.known.ensures.written active c.args.budget c.args.number.0 h stand same c.in_ok-end.ensures.writes;
-      reply = c.queried.ensures ∙ query-answers m x c.known-2.ensures.lawful s c.known.ensures active c.args.budget c.args.number h stand c.args.first.now accepted c.place_at-at.result c.place_at-at.ensures t c.add.new.activation c.advance.new.activation c.in_ok-end.end c.ranges.budget.fits adv c.in_ok-printed.printed (c.in_ok-printed.ensures ∙ c.printed.ensures);
+      reply = c.queried.ensures ∙ query-answers m x c.known-2.ensures.lawful s c.known.ensures active c.args.budget c.args.number h stand c.args.first.now accepted c.place_at-at.result c.place_at-at.ensures t c.add.new.activation c.advance.new.activation c.in_ok-end.end c.ranges.budget.fits adv c.into_printed.result c.into_printed.ensures;
     }
 
 pub returns-clause-stay : goal.returns-clause-stay
@@ -74,9 +74,6 @@ returns-clause-stay g c = stay-unchanged (g.H.HeapAt.state c.args.heap.now) (g.H
 
 pub returns-in_err-end-clause-stay : goal.returns-in_err-end-clause-stay
 returns-in_err-end-clause-stay g c = stay-unchanged (g.H.HeapAt.state c.args.heap.now) (g.H.HeapAt.state c.advance.new.heap) c.known_versions.ensures (reads g (goal.at.returns-in_err-end-clause-stay g c).After-advance (c.in_ok-add.ensures.place ∙ c.in_ok-activation.ensures.place))
-
-pub returns-in_err-printed-clause-stay : goal.returns-in_err-printed-clause-stay
-returns-in_err-printed-clause-stay g c = stay-unchanged (g.H.HeapAt.state c.args.heap.now) (g.H.HeapAt.state c.advance.new.heap) c.known_versions.ensures (reads g (goal.at.returns-in_err-printed-clause-stay g c).After-advance (c.in_ok-add.ensures.place ∙ c.in_ok-activation.ensures.place))
 
 pub returns-in_err-add-clause-stay : goal.returns-in_err-add-clause-stay
 returns-in_err-add-clause-stay g c = stay-refl (g.H.HeapAt.state c.args.heap.now) c.known_versions.ensures
