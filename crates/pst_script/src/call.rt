@@ -147,7 +147,7 @@ fn split_call(rest: &[u8]) -> Option<CallWords<'_>>
     })
 }
 
-/// The call that the words behind a verb are. No memory is taken before all of them are judged.
+/// The call that the words behind a verb are. Want of memory is answered only where nothing else is wrong with them.
 pub(crate) fn read_called(alloc: Global, rest: &[u8]) -> Result<Called, LineFault>
     ensures { IsReadAs (λ _. ⊤) (judged called_in_range (called_of (words rest.now))) result }
 {
