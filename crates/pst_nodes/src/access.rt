@@ -15,7 +15,7 @@ use crate::node::{Node, Nodes};
 use pst_base::{Name, NoMemory, NodeId, Shape, SlotNo, TypeNo};
 use pst_order::{Order, Pos};
 use pst_queue::links::{Link, Links};
-use pst_rows::{Content, Row, Segment};
+use pst_rows::{Content, Row, Segment, Stamp};
 use std::alloc::Global;
 
 impl Links for Nodes {
@@ -141,7 +141,17 @@ impl Nodes {
         requires slot { IsSlot (O.places order.now) self.now.list.items id.0 slot.0 (rank (O.places order.now) at.0) }
         ensures { result ≡ (chart (O.places order.now) self.now.list.items).holds id.0 slot.0 (rank (O.places order.now) at.0) }
     {
-        self.row(id).read(order, slot, at)
+        self.held_at(order, id, slot, at).content()
+    }
+
+    /// Where it is kept what a slot of a node holds at a place: its content is that, and tells no more.
+    #[inline(always)]
+    pub fn held_at<O: Order>(&self, order: &O, id: NodeId, slot: SlotNo, at: Pos) -> &Stamp
+        requires rows { AreRows (O.places order.now) self.now.list.items }
+        requires slot { IsSlot (O.places order.now) self.now.list.items id.0 slot.0 (rank (O.places order.now) at.0) }
+        ensures { result.now.content ≡ (chart (O.places order.now) self.now.list.items).holds id.0 slot.0 (rank (O.places order.now) at.0) }
+    {
+        self.row(id).held_at(order, slot, at)
     }
 
     /// The segment of a slot that covers a place, with what the slot holds there.

@@ -66,6 +66,32 @@ head-part-in cells w b hs xs cap i j d e p q sound is l k m first last =
     (subst (λ (a : Pos). IsPart (shown_cells w hs xs cap) j a.0 q.0) (sym first)
     (subst (λ (a : Pos). IsPart (shown_cells w hs xs cap) j (get_or hs j d).place.0 a.0) (sym last) part)))
 
+-- where the stamps of a slot end that is the last of the head or behind it: where those of the next slot begin, or behind all
+pub data EndsBehind (b : ℕ) (xs : List Stamp) (i stop : ℕ) : Type 0 where
+  Next : i + 1 - head_size < b → (d : Stamp) → stop ≡ (get_or xs (i + 1 - head_size) d).place.0 → EndsBehind b xs i stop
+  Last : b ≤ i + 1 - head_size → stop ≡ length xs - b → EndsBehind b xs i stop
+
+-- a slot that is the last of the head or behind it
+pub list-part : (cells : CellsValue) (w b : ℕ) (hs xs : List Stamp) (cap i start stop : ℕ) → AreSound w b hs xs cap → shown_cells w hs xs cap ≡ cells → i < length cells.slots → head_size ≤ i + 1 →
+    start ≡ (get_or cells.slots i no_slot).start → EndsBehind b xs i stop → IsPart cells i start stop
+list-part cells w b hs xs cap i start stop sound is l m begin ends =
+    let width : length (slots_in w (hs ++ xs)) ≡ w = width-is w hs xs sound.whole sound.there in
+    let same : length (slots_in w (hs ++ xs)) ≡ length cells.slots = ap (λ (v : CellsValue). length v.slots) is in
+    record {
+      begin = begin;
+      next = λ k. ends-next cells w b hs xs cap i stop sound is m (omega arith) ends;
+      last = λ k. ends-last cells w b hs xs cap i stop sound is (omega arith) ends;
+    }
+  where
+    ends-next : (cells : CellsValue) (w b : ℕ) (hs xs : List Stamp) (cap i stop : ℕ) → AreSound w b hs xs cap → shown_cells w hs xs cap ≡ cells → head_size ≤ i + 1 → i + 1 < w → EndsBehind b xs i stop → stop ≡ (get_or cells.slots (i + 1) no_slot).start
+    ends-next cells w b hs xs cap i stop sound is m k (Next l d e) =
+        e ∙ ap (λ (s : Slot). s.start) (slot-list w hs xs (i + 1) d no_slot sound.whole sound.there k m) ∙ ap (λ (v : CellsValue). (get_or v.slots (i + 1) no_slot).start) is
+    ends-next cells w b hs xs cap i stop sound is m k (Last l e) = absurd (omega (arith, sound.rest))
+
+    ends-last : (cells : CellsValue) (w b : ℕ) (hs xs : List Stamp) (cap i stop : ℕ) → AreSound w b hs xs cap → shown_cells w hs xs cap ≡ cells → i + 1 ≡ w → EndsBehind b xs i stop → stop ≡ length cells.stamps
+    ends-last cells w b hs xs cap i stop sound is k (Next l d e) = absurd (omega (arith, sound.rest))
+    ends-last cells w b hs xs cap i stop sound is k (Last l e) = omega (arith, e, sound.rest, length-drop (w - head_size) xs, ap (λ (v : CellsValue). length v.stamps) is)
+
 -- a part that ends where it begins
 pub bare-part : (cells : CellsValue) (i a b : ℕ) → IsPart cells i a b → a ≡ b → IsBare cells i
 bare-part cells i a b part e = record {

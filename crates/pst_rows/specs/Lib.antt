@@ -1,3 +1,4 @@
+pub mod Contents
 pub mod Stamps
 pub mod StampsKept
 pub mod Slots

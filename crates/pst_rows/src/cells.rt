@@ -105,7 +105,16 @@ impl Cells {
         requires { slot.0 < length self.now.slots }
         ensures { result ≡ (get_or self.now.slots slot.0 no_slot).content }
     {
-        self.slot(usize::from(slot.0)).content()
+        self.first(slot).content()
+    }
+
+    /// Where it is kept what a slot holds from the begin of the life on.
+    #[inline(always)]
+    pub fn first(&self, slot: SlotNo) -> &Stamp
+        requires { slot.0 < length self.now.slots }
+        ensures { result.now.content ≡ (get_or self.now.slots slot.0 no_slot).content }
+    {
+        self.slot(usize::from(slot.0))
     }
 
     /// Where the stamps of a slot begin.
@@ -147,14 +156,17 @@ impl Cells {
     // Where the stamps of a slot begin and end, if it is the last of the head or behind it.
     #[inline(never)]
     fn part_behind(&self, slot: usize) -> (usize, usize)
-        requires { slot < length self.now.slots }
+        requires there { slot < length self.now.slots }
+        requires behind { head_size ≤ slot + 1 }
         ensures { IsPart self.now slot result.0 result.1 }
     {
-        let width = self.width();
-        let stop = if slot + 1 < width {
-            self.start(slot + 1) as usize
+        let list = self.list.as_slice();
+        let behind = self.behind as usize;
+        let next = slot + 1 - HEAD;
+        let stop = if next < behind {
+            list[next].place().0 as usize
         } else {
-            self.len()
+            list.len() - behind
         };
         (self.start(slot) as usize, stop)
     }

@@ -1,6 +1,7 @@
 //! What a row is made of.
 
 ghost use Rattle.std.specs.Prelude.{◌≡◌, ◌<◌};
+ghost use Rattle.pst_rows.specs.Contents.{number, target};
 ghost use Rattle.pst_rows.specs.Stamps.{at_place};
 
 use pst_base::{NodeId, SlotNo};
@@ -120,6 +121,34 @@ impl Stamp {
             StampKept::Target(_, kept, _) => *kept = place,
             StampKept::Free(_, kept) => *kept = place,
             StampKept::From(_, _, kept, _) => *kept = place,
+        }
+    }
+
+    /// The number that is held, or 0 where none is.
+    #[inline(always)]
+    pub fn number(&self) -> i64
+        ensures { result ≡ number self.now.content }
+    {
+        match self.kept {
+            StampKept::Number(_, _, n) => n,
+            StampKept::Null(_, _)
+            | StampKept::Target(_, _, _)
+            | StampKept::Free(_, _)
+            | StampKept::From(_, _, _, _) => 0,
+        }
+    }
+
+    /// The node that is pointed to, if one is.
+    #[inline(always)]
+    pub fn target(&self) -> Option<NodeId>
+        ensures { result ≡ target self.now.content }
+    {
+        match self.kept {
+            StampKept::Target(_, _, node) => Some(node),
+            StampKept::Number(_, _, _)
+            | StampKept::Null(_, _)
+            | StampKept::Free(_, _)
+            | StampKept::From(_, _, _, _) => None,
         }
     }
 

@@ -149,18 +149,43 @@ impl Row {
         ensures list { P.list compare.new ≡ P.list compare.old }
         ensures calls { IsFewMore (stamped_in self.now slot.0) (P.calls compare.old) (P.calls compare.new) }
     {
+        self.held_with(compare, slot, at).content()
+    }
+
+    /// Where it is kept what a slot holds at a place of the life: its content is that, and tells no more.
+    #[inline(always)]
+    pub fn held_at<O: Order>(&self, order: &O, slot: SlotNo, at: Pos) -> &Stamp
+        requires row { IsRowIn (O.places order.now) self.now }
+        requires slot { slot.0 < width_of self.now }
+        requires life { IsInLife (O.places order.now) self.now at.0 }
+        ensures { result.now.content ≡ content_at (rank (O.places order.now)) self.now slot.0 (rank (O.places order.now) at.0) }
+    {
+        self.held_with(&mut Counting::new(order), slot, at)
+    }
+
+    // The same, found by one bisection.
+    #[inline(always)]
+    fn held_with<P: Compare>(&self, compare: &mut P, slot: SlotNo, at: Pos) -> &Stamp
+        requires row { IsRowIn (P.list compare.old) self.now }
+        requires slot { slot.0 < width_of self.now }
+        requires life { IsInLife (P.list compare.old) self.now at.0 }
+        requires calls { P.calls compare.old ≤ 2 ^ 63 }
+        ensures content { result.now.content ≡ content_at (rank (P.list compare.old)) self.now slot.0 (rank (P.list compare.old) at.0) }
+        ensures list { P.list compare.new ≡ P.list compare.old }
+        ensures calls { IsFewMore (stamped_in self.now slot.0) (P.calls compare.old) (P.calls compare.new) }
+    {
         if self.cells.is_bare(slot) {
-            return self.cells.base(slot);
+            return self.cells.first(slot);
         }
         let (start, stop) = self.part(slot);
         if start < stop {
             let stamps = self.cells.stamps();
             let index = partition(compare, &StampPlaces { stamps }, start, stop, at);
             if start < index {
-                return stamps[index - 1].content();
+                return &stamps[index - 1];
             }
         }
-        self.cells.base(slot)
+        self.cells.first(slot)
     }
 
     /// Where the segment of a slot that covers a place of the life begins, and before which place it ends.

@@ -17,7 +17,8 @@ use Rattle.pst_store_meaning.specs.Arena.{IsIn, IsLive, denoted}
 use Rattle.pst_store_meaning.specs.Store.{Stored, arena, begin_of, state_of}
 use Rattle.pst_store_meaning.proofs.Reading.{kind_law, pointer_read_law, root_law}
 use Rattle.pst_store_meaning.proofs.Written.{pointer_field}
-use Rattle.pst_store.specs.Calls.{target, IsKept, kind_at}
+use Rattle.pst_rows.specs.Contents.{target}
+use Rattle.pst_store.specs.Calls.{IsKept, kind_at}
 use Rattle.pst_store.proofs.Links.{pointer_kind}
 
 -- the root record's node that lives at a place

@@ -15,7 +15,8 @@ use Rattle.pst_places.specs.State.{Unchanged, WritesStay}
 use Rattle.pst_places.proofs.StateLemmas.{Keeps_refl}
 use Rattle.pst_mirror.specs.Potential.{potential}
 use Rattle.pst_store_meaning.specs.declared.place.Place.{Place}
-use Rattle.pst_store_meaning.specs.Arena.{IsIn, IsLive, number}
+use Rattle.pst_rows.specs.Contents.{number}
+use Rattle.pst_store_meaning.specs.Arena.{IsIn, IsLive}
 use Rattle.pst_store_meaning.specs.Store.{Node, Noted, Stored, arena, begin_of, end_of, loads, AreHeld, IsPlace, state_of, IsStore}
 use Rattle.pst_store_meaning.specs.Steps.{with_nodes, one_number, one_pointer, one_record}
 use Rattle.pst_store_meaning.proofs.Around.{repair_law}

@@ -1,6 +1,6 @@
 -- What is so of a store that may not be started yet.
-use Rattle.std.proofs.Common.{◌≡◌, ℕ, ◌+◌, ◌<◌, ◌≤◌, List, [], length, ◌∙◌, sym, subst, arith, ⊎_elim, Option, Some, None}
-use Rattle.std.specs.Prelude.{Contains, IfSome}
+use Rattle.std.proofs.Common.{◌≡◌, ℕ, ◌+◌, ◌<◌, ◌≤◌, List, [], length, ◌∙◌, refl, sym, subst, arith, ⊎_elim, Option, Some, None}
+use Rattle.std.specs.Prelude.{Contains, IfSome, IsSome}
 use Rattle.std.proofs.lemmas.Bool.{cases_lt}
 use Rattle.pst_base.specs.Shape.{type_at}
 use Rattle.pst_mirror.specs.Potential.{capacity}
@@ -58,3 +58,8 @@ inside_open o g s at e f p = inside o g s (λ o. (state_in o).writable at) e f p
 -- what is not so of a store that is not started is not required of one
 pub not_started : (o g : Option Stored) (P : Option Stored → Type 0) → o ≡ g → o ≡ None → P g → P None
 not_started o g P e f p = subst P (sym e ∙ f) p
+
+-- what is not so of a store that is not started is so of one that is
+pub is_begun : (o : Option Stored) (P : Option Stored → Type 0) → (P None → ⊥) → P o → IsSome o
+is_begun None P none p = absurd (none p)
+is_begun (Some s) P none p = refl

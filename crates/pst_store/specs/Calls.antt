@@ -1,13 +1,11 @@
 -- What a store keeps between two calls, and what its calls do.
-use Rattle.std.specs.Prelude.{◌≡◌, ◌⊎◌, ℕ, ◌≤◌, ◌^◌, ℤ, List, ◌∷◌, [], Option, Some, None, Result, Ok, Err}
+use Rattle.std.specs.Prelude.{◌≡◌, ◌⊎◌, ℕ, ◌≤◌, ◌^◌, ℤ, List, ◌∷◌, [], Option, Some, Result, Ok, Err}
 use Rattle.pst_base.specs.declared.names.Counts.{Counts}
 use Rattle.pst_base.specs.declared.names.NodeId.{NodeId}
 use Rattle.pst_base.specs.declared.names.Name.{Name}
 use Rattle.pst_base.specs.declared.names.Kind.{Kind}
 use Rattle.pst_base.specs.declared.shape.TypeShape.{TypeShape}
 use Rattle.pst_base.specs.Heap.{initial_heap, kind_in, IsFull}
-use Rattle.pst_rows.specs.declared.content.Content.{Content}
-use Rattle.pst_rows.specs.declared.content.Content.TheVariants.{Number, Null, Free, Target as TargetOf, From as FromOf}
 use Rattle.pst_versions.specs.Rows.{first_row}
 use Rattle.pst_places.specs.declared.heap_at.StoreFault.{StoreFault}
 use Rattle.pst_places.specs.declared.heap_at.StoreFault.TheVariants.{InDegree, Memory}
@@ -31,14 +29,6 @@ pub record IsKept (s : Stored) : Type 0 where
   pub waiting : AreWaiting s.shape s.nodes s.noted.queue
   pub held : AreHeld (arena s) s.noted
   pub counted : AreCounted s.counts
-
--- the node that a content points to
-abbrev pub target : Content → Option NodeId
-target (Number n) = None
-target Null = None
-target (TargetOf y) = Some y
-target Free = None
-target (FromOf x f) = None
 
 -- a store with version 0, which has the root record alone, and nothing that waits
 pub record IsStarted (shape : List TypeShape) (s : Stored) : Type 0 where

@@ -6,7 +6,6 @@ use crate::types::{capacity_of, field_kind};
 use pst_base::{Counts, Kind, Name, NoMemory, NodeId, RunNo, Shape, SlotNo, TypeNo, VersionNo};
 use pst_order::Order;
 use pst_places::{MOST_FORKS, StoreFault};
-use pst_rows::Content;
 use pst_store_arena::{Arena, FatNodes};
 use pst_store_meaning::place::{Fork, Place};
 use pst_versions::Versions;
@@ -235,10 +234,9 @@ impl<O: Order + Drop, N: FatNodes> Started<O, N> {
         ensures { result ≡ value_in ((state_of self.now).heap at) ((state_of self.now).name r) field.0 }
     {
         let node = self.nodes.cover(&self.order, &self.shape, r, at.begin);
-        number_of(
-            self.nodes
-                .read(&self.order, &self.shape, node, field, at.begin),
-        )
+        self.nodes
+            .held_at(&self.order, &self.shape, node, field, at.begin)
+            .number()
     }
 
     /// The record that a field holds, at a place, or None exactly where the field is null.
@@ -250,10 +248,9 @@ impl<O: Order + Drop, N: FatNodes> Started<O, N> {
         ensures live { IfSome result ((state_of self.now).live at) }
     {
         let id = self.nodes.cover(&self.order, &self.shape, r, at.begin);
-        target_of(
-            self.nodes
-                .read(&self.order, &self.shape, id, field, at.begin),
-        )
+        self.nodes
+            .held_at(&self.order, &self.shape, id, field, at.begin)
+            .target()
     }
 
     /// The name of a record.
@@ -593,31 +590,5 @@ impl<O: Order + Drop> Started<O, Arena> {
         ensures count { IfOk result (λ more. length self.new.nodes ≡ length self.old.nodes + splits_in more) }
     {
         self.nodes.split_next(&self.order, &self.shape)
-    }
-}
-
-ghost use Rattle.std.specs.Prelude.{◌≡◌};
-ghost use Rattle.pst_store_meaning.specs.Arena.{number};
-ghost use Rattle.pst_store.specs.Calls.{target};
-
-// The number that a slot holds, or 0.
-#[inline(always)]
-fn number_of(content: Content) -> i64
-    ensures { result ≡ number content }
-{
-    match content {
-        Content::Number(n) => n,
-        Content::Null | Content::Target(_) | Content::Free | Content::From(_, _) => 0,
-    }
-}
-
-// The node that a slot points to.
-#[inline(always)]
-fn target_of(content: Content) -> Option<NodeId>
-    ensures { result ≡ target content }
-{
-    match content {
-        Content::Target(y) => Some(y),
-        Content::Null | Content::Number(_) | Content::Free | Content::From(_, _) => None,
     }
 }

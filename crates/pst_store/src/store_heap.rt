@@ -2,6 +2,7 @@
 
 ghost use Rattle.std.specs.Prelude.{◌≡◌, ◌<◌, Some, length, slice_get};
 
+use crate::Started;
 use crate::store::StoreOf;
 use pst_base::{Counts, Name, NoMemory, NodeId, RunNo, SlotNo, TypeNo, VersionNo};
 use pst_order::Order;
@@ -31,40 +32,25 @@ impl<O: Order + Drop, N: FatNodes> HeapAt for StoreOf<O, N> {
     }
 
     fn root(&self, at: Place) -> NodeId {
-        match &self.started {
-            None => first_of(&[]),
-            Some(started) => started.root(at),
-        }
+        self.begun().root(at)
     }
 
     #[inline(always)]
     fn load_value(&self, at: Place, r: NodeId, field: SlotNo) -> i64 {
-        match &self.started {
-            None => first_of(&[]),
-            Some(started) => started.number(at, r, field),
-        }
+        self.begun().number(at, r, field)
     }
 
     #[inline(always)]
     fn load_pointer(&self, at: Place, r: NodeId, field: SlotNo) -> Option<NodeId> {
-        match &self.started {
-            None => first_of(&[]),
-            Some(started) => started.pointer(at, r, field),
-        }
+        self.begun().pointer(at, r, field)
     }
 
     fn name_of(&self, r: NodeId) -> Name {
-        match &self.started {
-            None => first_of(&[]),
-            Some(started) => started.name(r),
-        }
+        self.begun().name(r)
     }
 
     fn type_of(&self, r: NodeId) -> TypeNo {
-        match &self.started {
-            None => first_of(&[]),
-            Some(started) => started.ty(r),
-        }
+        self.begun().ty(r)
     }
 
     #[inline(always)]
@@ -74,18 +60,13 @@ impl<O: Order + Drop, N: FatNodes> HeapAt for StoreOf<O, N> {
         ensures live { (state_in self.now).live at result }
         ensures covers { IfSome self.now (λ s. IsIn (arena s) result.0 (begin_of s at)) }
     {
-        match &self.started {
-            None => first_of(&[]),
-            Some(started) => started.nearest(at, r),
-        }
+        self.begun().nearest(at, r)
     }
 
     #[inline(always)]
     fn same(&self, r: NodeId, q: NodeId) -> bool {
-        match &self.started {
-            None => first_of(&[]),
-            Some(started) => r == q || started.name(r) == started.name(q),
-        }
+        let started = self.begun();
+        r == q || started.name(r) == started.name(q)
     }
 
     fn allocate(&mut self, at: Place, ty: TypeNo, name: Name) -> Result<NodeId, NoMemory>
@@ -137,6 +118,22 @@ impl<O: Order + Drop, N: FatNodes> HeapAt for StoreOf<O, N> {
         match &mut self.started {
             None => first_of(&[]),
             Some(started) => started.point(at, r, field, target),
+        }
+    }
+}
+
+impl<O: Order + Drop, N: FatNodes> StoreOf<O, N> {
+    ghost use Rattle.std.specs.Prelude.{◌≡◌, Some, IsSome};
+
+    // The store as it is started.
+    #[inline(always)]
+    fn begun(&self) -> &Started<O, N>
+        requires { IsSome self.now }
+        ensures { self.now ≡ Some result.now }
+    {
+        match &self.started {
+            None => first_of(&[]),
+            Some(started) => started,
         }
     }
 }

@@ -13,7 +13,7 @@ use pst_order::{Order, Pos};
 use pst_queue::queue::Queue;
 use pst_repair::repair::split_next;
 use pst_roots::RootIndex;
-use pst_rows::Content;
+use pst_rows::Stamp;
 use pst_store_meaning::place::Place;
 use std::alloc::Global;
 use std::marker::Model;
@@ -120,15 +120,15 @@ impl FatNodes for Arena {
     }
 
     #[inline(always)]
-    fn read<O: Order>(
+    fn held_at<O: Order>(
         &self,
         order: &O,
         _shape: &Shape,
         id: NodeId,
         slot: SlotNo,
         at: Pos,
-    ) -> Content {
-        self.nodes.read(order, id, slot, at)
+    ) -> &Stamp {
+        self.nodes.held_at(order, id, slot, at)
     }
 
     fn open_slot<O: Order>(

@@ -13,7 +13,7 @@ ghost use Rattle.pst_store_arena.specs.Calls.{AreNodes, AreOthers, AreWaiting, I
 
 use pst_base::{Name, NoMemory, NodeId, Shape, SlotNo, TypeNo};
 use pst_order::{Order, Pos};
-use pst_rows::Content;
+use pst_rows::Stamp;
 use pst_store_meaning::place::Place;
 use std::alloc::Global;
 
@@ -80,12 +80,19 @@ pub trait FatNodes: Drop {
         ensures inside { IsIn (arena_at (O.places order.now) (nodes self.now)) result.0 (rank (O.places order.now) at.0) }
         ensures name { (arena_at (O.places order.now) (nodes self.now)).name result.0 ≡ root_name };
 
-    /// What a slot holds at a place.
-    fn read<O: Order>(&self, order: &O, shape: &Shape, id: NodeId, slot: SlotNo, at: Pos) -> Content
+    /// Where it is kept what a slot holds at a place: its content is that, and tells no more.
+    fn held_at<O: Order>(
+        &self,
+        order: &O,
+        shape: &Shape,
+        id: NodeId,
+        slot: SlotNo,
+        at: Pos,
+    ) -> &Stamp
         requires nodes { AreNodes shape.now (O.places order.now) (nodes self.now) }
         requires inside { IsIn (arena_at (O.places order.now) (nodes self.now)) id.0 (rank (O.places order.now) at.0) }
         requires slot { slot.0 < width (type_at shape.now ((arena_at (O.places order.now) (nodes self.now)).ty id.0)) }
-        ensures { result ≡ (arena_at (O.places order.now) (nodes self.now)).chart.holds id.0 slot.0 (rank (O.places order.now) at.0) };
+        ensures { result.now.content ≡ (arena_at (O.places order.now) (nodes self.now)).chart.holds id.0 slot.0 (rank (O.places order.now) at.0) };
 
     /// The first inverse slot of a node that holds no entry of another field than this one of node `x`, or None where each
     /// one does.

@@ -7,7 +7,7 @@ use Rattle.pst_base.specs.Below.{listed, one_if, sum_below}
 use Rattle.pst_base.specs.declared.shape.TypeShape.{TypeShape}
 use Rattle.pst_base.specs.Shape.{type_at, element_count}
 use Rattle.pst_base.specs.Name.{same_name}
-use Rattle.pst_base.specs.Heap.{holds, holding, held_by, in_degree}
+use Rattle.pst_base.specs.Heap.{holding, held_by, in_degree}
 use Rattle.pst_base.proofs.NameLemmas.{same_name-true, same_name-same}
 use Rattle.pst_rows.specs.declared.content.Content.{Content}
 use Rattle.pst_rows.specs.declared.content.Content.TheVariants.{Number, Null, Free, Target as TargetOf, From as FromOf}

@@ -6,7 +6,8 @@ use Rattle.pst_base.specs.Shape.{type_at}
 use Rattle.pst_rows.specs.declared.content.Content.{Content}
 use Rattle.pst_mirror.specs.Fork.{shift, back}
 use Rattle.pst_mirror.proofs.ForkLemmas.{shift_cases, back_cases, reindex_law}
-use Rattle.pst_store_meaning.specs.Arena.{Arena, IsIn, IsLive, AreChained, IsArena, IsDrawn, heap_at, record_at, denoted, number}
+use Rattle.pst_rows.specs.Contents.{number}
+use Rattle.pst_store_meaning.specs.Arena.{Arena, IsIn, IsLive, AreChained, IsArena, IsDrawn, heap_at, record_at, denoted}
 use Rattle.pst_mirror.specs.Kinds.{HasKind}
 use Rattle.pst_store_meaning.specs.Changes.{IsInserted, InsertedKeeps, InsertedLaw}
 use Rattle.pst_store_meaning.proofs.HeapLaws.{same_heaps}

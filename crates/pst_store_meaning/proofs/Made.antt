@@ -15,7 +15,8 @@ use Rattle.pst_rows.specs.declared.content.Content.TheVariants.{Number, Null, Fr
 use Rattle.pst_mirror.specs.Contents.{Target, From}
 use Rattle.pst_mirror.specs.Mirror.{IsAdded}
 use Rattle.pst_mirror.proofs.WriteLemmas.{add_law}
-use Rattle.pst_store_meaning.specs.Arena.{Arena, IsIn, is_in, IsLive, AreChained, IsArena, IsDrawn, heap_at, record_at, record_of, denoted, number}
+use Rattle.pst_rows.specs.Contents.{number}
+use Rattle.pst_store_meaning.specs.Arena.{Arena, IsIn, is_in, IsLive, AreChained, IsArena, IsDrawn, heap_at, record_at, record_of, denoted}
 use Rattle.pst_mirror.specs.Kinds.{HasKind}
 use Rattle.pst_store_meaning.specs.Changes.{IsMade, default_content, MadeKeeps, MadeLaw}
 use Rattle.pst_store_meaning.proofs.HeapLaws.{same_heaps, same_at, put_heap, is_in-true, new_or_old}

@@ -16,7 +16,8 @@ use Rattle.pst_base.proofs.NameLemmas.{name_cmp-total, name_eq-true, name_eq-sam
 use Rattle.pst_base.proofs.Degrees.{with_pointer-at}
 use Rattle.pst_rows.specs.declared.content.Content.TheVariants.{Null}
 use Rattle.pst_mirror.proofs.WriteLemmas.{put_first}
-use Rattle.pst_store_meaning.specs.Arena.{Arena, IsIn, IsLive, IsArena, IsDrawn, heap_at, record_at, denoted, number}
+use Rattle.pst_rows.specs.Contents.{number}
+use Rattle.pst_store_meaning.specs.Arena.{Arena, IsIn, IsLive, IsArena, IsDrawn, heap_at, record_at, denoted}
 use Rattle.pst_store_meaning.specs.Changes.{HasSameNodes, IsCleared, WriteKeeps, ClearedLaw, PointerLaw}
 use Rattle.pst_store_meaning.proofs.HeapLaws.{heap_has}
 use Rattle.pst_store_meaning.proofs.Written.{pointer_field, in_new}

@@ -5,7 +5,8 @@ use Rattle.pst_base.proofs.Below.{get_or-listed, length-listed}
 use Rattle.pst_base.specs.Shape.{type_at}
 use Rattle.pst_base.specs.Heap.{Rec, type_in, kind_from, value_from, pointer_from}
 use Rattle.pst_order.specs.Places.{rank}
-use Rattle.pst_store_meaning.specs.Arena.{heap_at, record_at, denoted, number}
+use Rattle.pst_rows.specs.Contents.{number}
+use Rattle.pst_store_meaning.specs.Arena.{heap_at, record_at, denoted}
 use Rattle.pst_store_meaning.specs.Store.{arena, begin_of}
 use Rattle.pst_store_meaning.specs.Steps.{KindLaw, ValueReadLaw, PointerReadLaw, RootLaw}
 use Rattle.pst_store_meaning.proofs.HeapLaws.{heap_has}

@@ -10,7 +10,8 @@ use Rattle.pst_rows.specs.declared.content.Content.{Content}
 use Rattle.pst_rows.specs.declared.content.Content.TheVariants.{Number, Null, Free, Target as TargetOf, From as FromOf}
 use Rattle.pst_mirror.specs.Contents.{Target, From}
 use Rattle.pst_mirror.specs.Mirror.{IsMirrored}
-use Rattle.pst_store_meaning.specs.Arena.{Arena, IsIn, is_in, denoted, number, record_of, IsDrawn}
+use Rattle.pst_rows.specs.Contents.{number}
+use Rattle.pst_store_meaning.specs.Arena.{Arena, IsIn, is_in, denoted, record_of, IsDrawn}
 use Rattle.pst_mirror.specs.Kinds.{HasKind}
 use Rattle.std.proofs.lemmas.Bool.{cases_Bool}
 use Rattle.pst_store_meaning.proofs.HeapLaws.{is_in-true}

@@ -24,7 +24,8 @@ use Rattle.pst_mirror.specs.Degree.{leads_to, is_entry, is_other_entry}
 use Rattle.pst_mirror.specs.Mirror.{is_there}
 use Rattle.pst_mirror.proofs.MirrorLemmas.{is_there_same}
 use Rattle.pst_mirror.proofs.WriteLemmas.{put_cases}
-use Rattle.pst_store_meaning.specs.Arena.{Arena, IsIn, IsArena, IsDrawn, heap_at, record_at, denoted, number}
+use Rattle.pst_rows.specs.Contents.{number}
+use Rattle.pst_store_meaning.specs.Arena.{Arena, IsIn, IsArena, IsDrawn, heap_at, record_at, denoted}
 use Rattle.pst_mirror.specs.Kinds.{HasKind, IsInverse}
 use Rattle.pst_store_meaning.specs.Sound.{SoundLaw, FullLaw, OpenSlotLaw}
 use Rattle.pst_store_meaning.proofs.HeapLaws.{heap_has, heap_shows}

@@ -11,7 +11,8 @@ use Rattle.pst_rows.specs.declared.content.Content.TheVariants.{Number, Null, Fr
 use Rattle.pst_mirror.specs.Contents.{Target}
 use Rattle.pst_mirror.specs.Mirror.{moved, renamed}
 use Rattle.pst_mirror.proofs.SplitLemmas.{split_whole_law}
-use Rattle.pst_store_meaning.specs.Arena.{Arena, lives_of, IsIn, AreChained, IsArena, IsDrawn, heap_at, record_at, denoted, number}
+use Rattle.pst_rows.specs.Contents.{number}
+use Rattle.pst_store_meaning.specs.Arena.{Arena, lives_of, IsIn, AreChained, IsArena, IsDrawn, heap_at, record_at, denoted}
 use Rattle.pst_mirror.specs.Kinds.{HasKind}
 use Rattle.pst_store_meaning.specs.Changes.{IsSplit, SplitKeeps, SplitLaw}
 use Rattle.pst_store_meaning.proofs.HeapLaws.{same_heaps, new_or_old}

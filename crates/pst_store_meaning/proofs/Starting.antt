@@ -21,7 +21,8 @@ use Rattle.pst_rows.specs.Values.{base_in, stamp_at, stamps_in, content_in}
 use Rattle.pst_mirror.specs.Charts.{is_alive}
 use Rattle.pst_store_meaning.specs.declared.place.Place.{Place}
 use Rattle.pst_store_meaning.specs.declared.place.Fork.{Fork}
-use Rattle.pst_store_meaning.specs.Arena.{IsIn, IsArena, heap_at, record_at, record_of, denoted, number}
+use Rattle.pst_rows.specs.Contents.{number}
+use Rattle.pst_store_meaning.specs.Arena.{IsIn, IsArena, heap_at, record_at, record_of, denoted}
 use Rattle.pst_mirror.specs.Kinds.{HasKind}
 use Rattle.pst_store_meaning.specs.Changes.{default_content}
 use Rattle.pst_store_meaning.specs.Store.{Node, Stored, arena, IsPlace, IsStore, IsRested, width}

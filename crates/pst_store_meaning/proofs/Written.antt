@@ -19,7 +19,8 @@ use Rattle.pst_rows.specs.declared.content.Content.{Content}
 use Rattle.pst_rows.specs.declared.content.Content.TheVariants.{Number}
 use Rattle.pst_mirror.specs.Contents.{Target, From}
 use Rattle.pst_mirror.specs.Mirror.{IsMirrored}
-use Rattle.pst_store_meaning.specs.Arena.{Arena, IsIn, IsLive, AreChained, IsArena, heap_at, record_at, record_of, denoted, number}
+use Rattle.pst_rows.specs.Contents.{number}
+use Rattle.pst_store_meaning.specs.Arena.{Arena, IsIn, IsLive, AreChained, IsArena, heap_at, record_at, record_of, denoted}
 use Rattle.pst_mirror.specs.Kinds.{HasKind}
 use Rattle.pst_store_meaning.specs.Changes.{HasSameNodes}
 use Rattle.pst_store_meaning.proofs.HeapLaws.{same_heaps, same_at, put_heap, heap_has}

@@ -1,7 +1,7 @@
 -- The nodes of a store, as laws see them: by node number and position of the order list (the fat nodes of Driscoll,
 -- Sarnak, Sleator and Tarjan), and the ordinary heap that they denote at each position.
 use Rattle.pst_mirror.specs.Kinds.{HasKind}
-use Rattle.std.specs.Prelude.{◌≡◌, ℕ, ◌+◌, ◌<◌, Bool, false, ◌&&◌, nat_lt, nat_le, List, length, Option, Some, None, ℤ, pos}
+use Rattle.std.specs.Prelude.{◌≡◌, ℕ, ◌+◌, ◌<◌, Bool, false, ◌&&◌, nat_lt, nat_le, List, length, Option, Some, None}
 use Rattle.pst_base.specs.declared.names.TypeNo.{TypeNo}
 use Rattle.pst_base.specs.declared.names.Name.{Name}
 use Rattle.pst_base.specs.declared.shape.TypeShape.{TypeShape}
@@ -10,6 +10,7 @@ use Rattle.pst_base.specs.Shape.{type_at, root_type}
 use Rattle.pst_base.specs.Below.{listed}
 use Rattle.pst_base.specs.Showing.{Showing, heap_shown}
 use Rattle.pst_base.specs.Heap.{Rec, Heap}
+use Rattle.pst_rows.specs.Contents.{number}
 use Rattle.pst_rows.specs.declared.content.Content.{Content}
 use Rattle.pst_rows.specs.declared.content.Content.TheVariants.{Number, Null, Free, Target as TargetOf, From as FromOf}
 use Rattle.pst_mirror.specs.Mirror.{Chart, IsMirrored, IsSteady}
@@ -47,13 +48,6 @@ denoted name Null = None
 denoted name (TargetOf y) = Some (name y.0)
 denoted name Free = None
 denoted name (FromOf y f) = None
-
-abbrev pub number : Content → ℤ
-number (Number n) = n
-number Null = pos 0
-number (TargetOf y) = pos 0
-number Free = pos 0
-number (FromOf y f) = pos 0
 
 -- the record of a type with these contents of its slots
 abbrev pub record_of : List TypeShape → TypeNo → (ℕ → Name) → (ℕ → Content) → Rec

@@ -25,7 +25,8 @@ use Rattle.pst_mirror.specs.Potential.{potential, HasGrown, stamped_in_all}
 use Rattle.pst_store_meaning.specs.declared.place.Place.{Place}
 use Rattle.pst_store_meaning.specs.declared.place.Fork.{Fork}
 use Rattle.pst_mirror.specs.Contents.{Target}
-use Rattle.pst_store_meaning.specs.Arena.{Arena, IsIn, IsLive, denoted, number}
+use Rattle.pst_rows.specs.Contents.{number}
+use Rattle.pst_store_meaning.specs.Arena.{Arena, IsIn, IsLive, denoted}
 use Rattle.pst_store_meaning.specs.Changes.{default_content, IsNumberSet, IsCleared, IsPointerPut, IsSplit}
 use Rattle.pst_store_meaning.specs.Store.{Node, Stored, Noted, arena_of, arena, begin_of, end_of, IsPlace, IsOpen, AreWide, width, load_of, loads, state_of, IsStore, IsRested}
 

@@ -1,6 +1,6 @@
 use Rattle.std.proofs.Common.{FitsSigned, w64, ◌∙◌, ap, arith}
 use Rattle.std.proofs.lemmas.Int.{to_z-of_z}
-use Rattle.pst_store_meaning.specs.Arena.{number}
+use Rattle.pst_rows.specs.Contents.{number}
 use Rattle.pst_store.proofs.Stores.{read_int, read_value, nodes_of}
 use Rattle.pst_store.proofs.started.Started.number.Goals as goal
 
@@ -8,15 +8,15 @@ pub cover-node-requires-clause-nodes : goal.cover-node-requires-clause-nodes
 cover-node-requires-clause-nodes g c =
     nodes_of _ c.self.invariant.store
 
-pub read-requires-clause-nodes : goal.read-requires-clause-nodes
-read-requires-clause-nodes g c =
+pub held_at-requires-clause-nodes : goal.held_at-requires-clause-nodes
+held_at-requires-clause-nodes g c =
     nodes_of _ c.self.invariant.store
 
-pub read-requires-clause-slot : goal.read-requires-clause-slot
-read-requires-clause-slot g c =
+pub held_at-requires-clause-slot : goal.held_at-requires-clause-slot
+held_at-requires-clause-slot g c =
     omega (arith, read_int _ _ c.args.at c.args.r c.args.field.0 c.cover-node.result.0 c.self.view_is c.self.invariant.store c.requires.live c.requires.field c.cover-node.ensures.inside c.cover-node.ensures.same)
 
 pub returns : goal.returns
 returns g c =
-    let fits : FitsSigned w64 c.number_of.result = record { sfits = c.number_of.type_inv } in
-    simp to_z-of_z (c.number_of.ensures ∙ ap number c.read.ensures ∙ read_value _ _ c.args.at c.args.r c.args.field.0 c.cover-node.result.0 c.self.view_is c.self.invariant.store c.requires.live c.requires.field c.cover-node.ensures.inside c.cover-node.ensures.same)
+    let fits : FitsSigned w64 c.number.result = record { sfits = c.number.type_inv } in
+    simp to_z-of_z (c.number.ensures ∙ ap number c.held_at.ensures ∙ read_value _ _ c.args.at c.args.r c.args.field.0 c.cover-node.result.0 c.self.view_is c.self.invariant.store c.requires.live c.requires.field c.cover-node.ensures.inside c.cover-node.ensures.same)

@@ -1,8 +1,8 @@
 use Rattle.std.proofs.Common.{Option}
 use Rattle.pst_store_meaning.specs.Store.{Stored}
 use Rattle.pst_store.specs.Whole.{state_in}
-use Rattle.pst_store.proofs.Wholes.{not_started}
+use Rattle.pst_store.proofs.Wholes.{is_begun}
 use Rattle.pst_store.proofs.store_heap.StoreOfHeapAt.root.Goals as goal
 
-pub first_of-requires : goal.first_of-requires
-first_of-requires g c = absurd (not_started _ _ (λ (o : Option Stored). (state_in o).has c.args.at) c.self.view_is c.in-None.is c.requires)
+pub begun-requires : goal.begun-requires
+begun-requires g c = is_begun _ (λ (o : Option Stored). (state_in o).has c.args.at) (λ p. p) c.requires
