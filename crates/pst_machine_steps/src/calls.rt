@@ -1,6 +1,6 @@
 //! Calls and returns.
 
-ghost use Rattle.std.specs.Prelude.{◌≡◌, ◌+◌, ◌<◌, ◌^◌, ◌++◌, ◌∷◌, [], map, drop, length, IfOk, OnOk};
+ghost use Rattle.std.specs.Prelude.{◌≡◌, ◌+◌, ◌<◌, ◌≤◌, ◌^◌, ◌++◌, ◌∷◌, [], map, drop, length, vec_capacity, IfOk, OnOk};
 ghost use Rattle.pst_machine_steps.specs.Calls.{HoldsNothing, held_in, register_default, SameTally, CalledIn, first_registers, with_register, given_back, Left};
 
 use crate::frame::{held, set_at};
@@ -53,9 +53,9 @@ fn entered<P: Copy, R: Copy>(
     ensures same { SameTally standing.old standing.new }
     ensures callers { standing.new.callers ≡ standing.old.callers }
 {
-    let mut registers = empty(standing.alloc, &mut standing.spare);
-    gather(&mut registers, caller, arguments)?;
-    fill(&mut registers, kinds)?;
+    let mut list = empty(standing.alloc, &mut standing.spare);
+    list.reserve(arguments.len().max(kinds.len()))?;
+    let registers = filled(gathered(list, caller, arguments), kinds);
     Ok(CallFrame {
         procedure,
         at: 0,
@@ -83,28 +83,47 @@ fn emptied<R: Copy>(registers: Vec<Register<R>>) -> Vec<Register<R>>
     registers
 }
 
-/// Appends what registers of a frame hold, in order.
-fn gather<R: Copy>(
-    all: &mut Vec<Register<R>>,
+/// A list that has room for them, and behind it what registers of a frame hold, in order.
+#[inline(always)]
+fn gathered<R: Copy>(
+    list: Vec<Register<R>>,
     frame: &CallFrame<R>,
-    list: &[Reg],
-) -> Result<(), NoMemory>
-    ensures { OnOk result (all.new.items ≡ all.old.items ++ map (held_in frame.now) list.now) }
+    arguments: &[Reg],
+) -> Vec<Register<R>>
+    requires { length list.items + length arguments.now ≤ vec_capacity list }
+    ensures items { result.items ≡ list.items ++ map (held_in frame.now) arguments.now }
+    ensures capacity { vec_capacity result ≡ vec_capacity list }
 {
-    for r in list {
-        all.push(held(frame, *r))?;
+    // A list of this function alone, so that its length need not be written for each element.
+    let mut all = list;
+    for r in arguments {
+        all.push_reserved(held(frame, *r));
     }
-    Ok(())
+    all
+}
+
+/// A list of registers that has room for all, and what those behind them hold at first.
+#[inline(always)]
+fn filled<R: Copy>(list: Vec<Register<R>>, kinds: &[Kind]) -> Vec<Register<R>>
+    requires { length kinds.now ≤ vec_capacity list }
+    ensures { result.items ≡ list.items ++ map register_default (drop (length list.items) kinds.now) }
+{
+    let mut all = list;
+    let start = all.len();
+    for i in start..kinds.len() {
+        all.push_reserved(default(kinds[i]));
+    }
+    all
 }
 
 /// Appends what the registers behind these hold at first.
 pub fn fill<R: Copy>(registers: &mut Vec<Register<R>>, kinds: &[Kind]) -> Result<(), NoMemory>
     ensures { OnOk result (registers.new.items ≡ registers.old.items ++ map register_default (drop (length registers.old.items) kinds.now)) }
 {
-    let start = registers.len();
-    for i in start..kinds.len() {
-        registers.push(default(kinds[i]))?;
-    }
+    registers.reserve(kinds.len().saturating_sub(registers.len()))?;
+    let none = Vec::new(*registers.allocator());
+    let list = mem::replace(registers, none);
+    *registers = filled(list, kinds);
     Ok(())
 }
 
@@ -129,7 +148,22 @@ fn swap_in<R: Copy>(
     ensures current { OnOk result (current.new ≡ next) }
     ensures callers { OnOk result (callers.new.items ≡ callers.old.items ++ record { frame = current.old; into = into } ∷ []) }
 {
-    let frame = mem::replace(current, next);
+    // Field by field, so that no padding is copied.
+    let CallFrame {
+        procedure,
+        at,
+        registers,
+        line,
+    } = next;
+    let frame = CallFrame {
+        procedure: current.procedure,
+        at: current.at,
+        registers: mem::replace(&mut current.registers, registers),
+        line: current.line,
+    };
+    current.procedure = procedure;
+    current.at = at;
+    current.line = line;
     callers.push(Waiting { frame, into })?;
     Ok(())
 }
