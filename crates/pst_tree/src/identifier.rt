@@ -1,6 +1,6 @@
 //! Names of a program's text.
 
-ghost use Rattle.std.specs.Prelude.{◌≡◌, ◌≤◌, ◌++◌, length, take, IfOk};
+ghost use Rattle.std.specs.Prelude.{◌≡◌, ◌≤◌, length, IfOk};
 
 use pst_base::NoMemory;
 use std::alloc::Global;
