@@ -1,12 +1,12 @@
 //! What the grammar's tokens are made of.
 
-use pst_base::Text;
+use pst_tree::Identifier;
 
 /// A name as it stands in the text, with its line.
 #[derive(Drop)]
 pub struct Label {
     pub line: u32,
-    pub name: Text,
+    pub name: Identifier,
 }
 
 /// A keyword or symbol that begins nothing whose line a tree keeps, and is no operator.

@@ -9,7 +9,7 @@ ghost use Rattle.pst_notation.specs.Canonical.{type_text, typed_text, elements_t
 
 use pst_base::{NoMemory, Text};
 use pst_notation_statements::{put_block, put_line, put_number};
-use pst_tree::{Block, Declaration, Field, Local, Tree, TypeName};
+use pst_tree::{Block, Declaration, Field, Identifier, Local, Tree, TypeName};
 use std::alloc::Global;
 
 /// Puts a type.
@@ -23,7 +23,7 @@ fn put_type(out: &mut Vec<u8>, kind: &TypeName) -> Result<(), NoMemory>
 }
 
 /// Puts a name with its type.
-fn put_typed(out: &mut Vec<u8>, name: &Text, kind: &TypeName) -> Result<(), NoMemory>
+fn put_typed(out: &mut Vec<u8>, name: &Identifier, kind: &TypeName) -> Result<(), NoMemory>
     ensures { OnOk result (out.new.items ≡ out.old.items ++ typed_text name.now (type_word_of kind.now)) }
 {
     out.extend_from_slice(name.as_slice())?;
@@ -83,7 +83,12 @@ fn put_fields(out: &mut Vec<u8>, fields: &[Field]) -> Result<(), NoMemory>
 }
 
 /// Puts the line of a record type.
-fn put_record(out: &mut Vec<u8>, name: &Text, limit: i64, fields: &[Field]) -> Result<(), NoMemory>
+fn put_record(
+    out: &mut Vec<u8>,
+    name: &Identifier,
+    limit: i64,
+    fields: &[Field],
+) -> Result<(), NoMemory>
     ensures { OnOk result (out.new.items ≡ out.old.items ++ record_text name.now limit (map field_of fields.now)) }
 {
     out.extend_from_slice(b"record ")?;
@@ -96,7 +101,7 @@ fn put_record(out: &mut Vec<u8>, name: &Text, limit: i64, fields: &[Field]) -> R
 }
 
 /// Puts the line of a root.
-fn put_root(out: &mut Vec<u8>, name: &Text, kind: &TypeName) -> Result<(), NoMemory>
+fn put_root(out: &mut Vec<u8>, name: &Identifier, kind: &TypeName) -> Result<(), NoMemory>
     ensures { OnOk result (out.new.items ≡ out.old.items ++ line 0 (codes "root " ++ typed_text name.now (type_word_of kind.now) ++ codes ";")) }
 {
     out.extend_from_slice(b"root ")?;
@@ -172,7 +177,7 @@ fn put_sort(out: &mut Vec<u8>, query: bool) -> Result<(), NoMemory>
 }
 
 /// Puts the word that a procedure or a query begins with, its name and an opening parenthesis.
-fn put_title(out: &mut Vec<u8>, query: bool, name: &Text) -> Result<(), NoMemory>
+fn put_title(out: &mut Vec<u8>, query: bool, name: &Identifier) -> Result<(), NoMemory>
     ensures { OnOk result (out.new.items ≡ out.old.items ++ (sort_text query ++ name.now ++ codes "(")) }
 {
     put_sort(out, query)?;
@@ -193,7 +198,7 @@ fn put_opening(out: &mut Vec<u8>, result_kind: &Option<TypeName>) -> Result<(), 
 fn put_head(
     out: &mut Vec<u8>,
     query: bool,
-    name: &Text,
+    name: &Identifier,
     parameters: &[Local],
     result_kind: &Option<TypeName>,
 ) -> Result<(), NoMemory>

@@ -1,4 +1,4 @@
-//! Canonical texts of trees, also of one that no text gives, and what a token takes that the parser has at hand.
+//! Canonical texts of trees, also of one that no text gives, and what a name, an expression and a token at hand take.
 #![tactic(auto)]
 
 #[cfg(test)]

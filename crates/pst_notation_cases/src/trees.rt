@@ -1,6 +1,6 @@
 //! Trees with their canonical texts.
 
-use pst_base::{NoMemory, Text};
+use pst_base::NoMemory;
 use pst_lex::find_fault;
 use pst_notation::{
     canonical_text_keeps_what_was_read, canonical_text_reads_as_its_tree, print_program,
@@ -8,7 +8,8 @@ use pst_notation::{
 use pst_parse::parse;
 use pst_parse_expressions::Atom;
 use pst_tree::{
-    Block, Declaration, Declarations, Expression, Form, Locals, Statement, Tree, TypeName,
+    Block, Declaration, Declarations, Expression, Form, Identifier, Locals, Statement, Tree,
+    TypeName,
 };
 use std::alloc::Global;
 use std::test::Fail;
@@ -29,7 +30,7 @@ fn procedure_of(alloc: Global, statement: Statement) -> Result<Tree, NoMemory> {
     let procedure = Declaration::Procedure {
         line: 1,
         query: false,
-        name: Text::from_vec(vec![in alloc; b'p']?),
+        name: Identifier::from_slice(alloc, b"p")?,
         parameters: Locals::from_vec(Vec::new(alloc)),
         result: Some(TypeName::Int),
         locals: Locals::from_vec(Vec::new(alloc)),
@@ -59,6 +60,22 @@ fn tree_that_was_not_read_prints_too(rt: HostRuntime) -> Result<(), Fail> {
         b"proc p(): int {\n  return -9223372036854775808;\n}\n".as_slice()
     );
     Ok(())
+}
+
+#[test]
+fn name_gives_its_bytes_back_at_each_length(rt: HostRuntime) -> Result<(), Fail> {
+    let bytes = b"names_of_up_to_thirty_three_bytes".as_slice();
+    for length in 0..=bytes.len() {
+        let name = Identifier::from_slice(rt.alloc(), &bytes[..length])?;
+        assert_eq!(rt; name.as_slice(), &bytes[..length]);
+    }
+    Ok(())
+}
+
+#[test]
+fn name_takes_16_bytes_and_an_expression_40(rt: HostRuntime) {
+    assert_eq!(rt; size_of::<Identifier>(), 16);
+    assert_eq!(rt; size_of::<Expression>(), 40);
 }
 
 #[test]

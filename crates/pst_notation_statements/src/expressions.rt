@@ -7,8 +7,8 @@ ghost use Rattle.pst_tree.specs.View.{expr_of};
 ghost use Rattle.pst_notation_statements.specs.Texts.{op_text, expr_text};
 
 use itoa::Buffer;
-use pst_base::{NoMemory, Op, Text};
-use pst_tree::Expression;
+use pst_base::{NoMemory, Op};
+use pst_tree::{Expression, Identifier};
 
 /// Puts a number.
 pub fn put_number(out: &mut Vec<u8>, number: i64) -> Result<(), NoMemory>
@@ -49,7 +49,7 @@ fn put_op(out: &mut Vec<u8>, op: Op) -> Result<(), NoMemory>
 }
 
 /// Puts a dot and the name of a field.
-fn put_field_name(out: &mut Vec<u8>, name: &Text) -> Result<(), NoMemory>
+fn put_field_name(out: &mut Vec<u8>, name: &Identifier) -> Result<(), NoMemory>
     ensures { OnOk result (out.new.items ≡ out.old.items ++ codes "." ++ name.now) }
 {
     out.extend_from_slice(b".")?;
@@ -90,7 +90,7 @@ fn put_enclosed(out: &mut Vec<u8>, e: &Expression) -> Result<(), NoMemory>
 
 /// Puts a field of an object.
 #[cycle(expressions)]
-fn put_field(out: &mut Vec<u8>, object: &Expression, name: &Text) -> Result<(), NoMemory>
+fn put_field(out: &mut Vec<u8>, object: &Expression, name: &Identifier) -> Result<(), NoMemory>
     ensures { OnOk result (out.new.items ≡ out.old.items ++ expr_text (tree.Field (expr_of object.now) name.now)) }
 {
     put_expression(out, object)?;
@@ -102,7 +102,7 @@ fn put_field(out: &mut Vec<u8>, object: &Expression, name: &Text) -> Result<(), 
 fn put_element(
     out: &mut Vec<u8>,
     object: &Expression,
-    name: &Text,
+    name: &Identifier,
     index: &Expression,
 ) -> Result<(), NoMemory>
     ensures { OnOk result (out.new.items ≡ out.old.items ++ expr_text (tree.Indexed (expr_of object.now) name.now (expr_of index.now))) }

@@ -8,8 +8,8 @@ ghost use Rattle.pst_tree.specs.View.{expr_of, phrase_of, phrases_of};
 ghost use Rattle.pst_notation_statements.specs.Texts.{line, result_text, expr_text, phrase_text, phrases_text, guarded_text, listed, behind_comma};
 
 use crate::expressions::put_expression;
-use pst_base::{NoMemory, Text};
-use pst_tree::{Block, Expression, Form, Statement};
+use pst_base::NoMemory;
+use pst_tree::{Block, Expression, Form, Identifier, Statement};
 
 /// How many spaces a block stands further from the left than its statement.
 const STEP: usize = 2;
@@ -68,7 +68,12 @@ fn deeper(indent: usize) -> Result<usize, NoMemory>
 }
 
 /// Puts the line of a new record.
-fn put_new(out: &mut Vec<u8>, indent: usize, name: &Text, ty: &Text) -> Result<(), NoMemory>
+fn put_new(
+    out: &mut Vec<u8>,
+    indent: usize,
+    name: &Identifier,
+    ty: &Identifier,
+) -> Result<(), NoMemory>
     ensures { OnOk result (out.new.items ≡ out.old.items ++ phrase_text indent (tree.New name.now ty.now)) }
 {
     put_indent(out, indent)?;
@@ -79,7 +84,7 @@ fn put_new(out: &mut Vec<u8>, indent: usize, name: &Text, ty: &Text) -> Result<(
 }
 
 /// Puts the local that takes the result of a call, if one does.
-fn put_result(out: &mut Vec<u8>, local: &Option<Text>) -> Result<(), NoMemory>
+fn put_result(out: &mut Vec<u8>, local: &Option<Identifier>) -> Result<(), NoMemory>
     ensures { OnOk result (out.new.items ≡ out.old.items ++ result_text local.now) }
 {
     match local {
@@ -95,8 +100,8 @@ fn put_result(out: &mut Vec<u8>, local: &Option<Text>) -> Result<(), NoMemory>
 fn put_call(
     out: &mut Vec<u8>,
     indent: usize,
-    local: &Option<Text>,
-    procedure: &Text,
+    local: &Option<Identifier>,
+    procedure: &Identifier,
     list: &[Expression],
 ) -> Result<(), NoMemory>
     ensures { OnOk result (out.new.items ≡ out.old.items ++ phrase_text indent (tree.Call local.now procedure.now (map expr_of list.now))) }

@@ -9,17 +9,17 @@ ghost use Rattle.pst_parse_expressions.specs.View.{Gives, GivesRest, itself, lex
 ghost use Rattle.pst_parse_statements.specs.View.{begins};
 ghost use Rattle.pst_parse_declarations.specs.View.{BeginsWithWord, BeginsOtherwise, GivesBehind, fields_of, locals_of, result_of, heading as heading_of, signature_of};
 
-use pst_base::{Op, Text};
+use pst_base::Op;
 use pst_grammar::{Lead, Sign};
 use pst_parse_expressions::{Atom, Lexeme, Stop, after, expect, name, number, peek, type_name};
 use pst_parse_statements::block;
-use pst_tree::{Declaration, Field, Fields, Local, Locals, TypeName};
+use pst_tree::{Declaration, Field, Fields, Identifier, Local, Locals, TypeName};
 use std::alloc::Global;
 
 /// What a procedure or query shows of itself to a caller.
 #[derive(Drop)]
 struct Signature {
-    name: Text,
+    name: Identifier,
     parameters: Locals,
     result: Option<TypeName>,
 }

@@ -10,10 +10,10 @@ ghost use Rattle.pst_parse_expressions.specs.View.{GivesTree, lexemes_of};
 
 use crate::lexeme::{Atom, Lexeme, peek};
 use crate::stop::Stop;
-use crate::token::{after, expect, name, text};
-use pst_base::{Op, Text};
+use crate::token::{after, expect, name};
+use pst_base::Op;
 use pst_grammar::Sign;
-use pst_tree::Expression;
+use pst_tree::{Expression, Identifier};
 use std::alloc::Global;
 
 /// How tightly an operator binds, from 0.
@@ -99,7 +99,7 @@ pub fn operand<'a, 't>(
             budget,
         ),
         Lexeme::Name(_, name) => {
-            let name = Expression::Name(text(alloc, name)?);
+            let name = Expression::Name(Identifier::from_slice(alloc, name)?);
             more(alloc, language, name, 0, rest, n, budget)
         }
         Lexeme::Operator(op) => match op {
@@ -320,7 +320,7 @@ fn selected<'a, 't>(
     language: u8,
     e: Expression,
     height: u8,
-    name: Text,
+    name: Identifier,
     tokens: &'a [Atom<'t>],
     n: u8,
     budget: u8,

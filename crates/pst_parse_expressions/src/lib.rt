@@ -5,8 +5,7 @@
 //!
 //! Contract: each function gives what that reading gives, or stops for want of memory: [`operand`] an expression of a rank and
 //! within a limit of height, [`more`] what goes on behind one; [`expect`], [`name`], [`number`] and [`type_name`] a token that
-//! has to come; [`after`] what stands behind a sign, if it stands there; [`peek`] the first token; and
-//! [`text`] the bytes of a name as a text of its own.
+//! has to come; [`after`] what stands behind a sign, if it stands there; and [`peek`] the first token.
 //!
 //! ```text
 //! let (sum, height, rest) = operand(alloc, 1, tokens, 0, 63)?;     // of `1 + 2;` the sum, of height 1, and `;`
@@ -22,4 +21,4 @@ mod token;
 pub use expression::{more, operand};
 pub use lexeme::{Atom, Lexeme, peek};
 pub use stop::Stop;
-pub use token::{after, expect, name, number, text, type_name};
+pub use token::{after, expect, name, number, type_name};

@@ -8,18 +8,9 @@ ghost use Rattle.pst_tree.specs.View.{type_word_of};
 
 use crate::lexeme::{Atom, Lexeme, peek};
 use crate::stop::Stop;
-use pst_base::Text;
 use pst_grammar::{Label, Sign};
-use pst_tree::TypeName;
-use std::alloc::{AllocError, Global};
-
-/// A text of these bytes.
-#[inline(always)]
-pub fn text(alloc: Global, bytes: &[u8]) -> Result<Text, AllocError>
-    ensures { IfOk result (λ text. text ≡ bytes.now) }
-{
-    Ok(Text::from_vec(Vec::from_slice(alloc, bytes)?))
-}
+use pst_tree::{Identifier, TypeName};
+use std::alloc::Global;
 
 /// The tokens after a sign that has to come.
 #[inline(always)]
@@ -49,7 +40,7 @@ pub fn name<'a, 't>(
 {
     match peek(tokens) {
         Some((Lexeme::Name(line, name), rest)) => {
-            let name = text(alloc, name)?;
+            let name = Identifier::from_slice(alloc, name)?;
             Ok((Label { line, name }, rest))
         }
         _ => Err(Stop::Unexpected(tokens)),
@@ -80,7 +71,10 @@ pub fn type_name<'a, 't>(
             Sign::Int => Ok((TypeName::Int, rest)),
             _ => Err(Stop::Unexpected(tokens)),
         },
-        Some((Lexeme::Name(_, name), rest)) => Ok((TypeName::Named(text(alloc, name)?), rest)),
+        Some((Lexeme::Name(_, name), rest)) => Ok((
+            TypeName::Named(Identifier::from_slice(alloc, name)?),
+            rest,
+        )),
         _ => Err(Stop::Unexpected(tokens)),
     }
 }

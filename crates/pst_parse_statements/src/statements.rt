@@ -8,10 +8,9 @@ ghost use Rattle.pst_grammar.specs.Statements.{ended as ending, arguments as lis
 ghost use Rattle.pst_parse_expressions.specs.View.{Gives, lexemes_of};
 ghost use Rattle.pst_parse_statements.specs.View.{exprs_of, stated_of, begins, reading_behind};
 
-use pst_base::Text;
 use pst_grammar::{Lead, Sign};
-use pst_parse_expressions::{Atom, Lexeme, Stop, after, expect, more, name, operand, peek, text};
-use pst_tree::{Block, Expression, Expressions, Form, Statement};
+use pst_parse_expressions::{Atom, Lexeme, Stop, after, expect, more, name, operand, peek};
+use pst_tree::{Block, Expression, Expressions, Form, Identifier, Statement};
 use std::alloc::{AllocError, Global};
 
 /// An expression and a `;`.
@@ -60,7 +59,7 @@ fn call<'a, 't>(
     alloc: Global,
     language: u8,
     tokens: &'a [Atom<'t>],
-    target: Option<Text>,
+    target: Option<Identifier>,
     height: u8,
 ) -> Result<(Form, &'a [Atom<'t>]), Stop<'a, 't>>
     ensures given { Gives phrase_of result (calling language height target (lexemes_of tokens.now)) }
@@ -83,7 +82,7 @@ fn call<'a, 't>(
 fn made<'a, 't>(
     alloc: Global,
     tokens: &'a [Atom<'t>],
-    name: Text,
+    name: Identifier,
 ) -> Result<(Form, &'a [Atom<'t>]), Stop<'a, 't>>
     ensures given { Gives phrase_of result (making name (lexemes_of tokens.now)) }
     ensures shorter { IfOk result (λ x. length x.1.now < length tokens.now) }
@@ -98,7 +97,7 @@ fn made<'a, 't>(
 fn set<'a, 't>(
     alloc: Global,
     language: u8,
-    name: Text,
+    name: Identifier,
     tokens: &'a [Atom<'t>],
     height: u8,
 ) -> Result<(Form, &'a [Atom<'t>]), Stop<'a, 't>>
@@ -144,7 +143,7 @@ fn assigned<'a, 't>(
     ensures given { Gives phrase_of result (assigning language height label.now (lexemes_of tokens.now)) }
     ensures shorter { IfOk result (λ x. length x.1.now < length tokens.now) }
 {
-    let place = Expression::Name(text(alloc, label)?);
+    let place = Expression::Name(Identifier::from_slice(alloc, label)?);
     let (place, _, rest) = more(alloc, language, place, 0, tokens, 7, height)?;
     let rest = expect(rest, Sign::Assign)?;
     match place {

@@ -1,13 +1,14 @@
 //! Declarations of a program's text.
 
+use crate::identifier::Identifier;
 use crate::statement::Block;
-use pst_base::{Items, Text};
+use pst_base::Items;
 
 /// A type as it was written: `int`, or the name of a record type.
 #[derive(Drop)]
 pub enum TypeName {
     Int,
-    Named(Text),
+    Named(Identifier),
 }
 
 /// A field of a record type, with the line of its first token, and the number of its elements where one is written.
@@ -15,13 +16,13 @@ pub enum TypeName {
 pub enum Field {
     Val {
         line: u32,
-        name: Text,
+        name: Identifier,
         elements: Option<i64>,
     },
     Ptr {
         line: u32,
-        name: Text,
-        target: Text,
+        name: Identifier,
+        target: Identifier,
         elements: Option<i64>,
     },
 }
@@ -30,7 +31,7 @@ pub enum Field {
 #[derive(Drop)]
 pub struct Local {
     pub line: u32,
-    pub name: Text,
+    pub name: Identifier,
     pub kind: TypeName,
 }
 
@@ -39,19 +40,19 @@ pub struct Local {
 pub enum Declaration {
     Record {
         line: u32,
-        name: Text,
+        name: Identifier,
         limit: i64,
         fields: Fields,
     },
     Root {
         line: u32,
-        name: Text,
+        name: Identifier,
         kind: TypeName,
     },
     Procedure {
         line: u32,
         query: bool,
-        name: Text,
+        name: Identifier,
         parameters: Locals,
         result: Option<TypeName>,
         locals: Locals,

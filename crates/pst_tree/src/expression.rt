@@ -1,21 +1,22 @@
 //! Expressions of a program's text.
 
-use pst_base::{Items, Op, Text};
+use crate::identifier::Identifier;
+use pst_base::{Items, Op};
 
 /// An expression as it was written. Parentheses are a form of their own.
 #[derive(Drop)]
 pub enum Expression {
     Number(i64),
     Null,
-    Name(Text),
+    Name(Identifier),
     Parens(Box<Expression>),
     Field {
         object: Box<Expression>,
-        name: Text,
+        name: Identifier,
     },
     Indexed {
         object: Box<Expression>,
-        name: Text,
+        name: Identifier,
         index: Box<Expression>,
     },
     Negate(Box<Expression>),

@@ -9,10 +9,12 @@
 
 mod declaration;
 mod expression;
+mod identifier;
 mod statement;
 mod worked;
 
 pub use declaration::{Declaration, Declarations, Field, Fields, Local, Locals, Tree, TypeName};
 pub use expression::{Expression, Expressions};
+pub use identifier::Identifier;
 pub use statement::{Block, Form, Statement};
 pub use worked::{depths_by_hand, limits_of_depth_by_hand};

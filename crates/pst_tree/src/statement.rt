@@ -1,7 +1,7 @@
 //! Statements of a program's text.
 
 use crate::expression::{Expression, Expressions};
-use pst_base::Text;
+use crate::identifier::Identifier;
 
 /// A statement, with the line of its first token, from 1.
 #[cycle(tree)]
@@ -16,12 +16,12 @@ pub struct Statement {
 #[derive(Drop)]
 pub enum Form {
     New {
-        name: Text,
-        ty: Text,
+        name: Identifier,
+        ty: Identifier,
     },
     Call {
-        result: Option<Text>,
-        procedure: Text,
+        result: Option<Identifier>,
+        procedure: Identifier,
         arguments: Expressions,
     },
     Write {

@@ -20,9 +20,9 @@ ghost use Rattle.pst_types.specs.View.{draft_of, Declares};
 ghost use Rattle.pst_types.specs.Added.{with_type};
 ghost use Rattle.pst_types.specs.Bodies.{item_with, items_with};
 
-use pst_base::{MOST_LIMIT, Shape, Text, TypeShape};
+use pst_base::{MOST_LIMIT, Shape, TypeShape};
 use pst_program::{Program, TypeEntry, TypeNames, TypedProc, TypedProcs};
-use pst_tree::{Block, Declaration, Fields, Tree};
+use pst_tree::{Block, Declaration, Fields, Identifier, Tree};
 use pst_types_procedures::{ProcedureHead, judge_procedure, note};
 use pst_types_scope::{Members, Scope, Word, judge_fields, names_of, shape_of};
 use pst_typing::{TypeFault, accepted_programs_are_typed};
@@ -94,7 +94,7 @@ fn judge_record(
     scope: &Scope,
     draft: &mut Draft,
     line: u32,
-    name: &Text,
+    name: &Identifier,
     limit: i64,
     fields: &Fields,
 ) -> Result<(), TypeFault>

@@ -96,6 +96,7 @@ fn in_parens<'t>(alloc: Global, judged: Judged<'t>) -> Result<Judged<'t>, TypeFa
 }
 
 /// An operand that has to be of a sort.
+#[inline(always)]
 fn operand<'t>(line: u32, sort: Sort<'t>, judged: Judged<'t>) -> Result<Typed, TypeFault>
     ensures { Answers typed_view.expr_of result (operand line (sort_seen sort.entry) (judged_of judged.entry)) }
 {
@@ -248,6 +249,7 @@ fn invert<'t>(alloc: Global, line: u32, judged: Judged<'t>) -> Result<Judged<'t>
 }
 
 /// Two operands of one sort.
+#[inline(always)]
 fn operation<'t>(
     alloc: Global,
     line: u32,
@@ -264,6 +266,7 @@ fn operation<'t>(
 }
 
 /// An operator with its operands.
+#[inline(always)]
 fn binary(alloc: Global, op: Op, left: Typed, right: Typed) -> Result<Typed, TypeFault>
     ensures { Answers typed_view.expr_of result (Ok (program.Binary op (typed_view.expr_of left) (typed_view.expr_of right))) }
 {

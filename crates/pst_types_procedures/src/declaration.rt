@@ -6,8 +6,8 @@ ghost use Rattle.pst_tree.specs.View as tree_view;
 ghost use Rattle.pst_types_procedures.specs.View.{procedure_text_of, Notes};
 
 use crate::procedure::ProcedureHead;
-use pst_base::{MOST_ROOTS, ProcNo, Text, TypeNo};
-use pst_tree::{Declaration, Fields, TypeName};
+use pst_base::{MOST_ROOTS, ProcNo, TypeNo};
+use pst_tree::{Declaration, Fields, Identifier, TypeName};
 use pst_types_scope::{RecordType, Scope, Signature, Word, lay_out};
 use pst_typing::TypeFault;
 use std::alloc::Global;
@@ -17,7 +17,7 @@ fn note_record<'t>(
     alloc: Global,
     scope: &mut Scope<'t>,
     line: u32,
-    name: &'t Text,
+    name: &'t Identifier,
     fields: &'t Fields,
 ) -> Result<(), TypeFault>
     ensures { (limit : ℤ) → Notes scope.old scope.new result (tree.Record line name.now limit (map tree_view.field_of fields.now)) }
@@ -40,7 +40,7 @@ fn note_record<'t>(
 fn note_root<'t>(
     scope: &mut Scope<'t>,
     line: u32,
-    name: &'t Text,
+    name: &'t Identifier,
     kind: &'t TypeName,
 ) -> Result<(), TypeFault>
     ensures { Notes scope.old scope.new result (tree.Root line name.now (tree_view.type_word_of kind.now)) }

@@ -16,7 +16,7 @@ ghost use Rattle.pst_types_procedures.specs.Parts.{counted, variables_in, proced
 use indexmap::IndexMap;
 use pst_base::{Kind, Kinds, Text};
 use pst_program::TypedProc;
-use pst_tree::{Block, Local, TypeName};
+use pst_tree::{Block, Identifier, Local, TypeName};
 use pst_types_scope::{Scope, Setting, Variable, Word};
 use pst_types_statements::judge_block;
 use pst_typing::TypeFault;
@@ -28,7 +28,7 @@ use std::alloc::{AllocError, Global};
 pub struct ProcedureHead<'t> {
     pub line: u32,
     pub query: bool,
-    pub name: &'t Text,
+    pub name: &'t Identifier,
     pub parameters: &'t [Local],
     pub result: &'t Option<TypeName>,
     pub locals: &'t [Local],
@@ -166,7 +166,7 @@ fn judge_in(
 {
     let body = judge_block(alloc, setting, body)?;
     Ok(TypedProc {
-        name: head.name.copy()?,
+        name: Text::from_vec(Vec::from_slice(alloc, head.name.as_slice())?),
         query: head.query,
         arguments,
         result: result_kind(setting.scope, setting.result),

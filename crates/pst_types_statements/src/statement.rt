@@ -13,9 +13,8 @@ ghost use Rattle.pst_typing.specs.Statements.{assigned, stored, element_stored, 
 ghost use Rattle.pst_typing.specs.View.{Answers};
 ghost use Rattle.pst_types_scope.specs.View.{kind_word, setting_of, variable_of, signature_of};
 
-use pst_base::Text;
 use pst_program::{TypedBlock, TypedForm, TypedList, TypedStatement};
-use pst_tree::{Block, Expression, Expressions, Form, Local};
+use pst_tree::{Block, Expression, Expressions, Form, Identifier, Local};
 use pst_types_expressions::{Sort, array_field, as_object, fit, judge, of_sort, plain_field};
 use pst_types_scope::{Setting, Signature, Target, Word};
 use pst_typing::TypeFault;
@@ -178,7 +177,7 @@ fn receive(
     setting: &Setting,
     line: u32,
     result_kind: Option<Word>,
-    name: &Option<Text>,
+    name: &Option<Identifier>,
 ) -> Result<Option<u16>, TypeFault>
     ensures { Answers (λ to. to) result (received (setting_of setting.now) line (option_map kind_word result_kind.entry) name.now) }
 {
@@ -201,7 +200,7 @@ fn call<'t>(
     setting: &Setting<'_, 't>,
     line: u32,
     signature: Signature<'t>,
-    name: &Option<Text>,
+    name: &Option<Identifier>,
     values: &[Expression],
 ) -> Result<TypedForm, TypeFault>
     ensures { Answers action_of result (called (setting_of setting.now) line (signature_of signature.entry) name.now (map expr_of values.now)) }
