@@ -13,7 +13,6 @@ use pst_base::NoMemory;
 use pst_codegen::compile;
 use pst_engine_runs::{Compiled, Meant, compiled_code_means_the_program};
 use pst_forest::Forest;
-use pst_lex::find_fault;
 use pst_parse::parse;
 use pst_program::Program;
 use pst_types::check;
@@ -26,7 +25,6 @@ pub fn program_of(alloc: Global, text: &[u8]) -> Result<Program, Trouble>
     if text.len() > 65_536 {
         return Err(Trouble::Program);
     }
-    find_fault(text)?;
     let tree = parse(alloc, text)?;
     Ok(check(alloc, tree)?)
 }

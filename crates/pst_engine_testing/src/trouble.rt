@@ -1,7 +1,6 @@
 //! Why the tests come to no answer.
 
 use pst_base::NoMemory;
-use pst_lex::LexFault;
 use pst_parse::ParseFault;
 use pst_typing::TypeFault;
 
@@ -19,12 +18,6 @@ pub enum Trouble {
 impl From<NoMemory> for Trouble {
     fn from(_error: NoMemory) -> Trouble {
         Trouble::Memory
-    }
-}
-
-impl From<LexFault> for Trouble {
-    fn from(_fault: LexFault) -> Trouble {
-        Trouble::Program
     }
 }
 

@@ -91,8 +91,8 @@ impl From<NoMemory> for NoProgram {
     }
 }
 
-/// The tree of a text of fewer than 4,294,967,295 bytes. A lexical fault anywhere comes first, so the whole text is looked at
-/// before it is read. It is let go once the tree is there.
+/// The tree of a text of fewer than 4,294,967,295 bytes. A lexical fault anywhere comes first, so where there is no tree the whole
+/// text is looked at for one. It is let go once the tree is there.
 ///
 /// # Errors
 /// The first fault of lexer or parser, or want of memory.
@@ -100,8 +100,13 @@ pub(crate) fn read_tree(alloc: Global, text: Vec<u8>) -> Result<Tree, NoProgram>
     requires { length text.items + 1 < 2 ^ 32 }
     ensures { MatchResult result (λ tree. HasTree text.items (text_of tree)) (λ why. IsNoProgram text.items why) }
 {
-    find_fault(&text)?;
-    Ok(parse(alloc, &text)?)
+    match parse(alloc, &text) {
+        Ok(tree) => Ok(tree),
+        Err(fault) => {
+            find_fault(&text)?;
+            Err(fault.into())
+        }
+    }
 }
 
 /// The typed program of a text of fewer than 4,294,967,295 bytes. The text is let go once its tree is there, and the tree as it

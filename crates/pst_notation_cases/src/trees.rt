@@ -1,7 +1,6 @@
 //! Trees with their canonical texts.
 
 use pst_base::NoMemory;
-use pst_lex::find_fault;
 use pst_notation::{
     canonical_text_keeps_what_was_read, canonical_text_reads_as_its_tree, print_program,
 };
@@ -17,7 +16,6 @@ use std::test::Fail;
 #[test]
 fn text_that_was_read_keeps_its_tokens(rt: HostRuntime) -> Result<(), Fail> {
     let text = b"language # of arrays\n 2";
-    find_fault(text)?;
     let tree = parse(rt.alloc(), text)?;
     canonical_text_keeps_what_was_read(text, &tree);
     let canonical = print_program(rt.alloc(), &tree)?;

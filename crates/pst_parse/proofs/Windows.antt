@@ -1,5 +1,5 @@
 -- Declarations are taken from one window after another.
-use Rattle.std.specs.Prelude.{◌≡◌, ℕ, ◌≤◌, ◌<◌, ◌-◌, ◌⊎◌, true, List, [], ◌∷◌, ◌++◌, length, take, drop, map, Ok, Err, Some, None}
+use Rattle.std.specs.Prelude.{◌≡◌, ℕ, ◌≤◌, ◌<◌, ◌-◌, ◌⊎◌, true, false, List, [], ◌∷◌, ◌++◌, length, take, drop, map, Ok, Err, Some, None}
 use Rattle.std.proofs.Common.{refl, sym, ap, ◌∙◌, subst, arith, inl, inr, append-nil, append_assoc, length-drop}
 use Rattle.std.proofs.Math.Seq.{drop-length}
 use Rattle.std.proofs.lemmas.List.{map-append, take-append-drop}
@@ -7,9 +7,10 @@ use Rattle.pst_lex.specs.declared.types.Token.{Token}
 use Rattle.pst_parse_expressions.specs.declared.lexeme.Atom.{Atom}
 use Rattle.pst_lex.specs.declared.lexer.Lexer.{Lexer}
 use Rattle.pst_lex.specs.declared.faults.LexFault.{LexFault}
-use Rattle.pst_lex.specs.Lexing.{Lexes, HasLexing}
-use Rattle.pst_lex.specs.Taking.{BeginsAt, TakesFromLeft, bytes_left, line_reached}
-use Rattle.pst_lex.proofs.Taking.{ends_there}
+use Rattle.pst_lex.specs.Lexing.{Lexes, EndsAt}
+use Rattle.pst_lex.specs.Taking.{BeginsAt, TakesFromLeft, TakesNext, bytes_left, line_reached}
+use Rattle.pst_lex.proofs.Taking.{ends_there, looked_more, looked_all}
+use Rattle.pst_lex.proofs.Rows.{none_left}
 use Rattle.pst_tree.specs.declared.declaration.Declaration.{Declaration}
 use Rattle.pst_tree.specs.Syntax as tree
 use Rattle.pst_tree.specs.View.{item_of}
@@ -20,7 +21,7 @@ use Rattle.pst_grammar.specs.Declarations.{item, any, declarations}
 use Rattle.pst_grammar.proofs.Many.{many-end}
 use Rattle.pst_parse.specs.declared.window.Window.{Window}
 use Rattle.pst_parse.specs.Answers.{StopsOn}
-use Rattle.pst_parse.specs.Window.{Ahead, HasAhead, Follows, KeepsAhead, IsFrontOf, EndsOn}
+use Rattle.pst_parse.specs.Window.{Ahead, HasNoEnd, Follows, IsReached, KeepsAhead, KeepsReached, ReachesEnd, IsFrontOf, EndsOn}
 use Rattle.pst_parse.specs.Taking.{last, read_with, FaultsAmong, Takes, AreRead}
 use Rattle.pst_parse.specs.declared.fault.ParseFault.{ParseFault}
 use Rattle.pst_parse.specs.declared.fault.ParseFault.TheVariants as fault
@@ -76,15 +77,14 @@ refilled l tokens end w kept new left read stage items lexer keeps = record {
   same = stage.same;
 }
 
-pub kept_ahead : (w kept : Window) (items : List Atom) → HasAhead w → kept.tokens.items ≡ items → kept.lexer ≡ w.lexer → HasAhead kept
-kept_ahead w kept items (tokens, end, (behind, is, lexed)) same lexer = (kept.tokens.items ++ behind, end, (behind, refl, subst (λ (x : Lexer). Follows x behind end) (sym lexer) lexed))
-
-pub filled_ahead : (kept new : Window) → HasAhead kept → KeepsAhead kept new → HasAhead new
-filled_ahead kept new (tokens, end, ahead) keeps = (tokens, end, keeps tokens end ahead)
+-- what is left of the tokens is ahead of a window that has them alone at hand
+pub left_ahead : (l : ℕ) (tokens : List Atom) (end : ℕ) (w kept : Window) (left : ℕ) (read : List Declaration) → (stage : IsLeft l tokens end w left read) → kept.tokens.items ≡ last left w.tokens.items → kept.lexer ≡ w.lexer →
+    Ahead kept (last left w.tokens.items ++ stage.behind) end
+left_ahead l tokens end w kept left read stage items lexer = (stage.behind, ap (λ x. x ++ stage.behind) (sym items), subst (λ (x : Lexer). Follows x stage.behind end) (sym lexer) stage.more)
 
 -- before the first token all tokens of the text are ahead
-pub front_of : (w : Window) (text : List ℕ) → HasLexing text → w.tokens.items ≡ [] → BeginsAt w.lexer text → IsFrontOf w text
-front_of w text (tokens, end, lexes) none begins = ((atoms_of tokens, end, ahead tokens end lexes), none, ahead)
+pub front_of : (w : Window) (text : List ℕ) → w.tokens.items ≡ [] → BeginsAt w.lexer text → IsFrontOf w text
+front_of w text none begins = (inl ([], (sym begins.0, sym begins.1, sym begins.2)), none, ahead)
   where
     ahead : (ts : List Token) (e : ℕ) → Lexes text ts e → Ahead w (atoms_of ts) e
     ahead ts e h = (atoms_of ts, ap (λ x. x ++ atoms_of ts) (sym none), (ts, refl, rw (begins.0, begins.1, begins.2) h))
@@ -110,10 +110,39 @@ no_more old w new keeps takes same tokens end ahead =
     ([], is ∙ ap (λ x. w.tokens.items ++ x) (seen ∙ ap atoms_of none) ∙ ap (λ x. x ++ []) (sym same), ([], refl, lexed'))
 
 -- no fault stands where tokens are up to the end
-pub no_fault : (old w : Window) (after : Lexer) (f : LexFault) → HasAhead old → KeepsAhead old w → TakesFromLeft (Err f) w.lexer after → ⊥
-no_fault old w after f (tokens, end, ahead) keeps takes =
+pub no_fault : (old w : Window) (after : Lexer) (f : LexFault) → KeepsAhead old w → TakesFromLeft (Err f) w.lexer after → HasNoEnd old
+no_fault old w after f keeps takes tokens end ahead =
     let (left, is, (here, seen, lexed)) = keeps tokens end ahead in
     takes here end lexed
+
+-- a token was taken, and no fault passed over
+pub more_reached : (old w new : Window) (t : Token) → KeepsReached old w → TakesNext (Ok (Some t)) w.lexer new.lexer → KeepsReached old new
+more_reached old w new t keeps takes text r = go (keeps text r)
+  where
+    go : IsReached text w.lexer → IsReached text new.lexer
+    go (inl (ts, leaves)) = inl (ts ++ t ∷ [], looked_more text ts t w.lexer new.lexer leaves takes)
+    go (inr has) = inr has
+
+-- the end was reached
+pub end_reached : (old w new : Window) → KeepsReached old w → TakesNext (Ok None) w.lexer new.lexer → KeepsReached old new
+end_reached old w new keeps takes text r = go (keeps text r)
+  where
+    go : IsReached text w.lexer → IsReached text new.lexer
+    go (inl (ts, leaves)) = inr (looked_all text ts w.lexer (line_reached new.lexer) leaves takes.0)
+    go (inr has) = inr has
+
+-- no byte is left, and no fault was passed over
+pub reaches_end : (w : Window) → bytes_left w.lexer ≡ 0 → ReachesEnd w
+reaches_end w none text (inl (ts, leaves)) = looked_all text ts w.lexer w.lexer.line leaves (ends w.lexer.rest.now w.lexer.at w.lexer.line (none_left w.lexer.rest.now none))
+  where
+    ends : (rest : List ℕ) (at line : ℕ) → rest ≡ [] → EndsAt line rest at line
+    ends rest at line empty = (false, rw empty refl, rw empty (omega arith))
+reaches_end w none text (inr has) = has
+
+-- a window is filled where tokens are ahead of it up to the end, unless memory ran out
+pub fill_fails : (P : ParseFault → Type 0) (f : ParseFault) (w : Window) (here : List Atom) (end : ℕ) → Ahead w here end → (f ≡ fault.Memory) ⊎ HasNoEnd w → P fault.Memory → P f
+fill_fails P f w here end ahead (inl memory) p = subst P (sym memory) p
+fill_fails P f w here end ahead (inr none) p = absurd (none here end ahead)
 
 -- ---- what is answered
 

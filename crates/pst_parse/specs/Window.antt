@@ -2,7 +2,8 @@
 use Rattle.std.specs.Prelude.{◌≡◌, ◌≤◌, ◌<◌, ◌+◌, ◌⊎◌, ℕ, Bool, true, false, List, [], ◌++◌, length}
 use Rattle.pst_lex.specs.declared.types.Token.{Token}
 use Rattle.pst_lex.specs.declared.lexer.Lexer.{Lexer}
-use Rattle.pst_lex.specs.Lexing.{Lexes}
+use Rattle.pst_lex.specs.Lexing.{Lexes, HasLexing}
+use Rattle.pst_lex.specs.Pieces.{Leaves}
 use Rattle.pst_lex.specs.Taking.{Left, bytes_left}
 use Rattle.pst_lex.specs.declared.words.Mark.TheVariants.{Record, Root, Proc, Query}
 use Rattle.pst_parse_expressions.specs.declared.lexeme.Atom.{Atom}
@@ -26,17 +27,29 @@ Follows lexer atoms end = (tokens : List Token) × (atoms ≡ atoms_of tokens) �
 abbrev pub Ahead : Window → List Atom → (end : ℕ) → Type 0
 Ahead w tokens end = (left : List Atom) × (tokens ≡ w.tokens.items ++ left) × Follows w.lexer left end
 
--- there are tokens up to the end
-abbrev pub HasAhead : Window → Type 0
-HasAhead w = (tokens : List Atom) × (end : ℕ) × Ahead w tokens end
+-- a fault stands somewhere ahead
+abbrev pub HasNoEnd : Window → Type 0
+HasNoEnd w = (tokens : List Atom) (end : ℕ) → Ahead w tokens end → ⊥
 
 -- what was still to be read is so
 abbrev pub KeepsAhead : (old new : Window) → Type 0
 KeepsAhead old new = (tokens : List Atom) (end : ℕ) → Ahead old tokens end → Ahead new tokens end
 
+-- tokens of the text stand up to where the lexer is; or it has come to the end
+abbrev pub IsReached : List ℕ → Lexer → Type 0
+IsReached text lexer = ((tokens : List Token) × Leaves text tokens lexer.rest.now lexer.at lexer.line) ⊎ HasLexing text
+
+-- no fault was passed over
+abbrev pub KeepsReached : (old new : Window) → Type 0
+KeepsReached old new = (text : List ℕ) → IsReached text old.lexer → IsReached text new.lexer
+
+-- no fault stands ahead
+abbrev pub ReachesEnd : Window → Type 0
+ReachesEnd w = (text : List ℕ) → IsReached text w.lexer → HasLexing text
+
 -- the tokens of the text are still to be read, and none is at hand
 abbrev pub IsFrontOf : Window → List ℕ → Type 0
-IsFrontOf w text = HasAhead w × (w.tokens.items ≡ []) × ((tokens : List Token) (end : ℕ) → Lexes text tokens end → Ahead w (atoms_of tokens) end)
+IsFrontOf w text = IsReached text w.lexer × (w.tokens.items ≡ []) × ((tokens : List Token) (end : ℕ) → Lexes text tokens end → Ahead w (atoms_of tokens) end)
 
 -- no byte is left of the text, or two tokens were taken at least; and fewer bytes are left, where some were
 abbrev pub IsFilled : (old new : Window) → Type 0

@@ -6,7 +6,6 @@
 //! which no program goes on, or only programs that are too deep.
 //!
 //! ```text
-//! find_fault(b"root a: int;")?;
 //! let tree = parse(alloc, b"root a: int;")?;
 //! parse(alloc, b"root a:\n;")        // Err(ParseFault::Unexpected { line: 2 })
 //! ```

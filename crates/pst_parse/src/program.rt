@@ -1,9 +1,9 @@
 //! Parsing a whole program.
 
-ghost use Rattle.std.specs.Prelude.{◌≡◌, ◌+◌, ◌≤◌, ◌<◌, ◌^◌, length};
+ghost use Rattle.std.specs.Prelude.{◌≡◌, ◌+◌, ◌≤◌, ◌<◌, ◌^◌, length, IfOk};
 ghost use Rattle.pst_lex.specs.Lexing.{HasLexing};
 ghost use Rattle.pst_parse.specs.Answers.{Found, FindsOnly, FaultsUnexpected, FaultsTooDeep, OfItsTokens, Parses};
-ghost use Rattle.pst_parse.specs.Window.{Ahead, HasAhead, IsFilled};
+ghost use Rattle.pst_parse.specs.Window.{Ahead, IsFilled, ReachesEnd};
 ghost use Rattle.pst_parse.specs.Taking.{StandsOn, Takes, Declares, Opens, HasRoom};
 
 use crate::fault::ParseFault;
@@ -66,8 +66,8 @@ fn take_declarations(
 
 /// The declarations of a program of a language, up to the end of the text.
 fn declarations(alloc: Global, language: u8, mut window: Window) -> Result<Declarations, ParseFault>
-    requires { HasAhead window }
-    ensures { Declares language result window.entry }
+    ensures declares { Declares language result window.entry }
+    ensures lexed { IfOk result (λ _. ReachesEnd window.entry) }
 {
     let mut items = Vec::new(alloc);
     let mut left = take_declarations(alloc, language, window.tokens(), &mut items)?;
@@ -86,7 +86,8 @@ fn declarations(alloc: Global, language: u8, mut window: Window) -> Result<Decla
 /// The language of a program that begins with these tokens, and how many of them are left behind what says it.
 fn opening(window: &Window) -> Result<(u8, usize), ParseFault>
     requires { HasRoom window.now }
-    ensures { Opens result window.now }
+    ensures opens { Opens result window.now }
+    ensures within { IfOk result (λ read. read.1 ≤ length window.now.tokens.items) }
 {
     let tokens = window.tokens();
     let Some(rest) = behind_word(tokens) else {
@@ -108,9 +109,9 @@ fn opening(window: &Window) -> Result<(u8, usize), ParseFault>
 
 /// The program of a text.
 fn program(alloc: Global, text: &[u8]) -> Result<Tree, ParseFault>
-    requires short { length text.now + 1 < 2 ^ 32 }
-    requires lexing { HasLexing text.now }
-    ensures { Parses result text.now }
+    requires { length text.now + 1 < 2 ^ 32 }
+    ensures parses { Parses result text.now }
+    ensures lexed { IfOk result (λ _. HasLexing text.now) }
 {
     let mut window = Window::new(alloc, text);
     window.fill()?;
@@ -125,8 +126,8 @@ fn program(alloc: Global, text: &[u8]) -> Result<Tree, ParseFault>
 
 /// The program that the tokens of a text are, of language 2 where they begin with the name `language` and the number 2, and of
 /// language 1 elsewhere: with its parentheses kept, its chains grouped to the left, and the line of each
-/// declaration, field, parameter, local and statement. The text has fewer than 4,294,967,295 bytes, and `pst_lex::find_fault`
-/// found none.
+/// declaration, field, parameter, local and statement. The text has fewer than 4,294,967,295 bytes. Where it has a lexical fault
+/// there is no tree, and the error tells no more than that: `pst_lex::find_fault` tells which fault is the first.
 ///
 /// An expression, and the place before a `=`, may have depth 64: a number, `null` or a name has depth 1, parentheses,
 /// `-`, `not` and `.` add 1, an operator adds 1 to its deeper side, and an access with an index adds 1 to the deeper of
@@ -140,8 +141,8 @@ fn program(alloc: Global, text: &[u8]) -> Result<Tree, ParseFault>
 /// `Unexpected` at the first token, or at the end, where no program goes on so. `TooDeep` at the first token with
 /// which programs go on, all of them too deep. The earlier of the two is given. `Memory` where memory ran out.
 pub fn parse(alloc: Global, text: &[u8]) -> Result<Tree, ParseFault>
-    requires short { length text.now + 1 < 2 ^ 32 }
-    requires lexing { HasLexing text.now }
+    requires { length text.now + 1 < 2 ^ 32 }
+    ensures lexed { IfOk result (λ _. HasLexing text.now) }
     ensures found { OfItsTokens text.now (Found 63 15 result) }
     ensures only { OfItsTokens text.now (FindsOnly 63 15 result) }
     ensures unexpected { OfItsTokens text.now (FaultsUnexpected 63 15 result) }

@@ -1,9 +1,9 @@
 //! The next tokens of a text: as many as are read at once.
 
-ghost use Rattle.std.specs.Prelude.{◌≡◌, ◌+◌, ◌-◌, ◌<◌, ◌≤◌, ◌^◌, length, drop, IfOk, OnOk};
+ghost use Rattle.std.specs.Prelude.{◌≡◌, ◌⊎◌, ◌+◌, ◌-◌, ◌<◌, ◌≤◌, ◌^◌, length, drop, IfErr, OnOk};
 ghost use Rattle.pst_parse.specs.Window.{begins_declaration as begins};
 
-use pst_base::NoMemory;
+use crate::fault::ParseFault;
 use pst_lex::{Lexer, Mark};
 use pst_parse_expressions::Atom;
 use std::alloc::Global;
@@ -43,7 +43,7 @@ fn keep_last<T: Drop>(items: &mut Vec<T>, left: usize)
     }
 }
 
-/// The next tokens of a text that has tokens up to its end, and the text behind them. Their names borrow from the text.
+/// The next tokens of a text, and the text behind them. Their names borrow from the text.
 #[derive(Drop)]
 pub struct Window<'a> {
     tokens: Vec<Atom<'a>>,
@@ -51,13 +51,12 @@ pub struct Window<'a> {
 }
 
 impl<'a> Window<'a> {
-    ghost use Rattle.pst_lex.specs.Lexing.{HasLexing};
-    ghost use Rattle.pst_parse.specs.Window.{IsFrontOf, HasAhead, KeepsAhead, IsFilled, IsLast, EndsOn};
+    ghost use Rattle.pst_parse.specs.declared.fault.ParseFault.TheVariants.{Memory};
+    ghost use Rattle.pst_parse.specs.Window.{IsFrontOf, HasNoEnd, KeepsAhead, KeepsReached, IsFilled, IsLast, EndsOn};
 
     /// Before the tokens of a text of fewer than 4,294,967,295 bytes.
     pub fn new(alloc: Global, text: &'a [u8]) -> Window<'a>
-        requires short { length text.now + 1 < 2 ^ 32 }
-        requires lexing { HasLexing text.now }
+        requires { length text.now + 1 < 2 ^ 32 }
         ensures { IsFrontOf result text.now }
     {
         Window {
@@ -102,11 +101,12 @@ impl<'a> Window<'a> {
     /// more than what is taken.
     ///
     /// # Errors
-    /// Want of memory.
-    pub fn fill(&mut self) -> Result<(), NoMemory>
-        requires { HasAhead self.old }
+    /// Want of memory; `Unexpected` where a lexical fault stands in a token's place, with the line that was reached.
+    pub fn fill(&mut self) -> Result<(), ParseFault>
         ensures ahead { OnOk result (KeepsAhead self.old self.new) }
+        ensures reached { OnOk result (KeepsReached self.old self.new) }
         ensures filled { OnOk result (IsFilled self.old self.new) }
+        ensures err { IfErr result (λ fault. (fault ≡ Memory) ⊎ HasNoEnd self.old) }
     {
         let kept = self.tokens.len();
         let room = self.tokens.capacity().saturating_sub(kept);
@@ -121,8 +121,10 @@ impl<'a> Window<'a> {
                     }
                 }
                 Ok(None) => return Ok(()),
-                // No fault stands where there are tokens up to the end.
-                Err(_) => return Ok(()),
+                Err(_) => {
+                    let line = self.lexer.line();
+                    return Err(ParseFault::Unexpected { line });
+                }
             }
         }
         Ok(())
