@@ -1,22 +1,15 @@
--- What lexer and parser answer of a text, as its verdict.
+-- What the parser answers of a text, as its verdict.
 use Rattle.std.proofs.Common.{ℕ, List}
 use Rattle.std.specs.Prelude.{Ok, Err}
-use Rattle.pst_lex.specs.declared.faults.LexFault.{LexFault}
-use Rattle.pst_lex.specs.declared.faults.LexFault.TheVariants as lexical
-use Rattle.pst_lex.specs.Lexing.{Faults, HasLexing}
+use Rattle.pst_lex.specs.Lexing.{HasLexing}
 use Rattle.pst_tree.specs.declared.declaration.Tree.{Tree}
 use Rattle.pst_tree.specs.View.{text_of}
 use Rattle.pst_grammar.specs.Grammar.{HasTree}
 use Rattle.pst_parse.specs.declared.fault.ParseFault.{ParseFault}
 use Rattle.pst_parse.specs.declared.fault.ParseFault.TheVariants as grammatical
 use Rattle.pst_parse.specs.Answers.{Found, FaultsUnexpected, FaultsTooDeep, OfItsTokens}
-use Rattle.pst_front.specs.Reasons.{of_lexing, of_parsing}
+use Rattle.pst_front.specs.Reasons.{of_parsing}
 use Rattle.pst_front.specs.Verdict.{IsNoProgram}
-
-pub lexing_refused : (text : List ℕ) (f : LexFault) → Faults text f → IsNoProgram text (of_lexing f)
-lexing_refused text (lexical.Byte line) h = h
-lexing_refused text (lexical.Number line) h = h
-lexing_refused text (lexical.NameLength line) h = h
 
 pub tree_found : (text : List ℕ) (tree : Tree) → HasLexing text → OfItsTokens text (Found 63 15 (Ok tree)) → HasTree text (text_of tree)
 tree_found text tree (tokens, end, lexes) found = (record { list = tokens; end = end }, lexes, found (record { list = tokens; end = end }) lexes)

@@ -1,21 +1,18 @@
 -- Lemmas on words, keywords and symbols.
-use Rattle.std.specs.Prelude.{◌≡◌, ℕ, ◌≤◌, ◌<◌, nat_le, Bool, true, false, List, [], ◌∷◌, length, Option, Some, None, take, drop, slice_index, slice_index_or, slice_get, map, IsSomeAnd, All, bytes_eq, ◌⊎◌}
-use Rattle.std.proofs.Common.{suc, zero, refl, sym, ap, ◌∙◌, arith, drop-cons, subst, inl, inr}
+use Rattle.std.specs.Prelude.{◌≡◌, ℕ, ◌≤◌, ◌<◌, nat_le, Bool, true, false, List, [], ◌∷◌, length, Option, Some, None, take, drop, slice_index, slice_get, map, IsSomeAnd}
+use Rattle.std.proofs.Common.{suc, zero, refl, sym, ap, ◌∙◌, arith, drop-cons, subst}
 use Rattle.std.specs.Option.{option_map}
 use Rattle.std.proofs.lemmas.Option.{slice_get-map}
 use Rattle.std.specs.List.{list_all}
 use Rattle.std.proofs.lemmas.List.Folds.{list_all_more}
 use Rattle.std.proofs.lemmas.List.{drop_all}
 use Rattle.std.proofs.lemmas.Bool.Decides.{nat_tests}
-use Rattle.std.proofs.lemmas.Slice.Eq.{bytes_eq-Decides}
 use Rattle.pst_base.specs.Words as language
 use Rattle.pst_base.specs.Words.{IsKeywordNumber}
-use Rattle.pst_lex.specs.declared.types.TokenKind.{TokenKind}
-use Rattle.pst_lex.specs.declared.types.TokenKind.TheVariants as kind
 use Rattle.pst_lex.specs.declared.words.Mark.{Mark}
 use Rattle.pst_lex.specs.declared.words.Mark.TheVariants.{Record, Val, Ptr, Root, Proc, Query, Var, New, Call, Print, If, Else, While, Return, Null, And, Or, Not, Int, OpenBrace, CloseBrace, OpenParen, CloseParen, Semicolon, Colon, Comma, Dot, Assign, Equal, NotEqual, Less, LessEqual, Greater, GreaterEqual, Plus, Minus, Star, Slash, Percent}
 use Rattle.pst_lex.specs.Bytes.{is_word, is_letter, is_digit, is_pair, EndsWord, NoPair, StartsWithLetter, StartsWithDigit}
-use Rattle.pst_lex.specs.Words.{mark_text, keywords, keyword_of, fixed, word_of, Name}
+use Rattle.pst_lex.specs.Words.{mark_text, keywords, keyword_of, fixed, Name}
 use Rattle.pst_lex.specs.Lexing.{IsToken, EndsMark}
 use Rattle.pst_lex.proofs.Comparing.{and_true, or_false, or_left, le_true, lt_test, other_test}
 
@@ -126,28 +123,5 @@ keyword_token n w rest s e h = go (keyword_of n) (subst (λ o. IsSomeAnd o (λ k
 -- the word with letters is a name
 pub name_token : (w rest : List ℕ) → StartsWithLetter w → list_all is_word w ≡ true → length w ≤ 32 → EndsWord rest → IsKeywordNumber None w → IsToken (Name w) w rest
 name_token w rest s all short e h = (refl, record { starts = s; all = all; short = short; no_keyword = no_mark w s h }, e)
-
--- a word is one of a list of words, or none of them
-one_of : (w : List ℕ) (words : List (List ℕ)) → ((n : ℕ) × IsSomeAnd (slice_get words n) (λ x. w ≡ x)) ⊎ All (λ x. w ≡ x → ⊥) words
-one_of w [] = inr (λ k d lt. absurd (omega arith))
-one_of w (x ∷ words) = go (bytes_eq w x) refl (one_of w words)
-  where
-    none : bytes_eq w x ≡ false → All (λ y. w ≡ y → ⊥) words → (k : ℕ) (d : List ℕ) → k < length (x ∷ words) → w ≡ slice_index_or (x ∷ words) k d → ⊥
-    none e more zero d lt same = let is : bytes_eq w x ≡ true = (bytes_eq-Decides w x).1 same in cc
-    none e more (suc k) d lt same = more k d (omega arith) same
-
-    go : (b : Bool) → bytes_eq w x ≡ b → ((n : ℕ) × IsSomeAnd (slice_get words n) (λ y. w ≡ y)) ⊎ All (λ y. w ≡ y → ⊥) words →
-        ((n : ℕ) × IsSomeAnd (slice_get (x ∷ words) n) (λ y. w ≡ y)) ⊎ All (λ y. w ≡ y → ⊥) (x ∷ words)
-    go true e more = inl (0, (bytes_eq-Decides w x).0 e)
-    go false e (inl (n, is)) = inl (suc n, is)
-    go false e (inr more) = inr (none e more)
-
--- a word with letters is a keyword or a name
-pub word_token : (w rest : List ℕ) → StartsWithLetter w → list_all is_word w ≡ true → length w ≤ 32 → EndsWord rest → (kind : TokenKind) × IsToken (word_of kind) w rest
-word_token w rest s all short e = go (one_of w language.keywords)
-  where
-    go : ((n : ℕ) × IsKeywordNumber (Some n) w) ⊎ IsKeywordNumber None w → (kind : TokenKind) × IsToken (word_of kind) w rest
-    go (inl (n, h)) = (kind.Keyword n, keyword_token n w rest s e h)
-    go (inr h) = (kind.Name w, name_token w rest s all short e h)
 
 pub ruleset words = (list_all_more, word_ends, all_ends)

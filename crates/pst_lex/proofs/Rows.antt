@@ -1,5 +1,5 @@
 -- Lemmas on tokens in a row.
-use Rattle.std.specs.Prelude.{◌≡◌, ℕ, ◌+◌, ◌≤◌, ◌<◌, true, false, List, [], ◌∷◌, ◌++◌, length, Some, take, drop, ◌==◌, Result, Ok, Err}
+use Rattle.std.specs.Prelude.{◌≡◌, ℕ, ◌+◌, ◌≤◌, ◌<◌, true, false, List, [], ◌∷◌, ◌++◌, length, Some, take, drop, ◌==◌, Ok, Err}
 use Rattle.std.proofs.Common.{refl, sym, ap, ◌∙◌, arith, drop-cons, length-take, length-drop, inl, inr}
 use Rattle.std.proofs.lemmas.Bool.Decides.{nat_tests}
 use Rattle.std.proofs.lemmas.List.{take-append-drop, take_all}
@@ -8,7 +8,7 @@ use Rattle.pst_lex.specs.declared.types.TokenKind.{TokenKind}
 use Rattle.pst_lex.specs.declared.faults.LexFault.{LexFault}
 use Rattle.pst_lex.specs.Bytes.{gap, feeds}
 use Rattle.pst_lex.specs.Lexing.{LexedTo, EndsAt, FaultsAt}
-use Rattle.pst_lex.specs.Pieces.{Skips, Takes, Measures, length_of}
+use Rattle.pst_lex.specs.Pieces.{Skips, Takes}
 
 pub lexed-append : (End : List ℕ → ℕ → ℕ → Type 0) (text rest : List ℕ) (a l at line : ℕ) (ts us : List Token) →
     LexedTo (λ r x y. (r ≡ rest) × (x ≡ at) × (y ≡ line)) text a l ts → LexedTo End rest at line us → LexedTo End text a l (ts ++ us)
@@ -51,17 +51,6 @@ take_token rest at line n l k kind skips lt (le, pos, tok) =
       skips.1,
       (refl, omega arith, sym skips.1),
     )
-
--- a token, whichever it is
-pub pass_token : (rest : List ℕ) (at line n l k : ℕ) → Skips (Ok (n, l)) rest line → n < length rest → Measures (Ok k) (drop n rest) l →
-    (t : Token) × LexedTo (λ r a i. (r ≡ drop k (drop n rest)) × (a ≡ at + n + k) × (i ≡ l)) rest at line (t ∷ [])
-pass_token rest at line n l k skips lt (le, pos, kind, tok) =
-    (record { kind = kind; span = record { from = at + n; to = at + n + k }; line = l }, take_token rest at line n l k kind skips lt (le, pos, tok))
-
--- the length of a token that was taken is that of one at the front
-pub measured : (taken : Result (TokenKind × ℕ) LexFault) (text : List ℕ) (line : ℕ) → Takes taken text line → Measures (length_of taken) text line
-measured (Ok x) text line (le, pos, tok) = (le, pos, x.0, tok)
-measured (Err f) text line h = h
 
 -- the gap goes up to the end
 pub skip_end : (rest : List ℕ) (at line n l : ℕ) → Skips (Ok (n, l)) rest line → length (drop n rest) ≡ 0 → EndsAt l rest at line

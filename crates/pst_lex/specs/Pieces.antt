@@ -53,13 +53,3 @@ Skips (Err f) text line =
 abbrev pub Takes : Result (TokenKind × ℕ) LexFault → List ℕ → ℕ → Type 0
 Takes (Ok x) text line = (x.1 ≤ length text) × (0 < x.1) × IsToken (word_of x.0) (take x.1 text) (drop x.1 text)
 Takes (Err f) text line = IsFault f false text × (line_of f ≡ line)
-
--- the length of a token at the front, whichever it is, or a fault there
-abbrev pub Measures : Result ℕ LexFault → List ℕ → ℕ → Type 0
-Measures (Ok n) text line = (n ≤ length text) × (0 < n) × (kind : TokenKind) × IsToken (word_of kind) (take n text) (drop n text)
-Measures (Err f) text line = IsFault f false text × (line_of f ≡ line)
-
--- the length of a token that was taken
-abbrev pub length_of : Result (TokenKind × ℕ) LexFault → Result ℕ LexFault
-length_of (Ok x) = Ok x.1
-length_of (Err f) = Err f

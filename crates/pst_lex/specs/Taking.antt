@@ -1,5 +1,5 @@
 -- Taking the tokens of a text one after another.
-use Rattle.std.specs.Prelude.{◌≡◌, ◌==◌, ℕ, Bool, true, false, List, [], ◌∷◌, length, Option, Some, None, Result, Ok, Err}
+use Rattle.std.specs.Prelude.{◌≡◌, ◌==◌, ℕ, Bool, true, List, [], ◌∷◌, length, Option, Some, None, Result, Ok, Err}
 use Rattle.pst_lex.specs.declared.types.Token.{Token}
 use Rattle.pst_lex.specs.declared.faults.LexFault.{LexFault}
 use Rattle.pst_lex.specs.declared.lexer.Lexer.{Lexer}
@@ -22,12 +22,6 @@ abbrev pub TakesNext : Result (Option Token) LexFault → (old new : Lexer) → 
 TakesNext (Ok (Some t)) old new = Passes old (t ∷ []) new
 TakesNext (Ok None) old new = EndsAt new.line old.rest.now old.at old.line × (new.rest.now ≡ [])
 TakesNext (Err f) old new = FaultsAt f old.rest.now old.at old.line × Passes old [] new
-
--- one token is taken, whichever it is; or no token is left; or a fault stands there, and nothing is taken
-abbrev pub PassesNext : Result Bool LexFault → (old new : Lexer) → Type 0
-PassesNext (Ok true) old new = (t : Token) × Passes old (t ∷ []) new
-PassesNext (Ok false) old new = ((end : ℕ) × EndsAt end old.rest.now old.at old.line) × Passes old [] new
-PassesNext (Err f) old new = FaultsAt f old.rest.now old.at old.line × Passes old [] new
 
 -- what is taken of a text that has these tokens left
 abbrev pub TakesOf : Result (Option Token) LexFault → (new : Lexer) → List Token → (end : ℕ) → Type 0

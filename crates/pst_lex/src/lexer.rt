@@ -1,11 +1,11 @@
 //! The tokens of a text, one after another.
 
-ghost use Rattle.std.specs.Prelude.{◌≡◌, ◌+◌, ◌<◌, ◌≤◌, ◌^◌, length, true, IfOk, IfSome};
+ghost use Rattle.std.specs.Prelude.{◌≡◌, ◌+◌, ◌<◌, ◌≤◌, ◌^◌, length, IfOk, IfSome};
 ghost use Rattle.pst_lex.specs.Lexing.{Scans, GivesNoFault, GivesFault};
 
 use crate::faults::LexFault;
 use crate::gaps::gap_length;
-use crate::pieces::{first_length, first_token};
+use crate::pieces::first_token;
 use crate::types::{Span, Token, TokenKind};
 
 /// A text whose first tokens were taken: the bytes behind them, and their place and line. It keeps no token.
@@ -34,7 +34,7 @@ fn token<'a>(kind: TokenKind<'a>, from: usize, to: usize, line: u32) -> Token<'a
 }
 
 impl<'a> Lexer<'a> {
-    ghost use Rattle.pst_lex.specs.Taking.{BeginsAt, PassesNext, TakesNext, TakesFromLeft, bytes_left, EndsThere, IsAtEnd, line_reached};
+    ghost use Rattle.pst_lex.specs.Taking.{BeginsAt, TakesNext, TakesFromLeft, bytes_left, EndsThere, IsAtEnd, line_reached};
 
     /// At the front of a text of fewer than 4,294,967,295 bytes.
     pub fn new(text: &'a [u8]) -> Lexer<'a>
@@ -75,28 +75,6 @@ impl<'a> Lexer<'a> {
         Ok(Some(token(kind, from, to, line)))
     }
 
-    /// Passes over the next token, and answers whether there was one. What it is is not looked at, so no keyword is looked up.
-    ///
-    /// # Errors
-    /// The fault that stands in the next token's place. The text is left as it was.
-    fn pass_token(&mut self) -> Result<bool, LexFault>
-        ensures exact { PassesNext result self.old self.new }
-        ensures fewer { IfOk result (λ more. more ≡ true → bytes_left self.new < bytes_left self.old) }
-    {
-        let (blank, line) = gap_length(self.rest, self.line)?;
-        let from = self.at + blank;
-        let (_, bytes) = self.rest.split_at(blank);
-        let is_end = bytes.is_empty();
-        if is_end {
-            return Ok(false);
-        }
-        let length = first_length(bytes, line)?;
-        let (_, rest) = bytes.split_at(length);
-        let at = from + length;
-        *self = Lexer { rest, at, line };
-        Ok(true)
-    }
-
     /// Whether no byte is left.
     pub fn is_at_end(&self) -> bool
         ensures exact { IsAtEnd result self.now }
@@ -124,6 +102,8 @@ pub fn find_fault(text: &[u8]) -> Result<(), LexFault>
     ensures fault { GivesFault result text.now }
 {
     let mut lexer = Lexer::new(text);
-    while lexer.pass_token()? {}
+    while let Some(token) = lexer.next_token()? {
+        drop(token);
+    }
     Ok(())
 }

@@ -4,7 +4,7 @@ ghost use Rattle.std.specs.Prelude.{◌≡◌, ◌+◌, ◌≤◌, ◌<◌, leng
 ghost use Rattle.std.specs.List.{list_all};
 ghost use Rattle.std.specs.Prelude.{true, false};
 ghost use Rattle.pst_lex.specs.Bytes.{gap_step, is_word as is_word_byte, EndsWord, StartsWithDigit, StartsWithLetter};
-ghost use Rattle.pst_lex.specs.Pieces.{IsNameKind, IsPair, IsSingle, leading_zero, length_of, Measures, Takes, Writes};
+ghost use Rattle.pst_lex.specs.Pieces.{IsNameKind, IsPair, IsSingle, leading_zero, Takes, Writes};
 
 use crate::bytes::{is_digit, is_letter, is_word};
 use crate::faults::LexFault;
@@ -161,43 +161,5 @@ pub fn first_token<'a>(text: &'a [u8], line: u32) -> Result<(TokenKind<'a>, usiz
         numeral(text, line)
     } else {
         symbol(text, line)
-    }
-}
-
-/// The length of a name or keyword at the front, as long as it can be. Which of the two it is makes no difference to it.
-fn name_length(text: &[u8], line: u32) -> Result<usize, LexFault>
-    requires { StartsWithLetter text.now }
-    ensures { Measures result text.now line }
-{
-    let length = word_length(text);
-    if length > LONGEST_NAME {
-        return Err(LexFault::NameLength { line });
-    }
-    Ok(length)
-}
-
-/// The length of a token that was taken.
-fn length_of(taken: Result<(TokenKind<'_>, usize), LexFault>) -> Result<usize, LexFault>
-    ensures { result ≡ length_of taken.entry }
-{
-    match taken {
-        Ok((_, length)) => Ok(length),
-        Err(fault) => Err(fault),
-    }
-}
-
-/// The length of the token at the front.
-pub fn first_length(text: &[u8], line: u32) -> Result<usize, LexFault>
-    requires some { 0 < length text.now }
-    requires no_gap { gap_step false (slice_index text.now 0) ≡ None }
-    ensures { Measures result text.now line }
-{
-    let first = text[0];
-    if is_letter(first) {
-        name_length(text, line)
-    } else if is_digit(first) {
-        length_of(numeral(text, line))
-    } else {
-        length_of(symbol(text, line))
     }
 }
