@@ -15,7 +15,7 @@ use pst_codegen::compile;
 use pst_listing::listing;
 use pst_notation::print_program;
 use pst_program::Program;
-use pst_types::check;
+use pst_types::{approve, check};
 use std::alloc::Global;
 
 /// What is printed of a program.
@@ -57,8 +57,9 @@ fn canonical_of(alloc: Global, text: Vec<u8>) -> Result<Text, NoProgram>
     requires { length text.items + 1 < 2 ^ 32 }
     ensures { MatchResult result (λ out. IsPage Page.Canonical text.items out) (λ why. IsNoProgram text.items why) }
 {
-    let (printed, _) = canonical_program(alloc, text)?;
-    Ok(printed)
+    let tree = read_tree(alloc, text)?;
+    approve(alloc, &tree)?;
+    Ok(print_program(alloc, &tree)?)
 }
 
 /// A page of the program of a text of fewer than 4,294,967,295 bytes.

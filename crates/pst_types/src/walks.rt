@@ -4,26 +4,26 @@
 //! at to the end, since the scope refers to them, but a body only once, in the second walk. So the bodies are taken out of
 //! the declarations first, and each is let go as soon as its procedure is typed.
 
-ghost use Rattle.std.specs.Prelude.{◌≡◌, Ok, IfOk, length, map};
+ghost use Rattle.std.specs.Prelude.{◌≡◌, ℕ, List, Ok, IfOk, length, map};
 ghost use Rattle.pst_tree.specs.Syntax as tree;
 ghost use Rattle.pst_tree.specs.View as tree_view;
 ghost use Rattle.pst_tree.specs.Depth.{IsShallow};
 ghost use Rattle.pst_program.specs.View.{routines_of};
 ghost use Rattle.pst_program.specs.Typed.{IsTyped};
 ghost use Rattle.pst_typing.specs.Answers.{through};
-ghost use Rattle.pst_typing.specs.Declarations.{noted, limit_of, declared, root_alone, checked};
+ghost use Rattle.pst_typing.specs.Declarations.{noted, limit_of, declared, root_alone, checked, NamedProgram};
 ghost use Rattle.pst_typing.specs.Names.{nothing_declared};
-ghost use Rattle.pst_typing.specs.View.{Answers};
+ghost use Rattle.pst_typing.specs.View.{Answers, Approves};
 ghost use Rattle.pst_types_scope.specs.View.{members_of, scope_of};
 ghost use Rattle.pst_typing.specs.View.{program_of};
 ghost use Rattle.pst_types.specs.View.{draft_of, Declares};
-ghost use Rattle.pst_types.specs.Added.{with_type};
+ghost use Rattle.pst_types.specs.Added.{members_judged, with_type};
 ghost use Rattle.pst_types.specs.Bodies.{item_with, items_with};
 
 use pst_base::{MOST_LIMIT, Shape, TypeShape};
 use pst_program::{Program, TypeEntry, TypeNames, TypedProc, TypedProcs};
-use pst_tree::{Block, Declaration, Fields, Identifier, Tree};
-use pst_types_procedures::{ProcedureHead, judge_procedure, note};
+use pst_tree::{Block, Declaration, Fields, Identifier, Tree, TypeName};
+use pst_types_procedures::{ProcedureHead, approve_procedure, judge_procedure, note};
 use pst_types_scope::{Members, Scope, Word, judge_fields, names_of, shape_of};
 use pst_typing::{TypeFault, accepted_programs_are_typed};
 use std::alloc::{AllocError, Global};
@@ -88,7 +88,24 @@ fn limit_of(limit: i64) -> Option<u8>
     }
 }
 
-/// Judges a record type: its in-degree limit, then its fields from the first to the last, and adds it.
+/// Judges a record type: its in-degree limit, then its fields from the first to the last.
+fn judge_members<'t>(
+    alloc: Global,
+    scope: &Scope<'t>,
+    line: u32,
+    limit: i64,
+    fields: &'t Fields,
+) -> Result<(u8, Members<'t>), TypeFault>
+    ensures { Answers (λ p. (p.0, members_of p.1)) result (members_judged (scope_of scope.now) line limit (map tree_view.field_of fields.entry.now)) }
+{
+    let limit = match limit_of(limit) {
+        None => return Err(TypeFault::Limit { line }),
+        Some(limit) => limit,
+    };
+    Ok((limit, judge_fields(alloc, scope, fields.as_slice())?))
+}
+
+/// Judges a record type, and adds it.
 fn judge_record(
     alloc: Global,
     scope: &Scope,
@@ -100,12 +117,18 @@ fn judge_record(
 ) -> Result<(), TypeFault>
     ensures { Declares scope.now draft.old draft.new result (tree.Record line name.now limit (map tree_view.field_of fields.now)) }
 {
-    let limit = match limit_of(limit) {
-        None => return Err(TypeFault::Limit { line }),
-        Some(limit) => limit,
-    };
-    let members = judge_fields(alloc, scope, fields.as_slice())?;
+    let (limit, members) = judge_members(alloc, scope, line, limit, fields)?;
     add_type(alloc, scope, draft, limit, name.as_slice(), &members)
+}
+
+/// Judges a root: its type has to be known.
+fn judge_root(scope: &Scope, line: u32, kind: &TypeName) -> Result<(), TypeFault>
+    ensures { (before : NamedProgram) (name : List ℕ) → Answers (λ _. before) result (declared (scope_of scope.now) before (tree.Root line name (tree_view.type_word_of kind.now))) }
+{
+    if !scope.is_known(Word::of_type(kind)) {
+        return Err(TypeFault::Unknown { line });
+    }
+    Ok(())
 }
 
 /// Judges a declaration with this body after those before it, and adds what it says. The body is let go.
@@ -125,12 +148,7 @@ fn judge_declaration<'t>(
             limit,
             fields,
         } => judge_record(alloc, scope, draft, *line, name, *limit, fields),
-        Declaration::Root { line, kind, .. } => {
-            if !scope.is_known(Word::of_type(kind)) {
-                return Err(TypeFault::Unknown { line: *line });
-            }
-            Ok(())
-        }
+        Declaration::Root { line, kind, .. } => judge_root(scope, *line, kind),
         Declaration::Procedure {
             line,
             query,
@@ -252,4 +270,73 @@ pub fn check(alloc: Global, tree: Tree) -> Result<Program, TypeFault>
     let mut declarations = tree.declarations.items;
     let bodies = take_bodies(alloc, &mut declarations)?;
     walk(alloc, tree.language, &declarations, bodies)
+}
+
+/// Judges a declaration for the verdict alone, which does not depend on what those before it say.
+fn approve_declaration<'t>(
+    alloc: Global,
+    scope: &Scope<'t>,
+    declaration: &'t Declaration,
+) -> Result<(), TypeFault>
+    ensures { (before : NamedProgram) → Approves result (declared (scope_of scope.now) before (tree_view.item_of declaration.entry.now)) }
+{
+    match declaration {
+        Declaration::Record {
+            line,
+            limit,
+            fields,
+            ..
+        } => {
+            let _judged = judge_members(alloc, scope, *line, *limit, fields)?;
+            Ok(())
+        }
+        Declaration::Root { line, kind, .. } => judge_root(scope, *line, kind),
+        Declaration::Procedure {
+            line,
+            query,
+            name,
+            parameters,
+            result,
+            locals,
+            body,
+        } => {
+            let head = ProcedureHead {
+                line: *line,
+                query: *query,
+                name,
+                parameters: parameters.as_slice(),
+                result,
+                locals: locals.as_slice(),
+            };
+            approve_procedure(alloc, scope, &head, body)
+        }
+    }
+}
+
+/// The second walk for the verdict alone.
+fn approve_all<'t>(
+    alloc: Global,
+    scope: &Scope<'t>,
+    declarations: &'t [Declaration],
+) -> Result<(), TypeFault>
+    ensures { let s = scope_of scope.now in (before : NamedProgram) → Approves result (through (declared s) before (map tree_view.item_of declarations.entry.now)) }
+{
+    for declaration in declarations {
+        approve_declaration(alloc, scope, declaration)?;
+    }
+    Ok(())
+}
+
+/// Checks the types of a program for the verdict alone: the first fault is the answer, as [`check`] gives it. Nothing typed is kept
+/// but one statement at a time, and the tree stays.
+///
+/// # Errors
+///
+/// The first fault with its line, or `Memory` where memory runs out before it is found.
+pub fn approve(alloc: Global, tree: &Tree) -> Result<(), TypeFault>
+    ensures { Approves result (checked (tree_view.items_of tree.now)) }
+{
+    let declarations = tree.declarations.items.as_slice();
+    let scope = gather(alloc, declarations)?;
+    approve_all(alloc, &scope, declarations)
 }

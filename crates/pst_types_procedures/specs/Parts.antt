@@ -30,19 +30,25 @@ variables_in scope p =
 abbrev pub setting_in : Scope → tree.ProcedureText → Variables → Setting
 setting_in scope p vs = record { scope = scope; query = p.query; result = p.result; locals = vs.list }
 
+-- where its statements stand, once its names are judged, and how many of them are parameters
+abbrev pub stand_in : Scope → tree.ProcedureText → Result (Setting × ℕ) TypeFault
+stand_in scope p = and_then (variables_in scope p) (λ vs. Ok (setting_in scope p vs, vs.parameters))
+
+-- the procedure with these statements, which stand there
+abbrev pub made_in : Setting → (parameters : ℕ) → tree.ProcedureText → program.Actions → program.Procedure
+made_in setting n p body = record {
+  name = p.name;
+  query = p.query;
+  arguments = n;
+  result = option_map (kind_of setting.scope) setting.result;
+  kinds = map (λ v. kind_of setting.scope v.1.kind) setting.locals;
+  body = body;
+}
+
 -- its statements, in their setting
 abbrev pub procedure_in : Setting → (parameters : ℕ) → tree.ProcedureText → Result program.Procedure TypeFault
-procedure_in setting n p =
-    and_then (block setting p.body) (λ body.
-    Ok (record {
-      name = p.name;
-      query = p.query;
-      arguments = n;
-      result = option_map (kind_of setting.scope) setting.result;
-      kinds = map (λ v. kind_of setting.scope v.1.kind) setting.locals;
-      body = body;
-    }))
+procedure_in setting n p = and_then (block setting p.body) (λ body. Ok (made_in setting n p body))
 
 -- a procedure by its parts
 abbrev pub by_parts : Scope → tree.ProcedureText → Result program.Procedure TypeFault
-by_parts scope p = and_then (variables_in scope p) (λ vs. procedure_in (setting_in scope p vs) vs.parameters p)
+by_parts scope p = and_then (stand_in scope p) (λ s. procedure_in s.0 s.1 p)

@@ -4,8 +4,8 @@
 //! the scope of all declared names; `noted` is that scope with one more declaration, or why it may not stand there. A procedure
 //! is seen as its head, a [`ProcedureHead`], and its body, so that the body can be let go before the head is.
 //!
-//! [`judge_procedure`] gives the answer of `procedure`, and [`note`] that of `noted`, which no body changes. Statements are
-//! judged by `pst_types_statements`. Want of memory is the one free answer.
+//! [`judge_procedure`] gives the answer of `procedure`, [`approve_procedure`] its verdict alone, and [`note`] the answer of `noted`,
+//! which no body changes. Statements are judged by `pst_types_statements`. Want of memory is the one free answer.
 //!
 //! ```text
 //! judge_procedure(alloc, &scope, &head, body)     // of `proc p(a: int, a: int) { }` in line 2: Err(TypeFault::Duplicate { line: 2 })
@@ -16,4 +16,4 @@ mod declaration;
 mod procedure;
 
 pub use declaration::note;
-pub use procedure::{ProcedureHead, judge_procedure};
+pub use procedure::{ProcedureHead, approve_procedure, judge_procedure};

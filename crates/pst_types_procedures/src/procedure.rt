@@ -8,17 +8,17 @@ ghost use Rattle.pst_tree.specs.View.{phrases_of};
 ghost use Rattle.pst_program.specs.View.{procedure_of};
 ghost use Rattle.pst_typing.specs.Declarations.{variable, is_new, is_result_known, procedure};
 ghost use Rattle.pst_typing.specs.Names.{kind_of, is_named};
-ghost use Rattle.pst_typing.specs.View.{Answers};
+ghost use Rattle.pst_typing.specs.View.{Answers, Approves};
 ghost use Rattle.pst_types_scope.specs.View.{kind_word, local_of, scope_of, setting_of};
 ghost use Rattle.pst_types_procedures.specs.View.{procedure_text_of, variables_of, AddsVariables};
-ghost use Rattle.pst_types_procedures.specs.Parts.{counted, variables_in, procedure_in, by_parts};
+ghost use Rattle.pst_types_procedures.specs.Parts.{counted, variables_in, stand_in, procedure_in, by_parts};
 
 use indexmap::IndexMap;
 use pst_base::{Kind, Kinds, Text};
 use pst_program::TypedProc;
 use pst_tree::{Block, Identifier, Local, TypeName};
 use pst_types_scope::{Scope, Setting, Variable, Word};
-use pst_types_statements::judge_block;
+use pst_types_statements::{approve_block, judge_block};
 use pst_typing::TypeFault;
 use std::alloc::{AllocError, Global};
 
@@ -154,6 +154,25 @@ fn declare<'t>(
     Ok(parameters as u8)
 }
 
+/// Where the statements of a procedure stand, once its names are judged, and how many of them are parameters, whatever its body is.
+fn stand_in<'a, 't>(
+    alloc: Global,
+    scope: &'a Scope<'t>,
+    head: &ProcedureHead<'t>,
+) -> Result<(Setting<'a, 't>, u8), TypeFault>
+    ensures { (body : Phrases) → Answers (λ p. (setting_of p.0, p.1)) result (stand_in (scope_of scope.entry.now) (procedure_text_of head.now body)) }
+{
+    let mut locals = IndexMap::new(alloc);
+    let arguments = declare(scope, &mut locals, head)?;
+    let setting = Setting {
+        scope,
+        query: head.query,
+        result: Word::of_result(head.result),
+        locals,
+    };
+    Ok((setting, arguments))
+}
+
 /// Judges the statements of a procedure with so many parameters, in the setting of its names.
 fn judge_in(
     alloc: Global,
@@ -184,14 +203,7 @@ fn judge_parts<'t>(
 ) -> Result<TypedProc, TypeFault>
     ensures { Answers procedure_of result (by_parts (scope_of scope.now) (procedure_text_of head.now (phrases_of body.now))) }
 {
-    let mut locals = IndexMap::new(alloc);
-    let arguments = declare(scope, &mut locals, head)?;
-    let setting = Setting {
-        scope,
-        query: head.query,
-        result: Word::of_result(head.result),
-        locals,
-    };
+    let (setting, arguments) = stand_in(alloc, scope, head)?;
     judge_in(alloc, &setting, arguments, head, body)
 }
 
@@ -210,4 +222,22 @@ pub fn judge_procedure<'t>(
     ensures { Answers procedure_of result (procedure (scope_of scope.now) (procedure_text_of head.now (phrases_of body))) }
 {
     judge_parts(alloc, scope, head, &body)
+}
+
+/// Judges a procedure with this body in the scope of the declared names for the verdict alone. No more than one typed statement is
+/// kept at a time.
+///
+/// # Errors
+///
+/// The first fault with its line, as [`judge_procedure`] gives it, or `Memory` where memory runs out before it is found.
+pub fn approve_procedure<'t>(
+    alloc: Global,
+    scope: &Scope<'t>,
+    head: &ProcedureHead<'t>,
+    body: &Block,
+) -> Result<(), TypeFault>
+    ensures { Approves result (procedure (scope_of scope.now) (procedure_text_of head.now (phrases_of body.now))) }
+{
+    let (setting, _arguments) = stand_in(alloc, scope, head)?;
+    approve_block(alloc, &setting, body)
 }

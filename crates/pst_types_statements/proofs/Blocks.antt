@@ -14,7 +14,8 @@ use Rattle.pst_typing.specs.declared.fault.TypeFault.{TypeFault}
 use Rattle.pst_typing.specs.Answers.{and_then}
 use Rattle.pst_typing.specs.Names.{Setting}
 use Rattle.pst_typing.specs.Statements.{statement, block}
-use Rattle.pst_typing.proofs.Through.{at_index}
+use Rattle.pst_typing.specs.View.{Fails}
+use Rattle.pst_typing.proofs.Through.{at_index, fails_then, fails_as}
 
 -- ---- arguments
 
@@ -85,3 +86,43 @@ block_ends setting b xs i made done end holds so_far =
     let past : drop i xs ≡ [] = ap (λ k. drop k xs) end ∙ drop-length xs in
     sym so_far ∙ ap (λ l. behind (typed_view.statements_of done) (block setting (tree_view.statements_of l))) past
     ∙ ap Ok (before_all done ∙ ap typed_view.statements_of (sym holds) ∙ sym (made_list made))
+
+-- ---- statements that are judged for the verdict alone
+
+before_let_go : (gone : program.Actions) (line : ℕ) (action : program.Action) (rest : program.Actions) → before gone (program.Then line action rest) ≡ before (before gone (program.Then line action program.Empty)) rest
+before_let_go program.Empty line action rest = refl
+before_let_go (program.Then first one gone) line action rest = ap (program.Then first one) (before_let_go gone line action rest)
+
+-- one more statement is judged
+pub approved_on : (setting : Setting) (xs : List Statement) (i : ℕ) (x : Statement) (gone : program.Actions) (action : program.Action) (all : Result program.Actions TypeFault) → i < length xs → x ≡ get_or xs i x →
+    statement setting x.line (tree_view.phrase_of x.form) ≡ Ok action → behind gone (block setting (tree_view.statements_of (drop i xs))) ≡ all →
+    behind (before gone (program.Then x.line action program.Empty)) (block setting (tree_view.statements_of (drop (i + 1) xs))) ≡ all
+approved_on setting xs i x gone action all below is judged so_far =
+    let rest = block setting (tree_view.statements_of (drop (i + 1) xs)) in
+    let further : (r : Result program.Actions TypeFault) → behind (before gone (program.Then x.line action program.Empty)) r ≡ behind gone (and_then r (λ actions. Ok (program.Then x.line action actions))) = λ r. one_further r in
+    further rest
+    ∙ sym (ap (λ r. behind gone (and_then r (λ made. and_then rest (λ actions. Ok (program.Then x.line made actions))))) judged)
+    ∙ sym (ap (λ l. behind gone (block setting (tree_view.statements_of l))) (at_index xs i x below is)) ∙ so_far
+  where
+    one_further : (r : Result program.Actions TypeFault) → behind (before gone (program.Then x.line action program.Empty)) r ≡ behind gone (and_then r (λ actions. Ok (program.Then x.line action actions)))
+    one_further (Ok rest) = ap Ok (sym (before_let_go gone x.line action rest))
+    one_further (Err f) = refl
+
+pub approved_from : (setting : Setting) (b : code.Block) (xs : List Statement) → xs ≡ (code.out-Block b).items.items →
+    behind program.Empty (block setting (tree_view.statements_of xs)) ≡ block setting (tree_view.phrases_of b)
+approved_from setting b xs is = behind_none _ ∙ ap (block setting) (ap tree_view.statements_of is ∙ sym (written_list b))
+
+-- all statements are judged
+pub approved_all : (setting : Setting) (b : code.Block) (xs : List Statement) (i : ℕ) (gone : program.Actions) → i ≡ length xs →
+    behind gone (block setting (tree_view.statements_of (drop i xs))) ≡ block setting (tree_view.phrases_of b) → (made : program.Actions) × (block setting (tree_view.phrases_of b) ≡ Ok made)
+approved_all setting b xs i gone end so_far =
+    let past : drop i xs ≡ [] = ap (λ k. drop k xs) end ∙ drop-length xs in
+    (before gone program.Empty, sym so_far ∙ ap (λ l. behind gone (block setting (tree_view.statements_of l))) past)
+
+-- a statement fails
+pub approved_none : (setting : Setting) (xs : List Statement) (i : ℕ) (x : Statement) (gone : program.Actions) (f : TypeFault) (all : Result program.Actions TypeFault) → i < length xs → x ≡ get_or xs i x →
+    Fails f (statement setting x.line (tree_view.phrase_of x.form)) → behind gone (block setting (tree_view.statements_of (drop i xs))) ≡ all → Fails f all
+approved_none setting xs i x gone f all below is bad so_far =
+    let rest = block setting (tree_view.statements_of (drop (i + 1) xs)) in
+    fails_as f _ all (sym (ap (λ l. behind gone (block setting (tree_view.statements_of l))) (at_index xs i x below is)) ∙ so_far)
+    (fails_then f _ (λ made. Ok (before gone made)) (fails_then f (statement setting x.line (tree_view.phrase_of x.form)) (λ action. and_then rest (λ actions. Ok (program.Then x.line action actions))) bad))

@@ -10,7 +10,7 @@ ghost use Rattle.pst_typing.specs.Answers.{found};
 ghost use Rattle.pst_typing.specs.declared.fault.TypeFault.TheVariants as fault;
 ghost use Rattle.pst_typing.specs.Names.{named};
 ghost use Rattle.pst_typing.specs.Statements.{assigned, stored, element_stored, written, made, arguments, received, called, statement, block};
-ghost use Rattle.pst_typing.specs.View.{Answers};
+ghost use Rattle.pst_typing.specs.View.{Answers, Approves};
 ghost use Rattle.pst_types_scope.specs.View.{kind_word, setting_of, variable_of, signature_of};
 
 use pst_program::{TypedBlock, TypedForm, TypedList, TypedStatement};
@@ -313,4 +313,23 @@ pub fn judge_block(
         })?;
     }
     Ok(TypedBlock { items })
+}
+
+/// Judges a statement for the verdict alone. It is let go as soon as it is typed.
+fn approve_form(alloc: Global, setting: &Setting, line: u32, form: &Form) -> Result<(), TypeFault>
+    ensures { Approves result (statement (setting_of setting.now) line (phrase_of form.now)) }
+{
+    let _typed = judge_form(alloc, setting, line, form)?;
+    Ok(())
+}
+
+/// Judges the statements of a block in order for the verdict alone: the first fault with its line, or none. No more than one typed
+/// statement is kept at a time.
+pub fn approve_block(alloc: Global, setting: &Setting, statements: &Block) -> Result<(), TypeFault>
+    ensures { Approves result (block (setting_of setting.now) (phrases_of statements.now)) }
+{
+    for statement in &statements.items {
+        approve_form(alloc, setting, statement.line, &statement.form)?;
+    }
+    Ok(())
 }

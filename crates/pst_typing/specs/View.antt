@@ -15,6 +15,11 @@ abbrev pub Answers : {T A : Type 0} → (T → A) → Result T TypeFault → Res
 Answers view (Ok t) answer = answer ≡ Ok (view t)
 Answers view (Err fault) answer = Fails fault answer
 
+-- a verdict is the answer's: none where there is an answer, else its fault; want of memory is free
+abbrev pub Approves : {A : Type 0} → Result (Unit {0}) TypeFault → Result A TypeFault → Type 0
+Approves {A} (Ok _) answer = (a : A) × (answer ≡ Ok a)
+Approves (Err fault) answer = Fails fault answer
+
 -- a typed program with its names
 abbrev pub program_of : Program → NamedProgram
 program_of p = record { shape = p.shape; names = p.names; procedures = map typed_view.procedure_of p.procedures.items.items }
