@@ -7,7 +7,7 @@ use pst_line::line_store::LineStore;
 use pst_store::Store;
 use std::process::ExitCode;
 use std::rt::Env;
-use std::{env, io};
+use std::{env, io, mem};
 
 /// The status where there is no memory for the words.
 const NO_MEMORY: u8 = 6;
@@ -44,5 +44,9 @@ fn main(rt: HostRuntime) -> ExitCode {
         &mut store,
         &mut line,
     );
+
+    // The process ends here, and the system takes all its memory back at once: to let each node go would only take time.
+    mem::forget(store);
+    mem::forget(line);
     ExitCode::from(number(status))
 }

@@ -1,4 +1,4 @@
-use Rattle.std.proofs.Common.{◌≡◌, ◌++◌, ◌+◌, ◌≤◌, ◌-◌, map, take, length}
+use Rattle.std.proofs.Common.{◌≡◌, ◌++◌, map, take}
 use Rattle.std.specs.Prelude.{vec_capacity}
 use Rattle.pst_machine_steps.specs.Calls.{held_in}
 use Rattle.pst_machine_steps.proofs.calls.gathered.Given as goal
