@@ -2,7 +2,6 @@
 
 ghost use Rattle.std.specs.Prelude.{◌≡◌, ◌↔◌, ◌≤◌, Some, None, false};
 ghost use Rattle.pst_io.specs.Causes.{Rose};
-ghost use Rattle.pst_io.specs.Lines.{not_begun};
 ghost use Rattle.pst_cli_words.specs.declared.job.Job.{Job};
 ghost use Rattle.pst_cli_words.specs.Jobs.{task_in, OnBench, OnQuestion, OnPack, OnResume, OnRepack};
 ghost use Rattle.pst_cli_asking.specs.Asking.{AskRow};
@@ -113,10 +112,7 @@ pub fn persist<S: Source, K: Sink, O: Walked + Drop, N: Listed, L: LineCalls>(
 {
     match task_of(words) {
         None => Status::Usage,
-        Some(Task::Input(job)) => {
-            let mut lines = Lines::new(alloc);
-            carry_out(alloc, job, &mut lines, source, sink, store, line)
-        }
+        Some(Task::Input(job)) => carry_out(alloc, job, source, sink, store, line),
         Some(Task::Ask(question)) => ask(alloc, question, path_in(words), source, sink, store),
         Some(Task::Bench(number)) => { bench(alloc, ring().as_bytes(), number, sink, store) }
         Some(Task::Pack) => pack_input(alloc, source, sink, store),
@@ -125,17 +121,16 @@ pub fn persist<S: Source, K: Sink, O: Walked + Drop, N: Listed, L: LineCalls>(
     }
 }
 
-/// Does a job, by a reader that has not begun.
+/// Does a job. The reader of a program that is only printed goes once the text is read: if it went last, the allocator would first
+/// gather all the small pieces that the program's tree has left.
 fn carry_out<S: Source, K: Sink, O: Order + Drop, N: FatNodes, L: LineCalls>(
     alloc: Global,
     job: Job,
-    lines: &mut Lines,
     source: &mut S,
     sink: &mut K,
     store: &mut StoreOf<O, N>,
     line: &mut L,
 ) -> Status
-    requires lines { lines.old ≡ not_begun }
     requires empty { store.old ≡ None }
     requires empty_line { IsEmpty (L.stored line.old) }
     ensures table { HasRow S.left source.old source.new K.taken sink.old sink.new (Row result (both_in L.state L.stored store.old store.new line.old line.new job) job) }
@@ -146,14 +141,21 @@ fn carry_out<S: Source, K: Sink, O: Order + Drop, N: FatNodes, L: LineCalls>(
     ensures not_usage { result ≡ Status.Usage → ⊥ }
     ensures later { (S.faults source.old ≤ S.faults source.new) × (K.faults sink.old ≤ K.faults sink.new) }
 {
-    match read_text(alloc, lines, source) {
+    let mut lines = Lines::new(alloc);
+    match read_text(alloc, &mut lines, source) {
         Err(stop) => status_of(stop),
         Ok(text) => match job {
-            Job::Check => print(alloc, Page::Canonical, text, sink),
-            Job::Code => print(alloc, Page::Listing, text, sink),
-            Job::Run => serve::<Running<O, N>, S, K>(alloc, text, store, lines, source, sink),
-            Job::Replay => serve::<Replaying, S, K>(alloc, text, &mut (), lines, source, sink),
-            Job::Line => serve::<Lining<L>, S, K>(alloc, text, line, lines, source, sink),
+            Job::Check => {
+                drop(lines);
+                print(alloc, Page::Canonical, text, sink)
+            }
+            Job::Code => {
+                drop(lines);
+                print(alloc, Page::Listing, text, sink)
+            }
+            Job::Run => serve::<Running<O, N>, S, K>(alloc, text, store, &mut lines, source, sink),
+            Job::Replay => serve::<Replaying, S, K>(alloc, text, &mut (), &mut lines, source, sink),
+            Job::Line => serve::<Lining<L>, S, K>(alloc, text, line, &mut lines, source, sink),
         },
     }
 }
