@@ -31,13 +31,16 @@ shown_cells width head list capacity = record {
   capacity = capacity - (width - head_size);
 }
 
--- the head is whole, the list has the other slots, so many, and a cell of the head behind the slots begins behind all stamps
-pub record AreSound (width behind : ℕ) (head list : List StampValue) (capacity : ℕ) : Type 0 where
+-- the head is whole, the list has the other slots, so many, and what stands behind the slots of the head begins behind all their
+-- stamps: a cell of the head, or the end of a full head, which is where the stamps of the next slot begin
+pub record AreSound (width behind end : ℕ) (head list : List StampValue) (capacity : ℕ) : Type 0 where
   pub whole : length head ≡ head_size
   pub there : width ≤ head_size + length list
   pub most : capacity ≤ 2 ^ 32 - 256
   pub rest : behind ≡ width - head_size
-  pub end : width < head_size → (s : StampValue) → (get_or head width s).place.0 ≡ length list
+  pub ends : width < head_size → (s : StampValue) → (get_or head width s).place.0 ≡ length list
+  pub full : width ≡ head_size → end ≡ length list
+  pub next : head_size < width → (s : StampValue) → (get_or list 0 s).place.0 ≡ end
 
 -- the head with the end marked behind so many slots, with how many stamps there are
 pub record IsMarked (old new : List StampValue) (width count : ℕ) : Type 0 where

@@ -35,6 +35,12 @@ bare_slot c = record { content = c; start = 0 }
 pub record AreBare (slots : List Slot) : Type 0 where
   pub each : (g : ℕ) → (get_or slots g no_slot).start ≡ 0
 
+-- the slots, with no stamp counted
+pub record AreUncounted (old new : List Slot) : Type 0 where
+  pub count : length new ≡ length old
+  pub contents : (g : ℕ) → (get_or new g no_slot).content ≡ (get_or old g no_slot).content
+  pub bare : AreBare new
+
 -- how many of the stamps are of a slot
 abbrev pub own_count : List Stamp → ℕ → ℕ
 own_count stamps slot = count_by (λ e. e.slot.0 == slot) stamps

@@ -1,8 +1,9 @@
 //! The slots and the stamped values of a row: some slots beside the life, and one list of the rest.
 
-ghost use Rattle.std.specs.Prelude.{◌≡◌, ◌+◌, ◌-◌, ◌^◌, ◌<◌, ◌≤◌, [], ◌∷◌, ◌++◌, true, IfOk, OnOk, OnErr, length, get_or, set};
+ghost use Rattle.std.specs.Prelude.{◌≡◌, ◌≢◌, ◌+◌, ◌-◌, ◌^◌, ◌<◌, ◌≤◌, [], ◌∷◌, ◌++◌, true, nat_lt, All, IfOk, OnOk, OnErr, length, get_or, set, take, drop, filter};
 ghost use Rattle.std.specs.List.{insert as inserted};
 ghost use Rattle.smallvec.specs.SmallVec.{HasRoomFor};
+ghost use Rattle.pst_order.specs.Places.{rank};
 ghost use Rattle.pst_rows.specs.Stamps.{at_place};
 ghost use Rattle.pst_rows.specs.Cells.{head_size, slot_kept, no_cell, IsPart, IsBare, IsMarked};
 ghost use Rattle.pst_rows.specs.Values.{no_slot};
@@ -11,7 +12,7 @@ ghost use Rattle.pst_rows.specs.Steps.{with_content, with_base};
 
 use crate::content::{Content, Stamp};
 use pst_base::{NoMemory, SlotNo};
-use pst_order::Pos;
+use pst_order::{Order, Pos};
 use smallvec::SmallVec;
 use std::alloc::{AllocError, Global};
 use std::marker::Model;
@@ -19,22 +20,31 @@ use std::marker::Model;
 /// For so many slots and stamps behind the head a row has room at most, so that 32 bits count them. (They would take 64 GiB.)
 const MOST_CELLS: usize = 0xFFFF_FF00;
 
+/// So many slots a row has at most, so that 16 bits count them.
+const MOST_SLOTS: u16 = 0xFFFF;
+
 /// How many slots stand in the head.
 const HEAD: usize = 3;
 
-// The slots behind the head and the stamps, of which one stands in the row itself.
+/// How many cells of the list stand in the row itself, where it has no more.
+const INLINE: usize = 1;
+
+// The slots behind the head, and the stamps.
 type List = SmallVec<Stamp, 1>;
 
 /// The slots of a row and its stamped values, in the order of slot and then place. The first slots stand in the row, in its head,
 /// so that a read of them touches the node alone; a list has the other slots and behind them the stamped values, 16 bytes each. A
 /// slot is kept as a stamped value: in the place of its place stands how many stamped values there are of earlier slots, and there
 /// its own begin. Where the head has cells behind the slots, the first of them is the end: all stamped values are before it. So
-/// where the stamped values of a slot of the head end is read from the next cell, whether it is a slot or the end.
+/// where the stamped values of a slot of the head end is read from the next cell, whether it is a slot or the end; and for the last
+/// one it stands apart.
 #[derive(Drop)]
 pub struct Cells {
-    width: u32,
+    width: u16,
     // how many slots stand behind the head
-    behind: u32,
+    behind: u16,
+    // where the stamps of the last slot of a full head end
+    end: u32,
     head: [Stamp; HEAD],
     list: List,
 }
@@ -46,7 +56,7 @@ impl Model for Cells {
 
     ghost view = { λ c. shown_cells c.width c.head c.list.items c.list.capacity };
 
-    ghost invariant = { λ c. AreSound c.width c.behind c.head c.list.items c.list.capacity };
+    ghost invariant = { λ c. AreSound c.width c.behind c.end c.head c.list.items c.list.capacity };
 }
 
 impl Cells {
@@ -58,6 +68,7 @@ impl Cells {
         let mut cells = Cells {
             width: 0,
             behind: 0,
+            end: 0,
             head: [slot_stamp(Content::Null, 0); HEAD],
             list: SmallVec::new(alloc),
         };
@@ -138,26 +149,32 @@ impl Cells {
                 self.head[slot].place().0 as usize,
                 self.head[slot + 1].place().0 as usize,
             )
+        } else if slot < HEAD {
+            (self.head[slot].place().0 as usize, self.end as usize)
         } else {
             self.part_behind(slot)
         }
     }
 
-    /// Whether a slot is seen at once to have no stamps: it is one of the head, and not its last.
+    /// Whether a slot is seen at once to have no stamps: it is one of the head.
     #[inline(always)]
     pub fn is_bare(&self, slot: SlotNo) -> bool
         requires { slot.0 < length self.now.slots }
         ensures { result ≡ true → IsBare self.now slot.0 }
     {
         let slot = usize::from(slot.0);
-        slot + 1 < HEAD && self.head[slot].place() == self.head[slot + 1].place()
+        if slot + 1 < HEAD {
+            self.head[slot].place() == self.head[slot + 1].place()
+        } else {
+            slot < HEAD && self.head[slot].place().0 == self.end
+        }
     }
 
-    // Where the stamps of a slot begin and end, if it is the last of the head or behind it.
+    // Where the stamps of a slot behind the head begin and end.
     #[inline(never)]
     fn part_behind(&self, slot: usize) -> (usize, usize)
         requires there { slot < length self.now.slots }
-        requires behind { head_size ≤ slot + 1 }
+        requires behind { head_size ≤ slot }
         ensures { IsPart self.now slot result.0 result.1 }
     {
         let list = self.list.as_slice();
@@ -204,18 +221,22 @@ impl Cells {
         reserve(&mut self.list, count)
     }
 
-    /// Puts a slot behind the others, as long as there are no stamps. `NoMemory` where there is no memory for it.
+    /// Puts a slot behind the others, as long as there are no stamps. `NoMemory` where there is no memory for it, or the row has as
+    /// many slots as it may.
     #[inline(always)]
     pub fn push_slot(&mut self, content: Content) -> Result<(), NoMemory>
         requires { self.old.stamps ≡ [] }
         ensures slots { OnOk result (self.new.slots ≡ self.old.slots ++ bare_slot content ∷ []) }
         ensures stamps { self.new.stamps ≡ [] }
     {
+        if self.width == MOST_SLOTS {
+            return Err(AllocError);
+        }
         let slot = self.width as usize;
         if slot < HEAD {
             self.head[slot] = slot_stamp(content, 0);
             self.width += 1;
-            mark_end(&mut self.head, self.width, 0);
+            mark_end(&mut self.head, &mut self.end, self.width, 0);
             Ok(())
         } else {
             self.push_behind(content)
@@ -226,6 +247,7 @@ impl Cells {
     #[inline(never)]
     fn push_behind(&mut self, content: Content) -> Result<(), NoMemory>
         requires full { head_size ≤ length self.old.slots }
+        requires few { length self.old.slots < 2 ^ 16 - 1 }
         requires none { self.old.stamps ≡ [] }
         ensures slots { OnOk result (self.new.slots ≡ self.old.slots ++ bare_slot content ∷ []) }
         ensures stamps { self.new.stamps ≡ [] }
@@ -244,7 +266,7 @@ impl Cells {
     {
         reserve(&mut self.list, 1)?;
         self.list.push_reserved(stamp);
-        mark_end(&mut self.head, self.width, self.list.len());
+        mark_end(&mut self.head, &mut self.end, self.width, self.list.len());
         Ok(())
     }
 
@@ -260,7 +282,7 @@ impl Cells {
         let _known_to_fit = self.list.len();
         let at = self.behind as usize + index;
         insert(&mut self.list, at, stamp);
-        mark_end(&mut self.head, self.width, self.list.len());
+        mark_end(&mut self.head, &mut self.end, self.width, self.list.len());
     }
 
     /// Puts two stamps at an index, one in front of the other.
@@ -275,7 +297,19 @@ impl Cells {
         let _known_to_fit = self.list.len();
         let at = self.behind as usize + index;
         insert_two(&mut self.list, at, first, second);
-        mark_end(&mut self.head, self.width, self.list.len());
+        mark_end(&mut self.head, &mut self.end, self.width, self.list.len());
+    }
+
+    /// Keeps the stamps before a place, in their order.
+    pub fn keep_before<O: Order>(&mut self, order: &O, at: Pos)
+        requires all { All (λ e. rank (O.places order.now) e.place.0 < length (O.places order.now)) self.old.stamps }
+        requires at { rank (O.places order.now) at.0 < length (O.places order.now) }
+        ensures slots { self.new.slots ≡ self.old.slots }
+        ensures stamps { self.new.stamps ≡ filter (λ e. nat_lt (rank (O.places order.now) e.place.0) (rank (O.places order.now) at.0)) self.old.stamps }
+    {
+        let _known_to_fit = self.list.len();
+        keep_before(&mut self.list, self.behind as usize, order, at);
+        mark_end(&mut self.head, &mut self.end, self.width, self.list.len());
     }
 
     /// Gives a stamp another content.
@@ -313,6 +347,7 @@ impl Cells {
         if slot < HEAD {
             set_place(&mut self.head, slot, Pos(start));
         } else {
+            self.end = end_at(self.end, slot, start);
             set_place(self.list.as_mut_slice(), slot - HEAD, Pos(start));
         }
     }
@@ -328,6 +363,7 @@ impl Cells {
         if slot < HEAD {
             self.head[slot] = stamp;
         } else {
+            self.end = end_at(self.end, slot, start);
             write(&mut self.list, slot - HEAD, stamp);
         }
     }
@@ -382,16 +418,64 @@ fn insert_two(list: &mut List, index: usize, first: Stamp, second: Stamp)
     items[index + 1] = second;
 }
 
-// Marks the end behind so many slots with how many stamps there are, where it stands in the head.
-#[inline(always)]
-fn mark_end(head: &mut [Stamp; HEAD], width: u32, count: usize)
-    requires { count < 2 ^ 32 }
-    ensures { IsMarked head.old head.new width count }
+// Keeps of a list so many cells at its front, and of those behind them the stamps before a place. Where it then finds room in the
+// row itself, or has more than twice the room that it needs, it gives that room back.
+fn keep_before<O: Order>(list: &mut List, front: usize, order: &O, at: Pos)
+    requires front { front ≤ length list.old.items }
+    requires all { All (λ e. rank (O.places order.now) e.place.0 < length (O.places order.now)) (drop front list.old.items) }
+    requires at { rank (O.places order.now) at.0 < length (O.places order.now) }
+    ensures items { list.new.items ≡ take front list.old.items ++ filter (λ e. nat_lt (rank (O.places order.now) e.place.0) (rank (O.places order.now) at.0)) (drop front list.old.items) }
+    ensures capacity { list.new.capacity ≤ list.old.capacity }
 {
-    let end = width as usize;
-    if end < HEAD {
-        set_place(head, end, Pos(count as u32));
+    let kept = move_before(list.as_mut_slice(), front, order, at);
+    list.truncate(kept);
+    if list.len() <= INLINE || list.len() < list.capacity() / 2 {
+        list.shrink_to_fit();
     }
+}
+
+// Moves the stamps before a place, in their order, to the front of those behind so many cells; gives where they end then.
+fn move_before<O: Order>(cells: &mut [Stamp], front: usize, order: &O, at: Pos) -> usize
+    requires front { front ≤ length cells.old }
+    requires all { All (λ e. rank (O.places order.now) e.place.0 < length (O.places order.now)) (drop front cells.old) }
+    requires at { rank (O.places order.now) at.0 < length (O.places order.now) }
+    ensures kept { take result cells.new ≡ take front cells.old ++ filter (λ e. nat_lt (rank (O.places order.now) e.place.0) (rank (O.places order.now) at.0)) (drop front cells.old) }
+    ensures count { length cells.new ≡ length cells.old }
+{
+    let mut kept = front;
+    for index in front..cells.len() {
+        let stamp = cells[index];
+        if order.before(stamp.place(), at) {
+            cells[kept] = stamp;
+            kept += 1;
+        }
+    }
+    kept
+}
+
+// Marks the end behind so many slots with how many stamps there are, where it stands in the head or directly behind it.
+#[inline(always)]
+fn mark_end(head: &mut [Stamp; HEAD], end: &mut u32, width: u16, count: usize)
+    requires { count < 2 ^ 32 }
+    ensures head { IsMarked head.old head.new width count }
+    ensures full { width ≡ head_size → end.new ≡ count }
+    ensures kept { width ≢ head_size → end.new ≡ end.old }
+{
+    let slots = width as usize;
+    if slots < HEAD {
+        set_place(head, slots, Pos(count as u32));
+    } else if slots == HEAD {
+        *end = count as u32;
+    }
+}
+
+// Where the head ends, once the stamps of a slot behind it begin at a start.
+#[inline(always)]
+fn end_at(end: u32, slot: usize, start: u32) -> u32
+    ensures next { slot ≡ head_size → result ≡ start }
+    ensures later { slot ≢ head_size → result ≡ end }
+{
+    if slot == HEAD { start } else { end }
 }
 
 // A slot as it is kept.

@@ -3,7 +3,7 @@
 
 ghost use Rattle.std.specs.Prelude.{◌≡◌, ◌-◌, ◌^◌, ◌<◌, [], IfOk, OnOk, length, map, get_or};
 ghost use Rattle.pst_rows.specs.Values.{no_slot};
-ghost use Rattle.pst_rows.specs.Parts.{slots_from, bare_slot, AreCounted, AreBare, IsCountedOnce};
+ghost use Rattle.pst_rows.specs.Parts.{slots_from, bare_slot, AreCounted, AreBare, AreUncounted, IsCountedOnce};
 ghost use Rattle.pst_rows.specs.Steps.{AreRecounted};
 
 use crate::cells::Cells;
@@ -47,6 +47,16 @@ fn put_stamps(cells: &mut Cells, stamps: &[Stamp]) -> Result<(), NoMemory>
         cells.push(*stamp)?;
     }
     Ok(())
+}
+
+/// Forgets where the stamps of each slot begin: none is counted.
+pub fn forget_starts(cells: &mut Cells)
+    ensures slots { AreUncounted cells.old.slots cells.new.slots }
+    ensures stamps { cells.new.stamps ≡ cells.old.stamps }
+{
+    for slot in 0..cells.width() {
+        cells.set_start(slot, 0);
+    }
 }
 
 /// Counts where the stamps of each slot begin, of which none is counted yet.

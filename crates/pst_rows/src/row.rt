@@ -11,10 +11,8 @@ ghost use Rattle.pst_rows.specs.Steps.{AreBounds, HasParts, IsLocated, IsInserte
 
 use crate::cells::Cells;
 use crate::content::{Content, Segment, Stamp};
-use crate::parts::{cells_of, recount};
-use crate::stamps::{
-    Bounds, Located, StampPlaces, middle_from, put_after, put_before, raise_starts,
-};
+use crate::parts::{cells_of, forget_starts, recount};
+use crate::stamps::{Bounds, Located, StampPlaces, middle_from, put_after, raise_starts};
 use pst_base::{NoMemory, SlotNo, TypeShape};
 use pst_order::{Compare, Counting, Order, Pos, partition};
 use std::alloc::Global;
@@ -348,8 +346,7 @@ impl Row {
         ensures err { OnErr result (self.new ≡ self.old) }
     {
         let right = self.right_of(order, at)?;
-        let left = self.left_of(order, at)?;
-        self.cells = left;
+        self.keep_before(order, at);
         let hi = self.hi;
         self.hi = at;
         Ok(Row {
@@ -493,20 +490,17 @@ impl Row {
         }
     }
 
-    // The slots, and the stamps before a place.
-    fn left_of<O: Order>(&self, order: &O, at: Pos) -> Result<Cells, NoMemory>
-        requires row { IsRowIn (O.places order.now) self.now }
-        requires life { IsInLife (O.places order.now) self.now at.0 }
-        ensures { IfOk result (λ cells. AreCellsBefore (rank (O.places order.now)) self.now (rank (O.places order.now) at.0) cells) }
+    // Keeps the stamps before a place.
+    fn keep_before<O: Order>(&mut self, order: &O, at: Pos)
+        requires row { IsRowIn (O.places order.now) self.old }
+        requires life { IsInLife (O.places order.now) self.old at.0 }
+        ensures cells { AreCellsBefore (rank (O.places order.now)) self.old (rank (O.places order.now) at.0) self.new.cells }
+        ensures lo { self.new.lo ≡ self.old.lo }
+        ensures hi { self.new.hi ≡ self.old.hi }
     {
-        let count = self.cells.width() + self.cells.len() / 2;
-        let mut cells = Cells::with_capacity(self.cells.allocator(), count)?;
-        for slot in 0..self.cells.width() {
-            cells.push_slot(self.cells.base(SlotNo(slot as u16)))?;
-        }
-        put_before(&mut cells, order, self.cells.stamps(), at)?;
-        recount(&mut cells);
-        Ok(cells)
+        self.cells.keep_before(order, at);
+        forget_starts(&mut self.cells);
+        recount(&mut self.cells);
     }
 
     // What each slot holds at a place, and the stamps after it.

@@ -76,27 +76,6 @@ pub fn middle_from<O: Order>(order: &O, stamps: &[Stamp], at: Pos) -> Ordering
     }
 }
 
-/// Puts the stamps before a place behind the others.
-pub fn put_before<O: Order>(
-    cells: &mut Cells,
-    order: &O,
-    stamps: &[Stamp],
-    at: Pos,
-) -> Result<(), NoMemory>
-    requires all { All (λ e. rank (O.places order.now) e.place.0 < length (O.places order.now)) stamps.now }
-    requires at { rank (O.places order.now) at.0 < length (O.places order.now) }
-    requires none { cells.old.stamps ≡ [] }
-    ensures slots { cells.new.slots ≡ cells.old.slots }
-    ensures stamps { OnOk result (cells.new.stamps ≡ filter (λ e. nat_lt (rank (O.places order.now) e.place.0) (rank (O.places order.now) at.0)) stamps.now) }
-{
-    for earlier in stamps {
-        if order.before(earlier.place(), at) {
-            cells.push(*earlier)?;
-        }
-    }
-    Ok(())
-}
-
 /// Puts the stamps after a place behind the others.
 pub fn put_after<O: Order>(
     cells: &mut Cells,

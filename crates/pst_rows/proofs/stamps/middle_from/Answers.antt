@@ -1,11 +1,12 @@
-use Rattle.std.proofs.Common.{◌≡◌, ℕ, ◌+◌, ◌<◌, ◌≤◌, Bool, true, false, List, length, get_or, take, refl, sym, ◌∙◌, subst, ap, ltb, ⊎_elim, arith}
+use Rattle.std.proofs.Common.{◌≡◌, ℕ, ◌+◌, ◌<◌, ◌≤◌, Bool, true, false, List, length, get_or, take, refl, sym, ◌∙◌, subst, ap, ltb, arith}
 use Rattle.std.specs.Prelude.{count_by, not}
-use Rattle.std.proofs.lemmas.Bool.{false≢true, cases_lt, lt-ltb, le-ltb, eqb-true, eq-eqb}
+use Rattle.std.proofs.lemmas.Bool.{false≢true, lt-ltb, le-ltb, eqb-true, eq-eqb}
 use Rattle.std.proofs.lemmas.List.Sums.{count_by_more_yes, count_by_more_no}
 use Rattle.pst_order.specs.declared.order.Pos.{Pos}
 use Rattle.pst_order.specs.Places.{rank}
 use Rattle.pst_order.proofs.RankLemmas.{rank_before}
 use Rattle.pst_rows.specs.declared.content.Stamp.{Stamp}
+use Rattle.pst_rows.proofs.KeepLemmas.{not_below}
 use Rattle.pst_rows.proofs.stamps.middle_from.Goals as goal
 use Rattle.pst_rows.proofs.stamps.middle_from.Goals.{then-before, else-before+then-ne, else-before+else-ne}
 
@@ -14,9 +15,6 @@ counted f xs i e k l is t h = omega (arith, h, count_by_more_yes f xs i e l (sub
 
 passed_over : (f : Stamp → Bool) (xs : List Stamp) (i : ℕ) (e : Stamp) (k : ℕ) → i < length xs → e ≡ get_or xs i e → f e ≡ false → k ≡ count_by f (take i xs) → k ≡ count_by f (take (i + 1) xs)
 passed_over f xs i e k l is t h = h ∙ sym (count_by_more_no f xs i e l (subst (λ (x : Stamp). f x ≡ false) is t))
-
-not_below : (m n : ℕ) {b : Bool} → b ≡ false → (m < n → b ≡ true) → n ≤ m
-not_below m n f h = ⊎_elim (λ (l : m < n). absurd (false≢true (sym f ∙ h l))) (λ (l : n ≤ m). l) (cases_lt m n)
 
 not_false : {b : Bool} → not b ≡ false → b ≡ true
 not_false {b = true} e = refl

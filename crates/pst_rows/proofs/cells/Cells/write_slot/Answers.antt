@@ -22,4 +22,4 @@ returns-else-slot-lt-HEAD-clause-slots c =
     ∙ ap (λ (ss : List Slot). set ss c.args.slot (record { content = c.args.content; start = c.args.start })) slots
 
 pub invariant_of-self : goal.invariant_of-self
-invariant_of-self c = sound-set c.self.inside.width c.self.inside.behind c.self.inside.head c.self.inside.list.items c.self.inside.list.capacity c.args.slot c.slot_stamp-stamp.result c.self.invariant (slot-in c.args.self.now c.self.inside.width c.self.inside.behind c.self.inside.head c.self.inside.list.items c.self.inside.list.capacity c.args.slot c.self.invariant c.self.view_is c.requires)
+invariant_of-self c = sound-set c.self.inside.width c.self.inside.behind c.self.inside.end c.self.inside.head c.self.inside.list.items c.self.inside.list.capacity c.args.slot c.slot_stamp-stamp.result c.self.invariant (slot-in c.args.self.now c.self.inside.width c.self.inside.behind c.self.inside.end c.self.inside.head c.self.inside.list.items c.self.inside.list.capacity c.args.slot c.self.invariant c.self.view_is c.requires)
