@@ -178,17 +178,35 @@ fn shifted(a: u64, by: u64) -> u64
     (a + by) % CIRCLE
 }
 
-// The k-th of j even shares, rounded down. The product is formed in 128 bits where 64 do not hold it: a place that is spread over as
-// little room as will do has a small one, and a division of 128 bits takes long.
-fn share(w: u64, k: u64, j: u64) -> u64
-    requires w { w ≤ circle }
-    requires k { k < j }
-    ensures result { result ≡ w * k / j }
-    ensures low { result ≤ circle }
+// So many whole units, and so many parts of one more.
+#[derive(Clone, Copy)]
+struct Mixed {
+    whole: u64,
+    parts: u64,
+}
+
+// The sum of two mixed numbers, where so many parts are a unit.
+#[inline(always)]
+fn mixed_sum(a: Mixed, b: Mixed, unit: u64) -> Mixed
+    requires a { a.whole ≤ circle }
+    requires b { b.whole ≤ circle }
+    requires a_proper { a.parts < unit }
+    requires b_proper { b.parts < unit }
+    ensures sum { result.whole * unit + result.parts ≡ (a.whole * unit + a.parts) + (b.whole * unit + b.parts) }
+    ensures proper { result.parts < unit }
 {
-    match w.checked_mul(k) {
-        Some(product) => product / j,
-        None => (w as u128 * k as u128 / j as u128) as u64,
+    let whole = a.whole + b.whole;
+    let missing = unit - b.parts;
+    if a.parts < missing {
+        Mixed {
+            whole,
+            parts: a.parts + b.parts,
+        }
+    } else {
+        Mixed {
+            whole: whole + 1,
+            parts: a.parts - missing,
+        }
     }
 }
 
@@ -237,10 +255,20 @@ fn spread(next: &[u32], labels: &mut [u64], first: u32, start: u64, room: &Reach
     ensures spread { let r = room.now in labels.new ≡ spaced labels.old (take (r.steps - 1) (walk next.now (length next.now) first)) start r.width r.steps 1 }
     ensures low { AreBelow circle labels.new }
 {
+    if room.steps < 2 {
+        return;
+    }
+    // The shares are added up, so that no division is made for each place.
+    let share = Mixed {
+        whole: room.width / room.steps,
+        parts: room.width % room.steps,
+    };
+    let mut way = share;
     let mut at = first;
-    for k in 1..room.steps {
-        labels[at as usize] = shifted(start, share(room.width, k, room.steps));
+    for _nth in 1..room.steps {
+        labels[at as usize] = shifted(start, way.whole);
         at = next[at as usize];
+        way = mixed_sum(way, share, room.steps);
     }
 }
 
