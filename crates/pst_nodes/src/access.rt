@@ -1,6 +1,6 @@
 //! The arena: adding nodes, reading and changing one slot of one node.
 
-ghost use Rattle.std.specs.Prelude.{◌≡◌, ◌≢◌, ℕ, ◌+◌, ◌<◌, ◌≤◌, List, [], ◌∷◌, ◌++◌, length, IfOk, OnOk, OnErr, IfSome, IfNone, false, true, not, if◌then◌else◌, ◌==◌, ◌↔◌, IsTrue, IsOk};
+ghost use Rattle.std.specs.Prelude.{◌≡◌, ◌≢◌, ℕ, ◌+◌, ◌<◌, ◌≤◌, List, [], ◌∷◌, ◌++◌, length, IfOk, OnOk, OnErr, IfSome, IfNone, is_some, false, true, not, if◌then◌else◌, ◌==◌, ◌↔◌, IsTrue, IsOk};
 ghost use Rattle.std.proofs.Common.{rules};
 ghost use Rattle.pst_rows.specs.declared.row.Row.{Row};
 ghost use Rattle.pst_order.specs.Places.{rank};
@@ -132,6 +132,15 @@ impl Nodes {
         ensures { option_map (λ i. i.0) result ≡ (frame_at self.now.list.items id.0).later }
     {
         self.list[id.0 as usize].header.later()
+    }
+
+    /// Whether a node of the record comes next.
+    #[inline(always)]
+    pub fn is_followed(&self, id: NodeId) -> bool
+        requires { id.0 < length self.now.list.items }
+        ensures { result ≡ is_some (frame_at self.now.list.items id.0).later }
+    {
+        self.list[id.0 as usize].header.is_followed()
     }
 
     /// What a slot of a node holds at a place.
@@ -289,10 +298,10 @@ impl Nodes {
         ensures some { IfSome result (λ n. LeadsTo (lives (O.places order.now) self.now.list.items) id.0 (rank (O.places order.now) at.0) n.0) }
         ensures none { IfNone result (IsIn (lives (O.places order.now) self.now.list.items) id.0 (rank (O.places order.now) at.0)) }
     {
-        let next = self.later(id)?;
-        if order.before(at, self.row(id).hi()) {
+        let node = &self.list[id.0 as usize];
+        if !node.header.is_followed() || order.before(at, node.row.hi()) {
             return None;
         }
-        Some(next)
+        node.header.later()
     }
 }

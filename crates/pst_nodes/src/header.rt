@@ -1,6 +1,6 @@
 //! What a node has beside its row.
 
-ghost use Rattle.std.specs.Prelude.{◌≡◌};
+ghost use Rattle.std.specs.Prelude.{◌≡◌, is_some};
 ghost use Rattle.pst_nodes.specs.Header.{later_of, link_of};
 
 use pst_base::{Name, NodeId, TypeNo};
@@ -107,6 +107,14 @@ impl Header {
         } else {
             None
         }
+    }
+
+    /// Whether a node of the record comes next.
+    #[inline(always)]
+    pub fn is_followed(&self) -> bool
+        ensures { result ≡ is_some self.now.later }
+    {
+        self.has_later
     }
 
     /// The link of the queue.

@@ -31,7 +31,8 @@ impl Nodes {
         ensures slot { IsSlot (O.places order.now) self.now.list.items id.0 result.0 (rank (O.places order.now) at.0) }
         ensures entry { HoldsEntryOf (O.places order.now) self.now.list.items id.0 result.0 (rank (O.places order.now) at.0) x.0 z.0 field.0 }
     {
-        for index in 0..self.row(id).width() {
+        // The inverse slots are the last ones of a node, so the search begins there.
+        for index in (0..self.row(id).width()).rev() {
             let slot = SlotNo(index as u16);
             if is_entry_of(self.read(order, id, slot, at), x, z, field) {
                 return slot;

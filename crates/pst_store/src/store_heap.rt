@@ -132,7 +132,10 @@ impl<O: Order + Drop, N: FatNodes> StoreOf<O, N> {
         ensures { self.now ≡ Some result.now }
     {
         match &self.started {
-            None => first_of(&[]),
+            None => {
+                let none: &[&Started<O, N>] = &[];
+                none[0]
+            }
             Some(started) => started,
         }
     }
@@ -207,8 +210,9 @@ impl<O: Order + Drop, N: FatNodes> VersionedHeap for StoreOf<O, N> {
     }
 }
 
-// The first element of a list. A store that is not started answers that of an empty one, where what the call requires rules that
-// out: the compiler makes no code for it, and so none for the question that would lead there.
+// The first element of a list. A write of a store that is not started answers that of an empty one, where what the call requires
+// rules that out: the compiler makes no code for it, and so none for the question that would lead there. `begun` indexes such a
+// list itself.
 #[inline(always)]
 fn first_of<T: Copy>(list: &[T]) -> T
     requires { 0 < length list.now }

@@ -23,9 +23,10 @@ pub fn cover<O: Order>(order: &O, nodes: &Nodes, id: NodeId, at: Pos) -> NodeId
     ensures covers { IsInLives (lives (O.places order.now) nodes.now.list.items) result.0 (rank (O.places order.now) at.0) }
     ensures name { (frame_at nodes.now.list.items result.0).name ≡ (frame_at nodes.now.list.items id.0).name }
 {
-    match nodes.later(id) {
-        Some(_) => nodes.cover(order, id, at),
-        None => id,
+    if nodes.is_followed(id) {
+        nodes.cover(order, id, at)
+    } else {
+        id
     }
 }
 

@@ -1,6 +1,5 @@
-use Rattle.std.proofs.Common.{◌≡◌, ◌<◌, ℕ, List, Some, sym, ap, ◌∙◌, ⊎_elim}
-use Rattle.std.proofs.lemmas.Option.{none-some}
-use Rattle.std.specs.Option.{option_map}
+use Rattle.std.proofs.Common.{◌≡◌, ◌<◌, ℕ, List, Option, Some, is_some, sym, ap, ◌∙◌, ⊎_elim}
+use Rattle.std.proofs.lemmas.Bool.{false≢true}
 use Rattle.pst_order.specs.Places.{rank}
 use Rattle.pst_mirror.specs.Lives.{IsIn, IsLive}
 use Rattle.pst_mirror.proofs.LivesLemmas.{walk_law}
@@ -11,12 +10,12 @@ use Rattle.pst_store_arena.proofs.near.cover.Goals as goal
 abbrev Next : List ℕ → List Node → ℕ → ℕ → Type 0
 Next qs ns i n = (j : ℕ) × ((frame_at ns i).later ≡ Some j) × IsLive (lives qs ns) j n × ((frame_at ns j).name ≡ (frame_at ns i).name) × (rank qs (lo_at ns i) < rank qs (lo_at ns j))
 
-pub returns-in-None-clause-covers : goal.returns-in-None-clause-covers
-returns-in-None-clause-covers g c =
+pub returns-else-is_followed-clause-covers : goal.returns-else-is_followed-clause-covers
+returns-else-is_followed-clause-covers g c =
     let qs : List ℕ = g.O.Order.places c.args.order.now in
     let ns : List Node = c.args.nodes.now.list.items in
     let n : ℕ = rank qs c.args.at.0 in
     ⊎_elim
     (λ (q : IsIn (lives qs ns) c.args.id.0 n). q)
-    (λ (q : Next qs ns c.args.id.0 n). absurd (none-some q.0 (sym (ap (option_map (λ i. i.0)) c.in-None.is) ∙ c.later.ensures ∙ q.1)))
+    (λ (q : Next qs ns c.args.id.0 n). absurd (false≢true (sym c.if-is_followed.false ∙ c.is_followed.ensures ∙ ap (λ (o : Option ℕ). is_some o) q.1)))
     (walk_law (lives qs ns) c.args.id.0 n c.requires.chained c.requires.live)
