@@ -93,7 +93,7 @@ came_acted {P} {R} {parts} {s} {t} {a} {b} {instr} e acted = subst (λ (x : Opti
 -- a call or a return is left to be carried out
 pub came_due : {P R : Type 0} {x : Option Step} (parts : Parts) (s : State P R) (a : Standing P R) (instr : Instr) → x ≡ None → IsRunning parts s a → IsFunded parts s a → next_instr (current_of parts s a) ≡ Some instr → IsSwitch instr → CameTo parts s a instr x s a
 came_due {P} {R} {x} parts s a instr e running funded next switches =
-    subst (λ (x : Option Step). CameTo parts s a instr x s a) (sym e) (ran_none parts s a running funded, record { instr = instr; is = next; switches = switches }, refl)
+    subst (λ (x : Option Step). CameTo parts s a instr x s a) (sym e) ((ran_none parts s a running funded, record { instr = instr; is = next; switches = switches }, refl), refl)
 
 -- ---- instructions that leave the heap alone
 

@@ -1,6 +1,7 @@
 -- What holds of a running machine from one instruction to the next.
-use Rattle.std.proofs.Common.{◌≡◌, ◌≢◌, ◌⊎◌, inl, inr, ℕ, ◌+◌, ◌<◌, ◌≤◌, List, length, Option, Some, None, refl, ap, sym, ◌∙◌, subst, arith, slice_index_or}
+use Rattle.std.proofs.Common.{◌≡◌, ◌≢◌, ◌⊎◌, inl, inr, ℕ, ◌+◌, ◌<◌, ◌≤◌, List, length, drop, Option, Some, None, refl, ap, sym, ◌∙◌, subst, arith, slice_index_or}
 use Rattle.std.specs.Prelude.{slice_get, unwrap_or}
+use Rattle.std.proofs.lemmas.List.{get_or-drop}
 use Rattle.std.proofs.lemmas.Option.{slice_get_read}
 use Rattle.std.specs.FinMap.{get}
 use Rattle.pst_base.specs.declared.names.Name.{Name}
@@ -26,7 +27,7 @@ use Rattle.pst_machine_steps.specs.declared.standing.Step.{Step}
 use Rattle.pst_machine_steps.specs.declared.standing.Step.TheVariants.{Next, Here, Switched, Waits, Ends, Trap}
 use Rattle.pst_machine_steps.specs.Live.{IsRoot}
 use Rattle.pst_machine_steps.specs.View.{procedure_of, move_of, no_procedure}
-use Rattle.pst_machine_frames.specs.Ready.{AreLive, world_of, current_of, waiting_of, IsRunning, IsFunded, spendable_of, Acted, CameTo, IfNotOver, IfCarriesOn, IsOff, IsOut, IsRest, Leaves, total_of, Ran}
+use Rattle.pst_machine_frames.specs.Ready.{AreLive, world_of, current_of, waiting_of, IsRunning, IsFunded, spendable_of, Acted, CameTo, IfNotOver, IfCarriesOn, IsOff, IsOut, IsRest, Leaves, LeavesBy, total_of, Ran}
 use Rattle.pst_machine_steps.specs.Fields.{KeepsOthers}
 
 -- ---- reaching
@@ -177,6 +178,14 @@ due parts s a instr p instrs is same lt at =
     ap (λ (p : Procedure). slice_get p.instructions a.current.at) is ∙ ap (λ (xs : List Instr). slice_get xs a.current.at) (sym same)
     ∙ slice_get_read instrs (length instrs) a.current.at instr refl lt at
 
+-- the same where the instruction is the first of the rest of the code
+pub at_rest : {P R : Type 0} (parts : Parts) (s : State P R) (a : Standing P R) (instr : Instr) (p : Procedure) (rest : List Instr) → IsRunning parts s a → procedure_of parts a.current.procedure ≡ p → rest ≡ drop a.current.at p.instructions → instr ≡ slice_index_or rest 0 instr
+    → next_instr (current_of parts s a) ≡ Some instr
+at_rest parts s a instr p rest r is same at =
+    let zero : a.current.at + 0 ≡ a.current.at = omega arith in
+    due parts s a instr p p.instructions is refl (bound parts s a p p.instructions r is refl)
+    (at ∙ ap (λ (xs : List Instr). slice_index_or xs 0 instr) same ∙ get_or-drop a.current.at p.instructions 0 instr ∙ ap (λ (i : ℕ). slice_index_or p.instructions i instr) zero)
+
 -- the procedure of a frame that stands at an instruction is one of the code's
 pub procedure_there : (parts : Parts) (heap : Heap) (p : ℕ) → p < length parts.procedures ⊎ (slice_get parts.procedures p ≡ None) → (f : Frame) → f.procedure ≡ unwrap_or (slice_get parts.procedures p) no_procedure → IsSoundFrame parts heap f → p < length parts.procedures
 procedure_there parts heap p (inl lt) f is sound = lt
@@ -250,11 +259,16 @@ module _ {P R : Type 0} (parts : Parts) where
   leaves_on s t u a b d (Some step) f same g = (ran_on s t u a b d step f g.0, below_on step (total_of parts u d) (total_of parts t b) (total_of parts s a) f.less g.1, g.2)
 
   -- what an instruction does that leaves the frame, or a call or a return that is left to be carried out
-  pub left_by : (s t : State P R) (a b : Standing P R) (instr : Instr) (out : Option Step) → IsValidCode parts → IsRunning parts s a → IsFunded parts s a → next_instr (current_of parts s a) ≡ Some instr → IsOff out → CameTo parts s a instr out t b → Leaves parts s a out t b
+  pub left_by : (s t : State P R) (a b : Standing P R) (instr : Instr) (out : Option Step) → IsValidCode parts → IsRunning parts s a → IsFunded parts s a → next_instr (current_of parts s a) ≡ Some instr → IsOff out → CameTo parts s a instr out t b → LeavesBy parts s a out t b
   left_by s t a b instr None valid r funded next off came = came
   left_by s t a b instr (Some step) valid r funded next off came =
       let ran = acted_other s t a b instr step valid r funded next (not_next step off) came in
       (ran.0, ran.1, off)
+
+  -- what one instruction does is a part of a run
+  pub leaves : (s t : State P R) (a b : Standing P R) (out : Option Step) → LeavesBy parts s a out t b → Leaves parts s a out t b
+  leaves s t a b None l = l.0
+  leaves s t a b (Some step) l = l
 
   -- whether the frame stays or another goes on, the run goes on
   pub goes_as_moves : (s t : State P R) (a b : Standing P R) → Ran parts s a Here t b → Ran parts s a Switched t b

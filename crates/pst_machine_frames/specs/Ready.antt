@@ -16,6 +16,8 @@ use Rattle.pst_code.specs.Spending.{spendable}
 use Rattle.pst_places.specs.State.{State, WritesStay, IsFresh}
 use Rattle.pst_machine_frames.specs.declared.running.Flow.{Flow}
 use Rattle.pst_machine_frames.specs.declared.running.Flow.TheVariants as flow
+use Rattle.pst_machine_frames.specs.declared.running.Rested.{Rested}
+use Rattle.pst_machine_frames.specs.declared.running.Rested.TheVariants as rested
 use Rattle.pst_machine_steps.specs.declared.standing.CallFrame.{CallFrame}
 use Rattle.pst_machine_steps.specs.declared.standing.Waiting.{Waiting}
 use Rattle.pst_machine_steps.specs.declared.standing.Standing.{Standing}
@@ -115,6 +117,16 @@ IfNext flow.Behind p = p
 IfNext flow.Here p = Unit {0}
 IfNext flow.Out p = Unit {0}
 
+-- what a run came to; None for a call or a return, which is still due
+abbrev pub came_with : Rested → Option Step
+came_with (rested.At step) = Some step
+came_with (rested.Due instr) = None
+
+-- where a call or a return is due
+abbrev pub IfDue : Rested → (Instr → Type 0) → Type 0
+IfDue (rested.At step) p = Unit {0}
+IfDue (rested.Due instr) p = p instr.now
+
 -- what an instruction does
 pub record Acted {P R : Type 0} (parts : Parts) (s : State P R) (a : Standing P R) (instr : Instr) (step : Step) (t : State P R) (b : Standing P R) : Type 0 where
   pub acts : act parts (Some instr) (current_of parts s a) (waiting_of parts s a) (world_of s a) ≡ move_of step (current_of parts t b) (waiting_of parts t b) (world_of t b)
@@ -201,10 +213,15 @@ abbrev pub Leaves : {P R : Type 0} → Parts → State P R → Standing P R → 
 Leaves parts s a (Some step) t b = Ran parts s a step t b × Falls parts s a step t b × IsOut step
 Leaves parts s a None t b = Ran parts s a Switched t b × IsDue parts t b × (procedure_of parts b.current.procedure ≡ procedure_of parts a.current.procedure)
 
+-- the same of one instruction: a call or a return that is due is that instruction
+abbrev pub LeavesBy : {P R : Type 0} → Parts → State P R → Standing P R → (out : Option Step) → State P R → Standing P R → Type 0
+LeavesBy parts s a (Some step) t b = Leaves parts s a (Some step) t b
+LeavesBy parts s a None t b = Leaves parts s a None t b × (next_instr (current_of parts t b) ≡ next_instr (current_of parts s a))
+
 -- what an instruction does, where it came to this
 abbrev pub CameTo : {P R : Type 0} → Parts → State P R → Standing P R → Instr → Option Step → State P R → Standing P R → Type 0
 CameTo parts s a instr (Some step) t b = Acted parts s a instr step t b
-CameTo parts s a instr None t b = Leaves parts s a None t b
+CameTo parts s a instr None t b = LeavesBy parts s a None t b
 
 abbrev pub Came : {P R : Type 0} → Parts → State P R → Standing P R → Instr → Flow → (out : Option Step) → State P R → Standing P R → Type 0
 Came parts s a instr flow out t b = CameTo parts s a instr (came_to flow out) t b
@@ -220,7 +237,7 @@ abbrev pub GoesOn : {P R : Type 0} → Parts → State P R → Standing P R → 
 GoesOn parts s a flow.Next out t b = StaysOn parts s a t b
 GoesOn parts s a flow.Behind out t b = StaysOn parts s a t b
 GoesOn parts s a flow.Here out t b = StaysOn parts s a t b
-GoesOn parts s a flow.Out out t b = Leaves parts s a out t b
+GoesOn parts s a flow.Out out t b = LeavesBy parts s a out t b
 
 -- ---- the same of a heap with this state, where the run's current frame and charges are held apart; what it came to stands last
 

@@ -8,7 +8,7 @@ ghost use Rattle.pst_places.specs.State.{Unchanged, IsFresh, IsNewType, HasRoom}
 ghost use Rattle.pst_machine_steps.specs.View.{number_in, procedure_of, AtEachMeaning, Performs, StaysAt};
 ghost use Rattle.pst_machine_steps.specs.Live.{IsLiveSomewhere, IsRoot};
 ghost use Rattle.pst_machine_steps.specs.Calls.{held_in, HasRegister, HoldsNumber};
-ghost use Rattle.pst_machine_frames.specs.Ready.{Printed, step_of, whole, came_to, IfOut, IfNext, current_of, IsRunning, IsFunded, CameApart, FallsApart, GoesOnApart, IsDue, IsOff, IsOut, IsRest, LeavesApart, Ran, RanApart};
+ghost use Rattle.pst_machine_frames.specs.Ready.{Printed, step_of, whole, came_to, IfOut, IfNext, came_with, IfDue, current_of, IsRunning, IsFunded, CameApart, FallsApart, GoesOnApart, IsDue, IsOff, IsOut, IsRest, LeavesApart, Ran, RanApart};
 ghost use Rattle.pst_machine_steps.specs.Fields.{KeepsOthers};
 
 use pst_base::{Kind, NoMemory, Op, TrapKind, TypeNo};
@@ -148,28 +148,30 @@ fn run_frame<H: HeapAt>(
     ensures home { (standing.new.place ≡ standing.old.place) × (standing.new.run ≡ standing.old.run) }
 {
     match go_on(standing, frame, left, code, procedure, heap, top)? {
-        Some(step) => Ok(step),
-        None => switch(standing, frame, *left, code, procedure, heap),
+        Rested::At(step) => Ok(step),
+        Rested::Due(instr) => switch(standing, frame, *left, code, instr, heap),
     }
 }
 
-/// Runs as long as a frame that is held apart goes on. None where a call or a return is due.
+/// Runs as long as a frame that is held apart goes on, and hands on the call or the return that is due, if one is.
 #[inline(always)]
-fn go_on<H: HeapAt>(
+fn go_on<'a, H: HeapAt>(
     standing: &mut Standing<H::Place, H::Ref>,
     frame: &mut CallFrame<H::Ref>,
     left: &mut u32,
     code: &Code,
-    procedure: &Procedure,
+    procedure: &'a Procedure,
     heap: &mut H,
     top: H::Ref,
-) -> Result<Option<Step>, NoMemory>
+) -> Result<Rested<'a>, NoMemory>
     requires valid { IsValidCode code.now }
     requires running { IsRunning code.now (H.state heap.old) (whole standing.old frame.old left.old) }
     requires funded { IsFunded code.now (H.state heap.old) (whole standing.old frame.old left.old) }
     requires top { IsRoot (H.state heap.old) standing.old.place top }
     requires procedure { procedure_of code.now frame.old.procedure ≡ procedure.now }
-    ensures ran { IfOk result (LeavesApart H.state code.now heap.old standing.old frame.old left.old heap.new standing.new frame.new left.new) }
+    ensures ran { IfOk result (λ rested. LeavesApart H.state code.now heap.old standing.old frame.old left.old heap.new standing.new frame.new left.new (came_with rested)) }
+    ensures due { IfOk result (λ rested. IfDue rested (λ instr. next_instr (current_of code.now (H.state heap.new) (whole standing.new frame.new left.new)) ≡ Some instr)) }
+    ensures at { IfOk result (λ rested. IfDue rested (λ instr. frame.new.at + 1 < 2 ^ 64)) }
     ensures err { OnErr result (KeepsOthers standing.old.place (H.state heap.old) (H.state heap.new)) }
     ensures reads { OnErr result (¬ ((H.state heap.old).writable standing.old.place) → Unchanged (H.state heap.old) (H.state heap.new)) }
     ensures home { (standing.new.place ≡ standing.old.place) × (standing.new.run ≡ standing.old.run) }
@@ -189,7 +191,12 @@ fn go_on<H: HeapAt>(
             Flow::Next => rest = &rest[1..],
             Flow::Behind => rest = &instrs[frame.at..],
             Flow::Here => rest = &instrs[frame.at..],
-            Flow::Out => return Ok(out),
+            Flow::Out => {
+                return Ok(match out {
+                    Some(step) => Rested::At(step),
+                    None => Rested::Due(instr),
+                });
+            }
         }
     }
 }
@@ -235,6 +242,13 @@ fn step<H: HeapAt>(
         Flow::Here => Ok(Flow::Here),
         Flow::Out => Ok(Flow::Out),
     }
+}
+
+/// Where a frame does not go on: what the run came to, or the call or the return that is due.
+#[derive(Clone, Copy)]
+enum Rested<'a> {
+    At(Step),
+    Due(&'a Instr),
 }
 
 /// How a frame goes on.
@@ -384,20 +398,21 @@ fn instruction<H: HeapAt>(
     }
 }
 
-/// A call or a return that is due, from a frame that is held apart.
+/// Carries out the call or the return that is due, from a frame that is held apart.
 #[inline(always)]
 fn switch<H: HeapAt>(
     standing: &mut Standing<H::Place, H::Ref>,
     frame: &mut CallFrame<H::Ref>,
     _left: u32,
     code: &Code,
-    procedure: &Procedure,
+    instr: &Instr,
     heap: &H,
 ) -> Result<Step, NoMemory>
     requires valid { IsValidCode code.now }
     requires running { IsRunning code.now (H.state heap.now) (whole standing.old frame.old _left) }
     requires funded { IsFunded code.now (H.state heap.now) (whole standing.old frame.old _left) }
-    requires procedure { procedure_of code.now frame.old.procedure ≡ procedure.now }
+    requires at { frame.old.at + 1 < 2 ^ 64 }
+    requires instr { next_instr (current_of code.now (H.state heap.now) (whole standing.old frame.old _left)) ≡ Some instr.now }
     requires due { IsDue code.now (H.state heap.now) (whole standing.old frame.old _left) }
     ensures ran { IfOk result (RanApart H.state code.now heap.now standing.old frame.old _left heap.now standing.new frame.new _left) }
     ensures falls { IfOk result (FallsApart H.state code.now heap.now standing.old frame.old _left heap.now standing.new frame.new _left) }
@@ -405,10 +420,7 @@ fn switch<H: HeapAt>(
     ensures home { (standing.new.place ≡ standing.old.place) × (standing.new.run ≡ standing.old.run) }
 {
     heap.known();
-    let instrs = procedure.instructions.as_slice();
-    // An index below the length of a list can be raised by one.
-    let _count = instrs.len();
-    match &instrs[frame.at] {
+    match instr {
         Instr::Call(p, into, arguments) => {
             call(standing, frame, code, *p, *into, arguments.as_slice())
         }

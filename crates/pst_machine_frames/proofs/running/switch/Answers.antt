@@ -1,4 +1,4 @@
-use Rattle.std.proofs.Common.{◌≡◌, ℕ, List, Option, Some, IfSome, refl, sym, subst, ap, ◌∙◌, arith, inl, inr}
+use Rattle.std.proofs.Common.{◌≡◌, ℕ, List, Option, Some, IfSome, refl, sym, subst, ap, ◌∙◌, inl, inr}
 use Rattle.std.specs.Prelude.{slice_get}
 use Rattle.std.proofs.lemmas.Result.{IfOk-weaker}
 use Rattle.std.proofs.lemmas.Option.{slice_get_within, same_Some}
@@ -18,7 +18,7 @@ use Rattle.pst_machine_steps.specs.Calls.{Called, Left, SameTally}
 use Rattle.pst_machine_frames.specs.Ready.{IsRunning, IsFunded, IsOut, Leaves, whole, current_of}
 use Rattle.pst_machine_frames.proofs.Fitting.{callee_here}
 use Rattle.pst_machine_frames.proofs.Acting.{called_acted, called_out, left_acted, left_out}
-use Rattle.pst_machine_frames.proofs.Moving.{acted_other, bound, due, not_next}
+use Rattle.pst_machine_frames.proofs.Moving.{acted_other, not_next}
 use Rattle.pst_machine_frames.proofs.running.switch.Goals as goal
 
 -- the place, the run, the charges and what was made and printed stay beside the charges that are held apart too
@@ -43,18 +43,9 @@ module _ {P R : Type 0} (parts : Parts) (s : State P R) (a : Standing P R) (vali
       let ran = acted_other parts s s a b (Return r) step valid running funded next (not_next step out) (left_acted parts s a b r step running.live does same) in
       (ran.0, ran.1, out)
 
-pub bounds-instrs-frame : goal.bounds-instrs-frame
-bounds-instrs-frame g c = bound c.args.code.now (g.H.HeapAt.state c.args.heap.now) (whole c.args.standing.now c.args.frame.now c.args._left) c.args.procedure.now c.as_slice-instrs.result.now c.requires.running c.requires.procedure c.as_slice-instrs.ensures
-
 pub unreachable-requires : goal.unreachable-requires
 unreachable-requires g c =
-    let s = g.H.HeapAt.state c.args.heap.now in
-    let a = whole c.args.standing.now c.args.frame.now c.args._left in
-    let parts = c.args.code.now in
-    let instr = c.index-instrs-frame.result in
-    let lt = bound parts s a c.args.procedure.now c.as_slice-instrs.result.now c.requires.running c.requires.procedure c.as_slice-instrs.ensures in
-    let next = due parts s a instr c.args.procedure.now c.as_slice-instrs.result.now c.requires.procedure c.as_slice-instrs.ensures lt c.index-instrs-frame.is in
-    let same : c.requires.due.instr ≡ instr = same_Some c.requires.due.instr instr (sym c.requires.due.is ∙ next) in
+    let same : c.requires.due.instr ≡ c.args.instr.now = same_Some c.requires.due.instr c.args.instr.now (sym c.requires.due.is ∙ c.requires.instr) in
     elim (c.requires.due.switches) [
       | inl w ↦ c.in_default.not-Call w.0 w.1 w.2 (sym same ∙ w.3)
       | inr w ↦ c.in_default.not-Return w.0 (sym same ∙ w.1)
@@ -65,73 +56,47 @@ call-requires-clause-known g c =
     let s = g.H.HeapAt.state c.args.heap.now in
     let a = whole c.args.standing.now c.args.frame.now c.args._left in
     let parts = c.args.code.now in
-    let instr = c.index-instrs-frame.result in
-    let lt = bound parts s a c.args.procedure.now c.as_slice-instrs.result.now c.requires.running c.requires.procedure c.as_slice-instrs.ensures in
-    let next = due parts s a instr c.args.procedure.now c.as_slice-instrs.result.now c.requires.procedure c.as_slice-instrs.ensures lt c.index-instrs-frame.is in
-    let q = callee_here parts s a c.requires.valid c.requires.running c.in-Call.p c.in-Call.into c.in-Call.arguments (next ∙ ap (λ (i : Instr). Some i) c.in-Call.is) in
+    let q = callee_here parts s a c.requires.valid c.requires.running c.in-Call.p c.in-Call.into c.in-Call.arguments (c.requires.instr ∙ ap (λ (i : Instr). Some i) c.in-Call.is) in
     slice_get_within parts.procedures c.in-Call.p.0 q.procedure q.there
-
-pub call-requires-clause-at : goal.call-requires-clause-at
-call-requires-clause-at g c =
-    let lt = bound c.args.code.now (g.H.HeapAt.state c.args.heap.now) (whole c.args.standing.now c.args.frame.now c.args._left) c.args.procedure.now c.as_slice-instrs.result.now c.requires.running c.requires.procedure c.as_slice-instrs.ensures in
-    omega arith
 
 pub returns-in-Call-clause-ran : goal.returns-in-Call-clause-ran
 returns-in-Call-clause-ran g c =
     let s = g.H.HeapAt.state c.args.heap.now in
     let a = whole c.args.standing.now c.args.frame.now c.args._left in
     let parts = c.args.code.now in
-    let instr = c.index-instrs-frame.result in
-    let lt = bound parts s a c.args.procedure.now c.as_slice-instrs.result.now c.requires.running c.requires.procedure c.as_slice-instrs.ensures in
-    let next = due parts s a instr c.args.procedure.now c.as_slice-instrs.result.now c.requires.procedure c.as_slice-instrs.ensures lt c.index-instrs-frame.is in
-    IfOk-weaker c.call.result _ _ (λ step d. (called parts s a c.requires.valid c.requires.running c.requires.funded c.in-Call.p c.in-Call.into c.in-Call.arguments c.as_slice.result.now (whole c.call.new.standing c.call.new.frame c.args._left) c.as_slice.ensures (next ∙ ap (λ (i : Instr). Some i) c.in-Call.is) step d (same_whole c.call.ensures.same)).0) c.call.ensures.called
+    IfOk-weaker c.call.result _ _ (λ step d. (called parts s a c.requires.valid c.requires.running c.requires.funded c.in-Call.p c.in-Call.into c.in-Call.arguments c.as_slice.result.now (whole c.call.new.standing c.call.new.frame c.args._left) c.as_slice.ensures (c.requires.instr ∙ ap (λ (i : Instr). Some i) c.in-Call.is) step d (same_whole c.call.ensures.same)).0) c.call.ensures.called
 
 pub returns-in-Call-clause-falls : goal.returns-in-Call-clause-falls
 returns-in-Call-clause-falls g c =
     let s = g.H.HeapAt.state c.args.heap.now in
     let a = whole c.args.standing.now c.args.frame.now c.args._left in
     let parts = c.args.code.now in
-    let instr = c.index-instrs-frame.result in
-    let lt = bound parts s a c.args.procedure.now c.as_slice-instrs.result.now c.requires.running c.requires.procedure c.as_slice-instrs.ensures in
-    let next = due parts s a instr c.args.procedure.now c.as_slice-instrs.result.now c.requires.procedure c.as_slice-instrs.ensures lt c.index-instrs-frame.is in
-    IfOk-weaker c.call.result _ _ (λ step d. (called parts s a c.requires.valid c.requires.running c.requires.funded c.in-Call.p c.in-Call.into c.in-Call.arguments c.as_slice.result.now (whole c.call.new.standing c.call.new.frame c.args._left) c.as_slice.ensures (next ∙ ap (λ (i : Instr). Some i) c.in-Call.is) step d (same_whole c.call.ensures.same)).1) c.call.ensures.called
+    IfOk-weaker c.call.result _ _ (λ step d. (called parts s a c.requires.valid c.requires.running c.requires.funded c.in-Call.p c.in-Call.into c.in-Call.arguments c.as_slice.result.now (whole c.call.new.standing c.call.new.frame c.args._left) c.as_slice.ensures (c.requires.instr ∙ ap (λ (i : Instr). Some i) c.in-Call.is) step d (same_whole c.call.ensures.same)).1) c.call.ensures.called
 
 pub returns-in-Call-clause-out : goal.returns-in-Call-clause-out
 returns-in-Call-clause-out g c =
     let s = g.H.HeapAt.state c.args.heap.now in
     let a = whole c.args.standing.now c.args.frame.now c.args._left in
     let parts = c.args.code.now in
-    let instr = c.index-instrs-frame.result in
-    let lt = bound parts s a c.args.procedure.now c.as_slice-instrs.result.now c.requires.running c.requires.procedure c.as_slice-instrs.ensures in
-    let next = due parts s a instr c.args.procedure.now c.as_slice-instrs.result.now c.requires.procedure c.as_slice-instrs.ensures lt c.index-instrs-frame.is in
-    IfOk-weaker c.call.result _ _ (λ step d. (called parts s a c.requires.valid c.requires.running c.requires.funded c.in-Call.p c.in-Call.into c.in-Call.arguments c.as_slice.result.now (whole c.call.new.standing c.call.new.frame c.args._left) c.as_slice.ensures (next ∙ ap (λ (i : Instr). Some i) c.in-Call.is) step d (same_whole c.call.ensures.same)).2) c.call.ensures.called
+    IfOk-weaker c.call.result _ _ (λ step d. (called parts s a c.requires.valid c.requires.running c.requires.funded c.in-Call.p c.in-Call.into c.in-Call.arguments c.as_slice.result.now (whole c.call.new.standing c.call.new.frame c.args._left) c.as_slice.ensures (c.requires.instr ∙ ap (λ (i : Instr). Some i) c.in-Call.is) step d (same_whole c.call.ensures.same)).2) c.call.ensures.called
 
 pub returns-in-Return-clause-ran : goal.returns-in-Return-clause-ran
 returns-in-Return-clause-ran g c =
     let s = g.H.HeapAt.state c.args.heap.now in
     let a = whole c.args.standing.now c.args.frame.now c.args._left in
     let parts = c.args.code.now in
-    let instr = c.index-instrs-frame.result in
-    let lt = bound parts s a c.args.procedure.now c.as_slice-instrs.result.now c.requires.running c.requires.procedure c.as_slice-instrs.ensures in
-    let next = due parts s a instr c.args.procedure.now c.as_slice-instrs.result.now c.requires.procedure c.as_slice-instrs.ensures lt c.index-instrs-frame.is in
-    IfOk-weaker c.leave.result _ _ (λ step d. (back parts s a c.requires.valid c.requires.running c.requires.funded c.in-Return.s (whole c.leave.new.standing c.leave.new.frame c.args._left) (next ∙ ap (λ (i : Instr). Some i) c.in-Return.is) step d (same_whole c.leave.ensures.same)).0) c.leave.ensures.left
+    IfOk-weaker c.leave.result _ _ (λ step d. (back parts s a c.requires.valid c.requires.running c.requires.funded c.in-Return.s (whole c.leave.new.standing c.leave.new.frame c.args._left) (c.requires.instr ∙ ap (λ (i : Instr). Some i) c.in-Return.is) step d (same_whole c.leave.ensures.same)).0) c.leave.ensures.left
 
 pub returns-in-Return-clause-falls : goal.returns-in-Return-clause-falls
 returns-in-Return-clause-falls g c =
     let s = g.H.HeapAt.state c.args.heap.now in
     let a = whole c.args.standing.now c.args.frame.now c.args._left in
     let parts = c.args.code.now in
-    let instr = c.index-instrs-frame.result in
-    let lt = bound parts s a c.args.procedure.now c.as_slice-instrs.result.now c.requires.running c.requires.procedure c.as_slice-instrs.ensures in
-    let next = due parts s a instr c.args.procedure.now c.as_slice-instrs.result.now c.requires.procedure c.as_slice-instrs.ensures lt c.index-instrs-frame.is in
-    IfOk-weaker c.leave.result _ _ (λ step d. (back parts s a c.requires.valid c.requires.running c.requires.funded c.in-Return.s (whole c.leave.new.standing c.leave.new.frame c.args._left) (next ∙ ap (λ (i : Instr). Some i) c.in-Return.is) step d (same_whole c.leave.ensures.same)).1) c.leave.ensures.left
+    IfOk-weaker c.leave.result _ _ (λ step d. (back parts s a c.requires.valid c.requires.running c.requires.funded c.in-Return.s (whole c.leave.new.standing c.leave.new.frame c.args._left) (c.requires.instr ∙ ap (λ (i : Instr). Some i) c.in-Return.is) step d (same_whole c.leave.ensures.same)).1) c.leave.ensures.left
 
 pub returns-in-Return-clause-out : goal.returns-in-Return-clause-out
 returns-in-Return-clause-out g c =
     let s = g.H.HeapAt.state c.args.heap.now in
     let a = whole c.args.standing.now c.args.frame.now c.args._left in
     let parts = c.args.code.now in
-    let instr = c.index-instrs-frame.result in
-    let lt = bound parts s a c.args.procedure.now c.as_slice-instrs.result.now c.requires.running c.requires.procedure c.as_slice-instrs.ensures in
-    let next = due parts s a instr c.args.procedure.now c.as_slice-instrs.result.now c.requires.procedure c.as_slice-instrs.ensures lt c.index-instrs-frame.is in
-    IfOk-weaker c.leave.result _ _ (λ step d. (back parts s a c.requires.valid c.requires.running c.requires.funded c.in-Return.s (whole c.leave.new.standing c.leave.new.frame c.args._left) (next ∙ ap (λ (i : Instr). Some i) c.in-Return.is) step d (same_whole c.leave.ensures.same)).2) c.leave.ensures.left
+    IfOk-weaker c.leave.result _ _ (λ step d. (back parts s a c.requires.valid c.requires.running c.requires.funded c.in-Return.s (whole c.leave.new.standing c.leave.new.frame c.args._left) (c.requires.instr ∙ ap (λ (i : Instr). Some i) c.in-Return.is) step d (same_whole c.leave.ensures.same)).2) c.leave.ensures.left
