@@ -23,7 +23,7 @@ ghost use Rattle.pst_types.specs.Bodies.{item_with, items_with};
 use pst_base::{MOST_LIMIT, Shape, TypeShape};
 use pst_program::{Program, TypeEntry, TypeNames, TypedProc, TypedProcs};
 use pst_tree::{Block, Declaration, Fields, Identifier, Tree, TypeName};
-use pst_types_procedures::{ProcedureHead, approve_procedure, judge_procedure, note};
+use pst_types_procedures::{approve_procedure, as_procedure, judge_procedure, note};
 use pst_types_scope::{Members, Scope, Word, judge_fields, names_of, shape_of};
 use pst_typing::{TypeFault, accepted_programs_are_typed};
 use std::alloc::{AllocError, Global};
@@ -149,28 +149,15 @@ fn judge_declaration<'t>(
             fields,
         } => judge_record(alloc, scope, draft, *line, name, *limit, fields),
         Declaration::Root { line, kind, .. } => judge_root(scope, *line, kind),
-        Declaration::Procedure {
-            line,
-            query,
-            name,
-            parameters,
-            result,
-            locals,
-            ..
-        } => {
-            let head = ProcedureHead {
-                line: *line,
-                query: *query,
-                name,
-                parameters: parameters.as_slice(),
-                result,
-                locals: locals.as_slice(),
-            };
-            draft
-                .procedures
-                .push(judge_procedure(alloc, scope, &head, body)?)?;
-            Ok(())
-        }
+        Declaration::Procedure { .. } => match as_procedure(declaration) {
+            None => unreachable!(),
+            Some((head, _)) => {
+                draft
+                    .procedures
+                    .push(judge_procedure(alloc, scope, &head, body)?)?;
+                Ok(())
+            }
+        },
     }
 }
 
@@ -291,25 +278,10 @@ fn approve_declaration<'t>(
             Ok(())
         }
         Declaration::Root { line, kind, .. } => judge_root(scope, *line, kind),
-        Declaration::Procedure {
-            line,
-            query,
-            name,
-            parameters,
-            result,
-            locals,
-            body,
-        } => {
-            let head = ProcedureHead {
-                line: *line,
-                query: *query,
-                name,
-                parameters: parameters.as_slice(),
-                result,
-                locals: locals.as_slice(),
-            };
-            approve_procedure(alloc, scope, &head, body)
-        }
+        Declaration::Procedure { .. } => match as_procedure(declaration) {
+            None => unreachable!(),
+            Some((head, body)) => approve_procedure(alloc, scope, &head, body),
+        },
     }
 }
 

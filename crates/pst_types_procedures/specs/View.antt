@@ -1,5 +1,5 @@
 -- What a procedure's head in the checker stands for in the definitions.
-use Rattle.std.specs.Prelude.{ℕ, List, map, Result}
+use Rattle.std.specs.Prelude.{ℕ, List, map, Option, None, Some, Result}
 use Rattle.std.specs.Borrow.{Bor}
 use Rattle.std.specs.Option.{option_map}
 use Rattle.pst_tree.specs.Syntax as tree
@@ -26,6 +26,12 @@ procedure_text_of p body = record {
   locals = map tree_view.local_of p.locals.now;
   body = body;
 }
+
+-- the text of a procedure, where a declaration is one
+abbrev pub as_procedure : tree.Item → Option tree.ProcedureText
+as_procedure (tree.Record line x limit fields) = None
+as_procedure (tree.Root line x kind) = None
+as_procedure (tree.Procedure p) = Some p
 
 -- parameters and locals by their names, in order
 abbrev pub variables_of : {S : Type 0} → IndexMap (Bor (List ℕ)) Variable S → List (List ℕ × Local)

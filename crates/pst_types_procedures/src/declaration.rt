@@ -5,7 +5,7 @@ ghost use Rattle.pst_tree.specs.Syntax as tree;
 ghost use Rattle.pst_tree.specs.View as tree_view;
 ghost use Rattle.pst_types_procedures.specs.View.{procedure_text_of, Notes};
 
-use crate::procedure::ProcedureHead;
+use crate::procedure::{ProcedureHead, as_procedure};
 use pst_base::{MOST_ROOTS, ProcNo, TypeNo};
 use pst_tree::{Declaration, Fields, Identifier, TypeName};
 use pst_types_scope::{RecordType, Scope, Signature, Word, lay_out};
@@ -100,24 +100,9 @@ pub fn note<'t>(
             ..
         } => note_record(alloc, scope, *line, name, fields),
         Declaration::Root { line, name, kind } => note_root(scope, *line, name, kind),
-        Declaration::Procedure {
-            line,
-            query,
-            name,
-            parameters,
-            result,
-            locals,
-            ..
-        } => {
-            let head = ProcedureHead {
-                line: *line,
-                query: *query,
-                name,
-                parameters: parameters.as_slice(),
-                result,
-                locals: locals.as_slice(),
-            };
-            note_procedure(scope, &head)
-        }
+        Declaration::Procedure { .. } => match as_procedure(declaration) {
+            None => unreachable!(),
+            Some((head, _)) => note_procedure(scope, &head),
+        },
     }
 }

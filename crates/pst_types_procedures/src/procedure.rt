@@ -10,13 +10,13 @@ ghost use Rattle.pst_typing.specs.Declarations.{variable, is_new, is_result_know
 ghost use Rattle.pst_typing.specs.Names.{kind_of, is_named};
 ghost use Rattle.pst_typing.specs.View.{Answers, Approves};
 ghost use Rattle.pst_types_scope.specs.View.{kind_word, local_of, scope_of, setting_of};
-ghost use Rattle.pst_types_procedures.specs.View.{procedure_text_of, variables_of, AddsVariables};
+ghost use Rattle.pst_types_procedures.specs.View.{procedure_text_of, as_procedure, variables_of, AddsVariables};
 ghost use Rattle.pst_types_procedures.specs.Parts.{counted, variables_in, stand_in, procedure_in, by_parts};
 
 use indexmap::IndexMap;
 use pst_base::{Kind, Kinds, Text};
 use pst_program::TypedProc;
-use pst_tree::{Block, Identifier, Local, TypeName};
+use pst_tree::{Block, Declaration, Identifier, Local, TypeName};
 use pst_types_scope::{Scope, Setting, Variable, Word};
 use pst_types_statements::{approve_block, judge_block};
 use pst_typing::TypeFault;
@@ -32,6 +32,34 @@ pub struct ProcedureHead<'t> {
     pub parameters: &'t [Local],
     pub result: &'t Option<TypeName>,
     pub locals: &'t [Local],
+}
+
+/// The two parts of a procedure, its head and its body. `None` of a record type and of a root.
+pub fn as_procedure<'t>(declaration: &'t Declaration) -> Option<(ProcedureHead<'t>, &'t Block)>
+    ensures { option_map (λ p. procedure_text_of p.0 (phrases_of p.1.now)) result ≡ as_procedure (tree_view.item_of declaration.now) }
+{
+    match declaration {
+        Declaration::Record { .. } | Declaration::Root { .. } => None,
+        Declaration::Procedure {
+            line,
+            query,
+            name,
+            parameters,
+            result,
+            locals,
+            body,
+        } => {
+            let head = ProcedureHead {
+                line: *line,
+                query: *query,
+                name,
+                parameters: parameters.as_slice(),
+                result,
+                locals: locals.as_slice(),
+            };
+            Some((head, body))
+        }
+    }
 }
 
 /// Whether neither a parameter or local before nor a root has the name.
