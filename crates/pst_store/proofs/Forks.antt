@@ -14,7 +14,7 @@ use Rattle.pst_order.specs.Places.{IsIn, IsInsertedAfter}
 use Rattle.pst_order.proofs.RankLemmas.{ranks_law}
 use Rattle.pst_store_meaning.specs.declared.place.Place.{Place}
 use Rattle.pst_store_meaning.specs.declared.place.Fork.{Fork}
-use Rattle.pst_store_meaning.specs.Store.{Stored, AreHeld, as_fork, state_of, IsStore}
+use Rattle.pst_store_meaning.specs.Store.{Stored, AreHeld, IsPlace, as_fork, state_of, IsStore}
 use Rattle.pst_store_meaning.specs.Steps.{IsNewPlace, forked, published}
 use Rattle.pst_store_meaning.proofs.Places.{in_list, slice_get-below, slice_get-map, count-le}
 use Rattle.pst_store_meaning.proofs.Forking.{fork_law, fork_refused_law, fork_broken_law}
@@ -155,6 +155,10 @@ module _ (s g : Stored) (parent : VersionNo) (run : RunNo) (at : Place) (e : s �
         open_still = ap (λ (row : ForkRow Place). row.published) x.2;
         origin = ap (option_map (λ (row : VersionRow Place). row.place)) o.1 ∙ ap (λ (row : ForkRow Place). Some row.from) (sym x.2);
       }
+
+  -- the place is one of the store's
+  pub publish_place : IsPlace g at
+  publish_place = subst (λ (g : Stored). IsPlace g at) e (inr (inl (record { index = at.number; fork = next.fork; at = next.stands; place = next.place })))
 
   pub publish_index : at.number < length s.forks
   publish_index = slice_get-below s.forks at.number next.fork next.stands

@@ -47,6 +47,15 @@ pub fn reserve_one(forks: &mut ForkList, roots: &mut Vec<Near>) -> Result<(), No
     Ok(())
 }
 
+/// Notes the root's node at a place, to look for it from there the next time. A node that is cut keeps what is before, so that the one at
+/// the place stands there, or is one of those that come next.
+#[inline(always)]
+pub fn note_root(roots: &mut Vec<Near>, at: Place, root: NodeId) {
+    if let Some(near) = roots.get_mut(at.number as usize) {
+        *near = Near::of(root);
+    }
+}
+
 /// For each of so many forks the first node of the root record: where a root is looked for as long as nothing nearer is known.
 pub fn first_roots(alloc: Global, count: usize) -> Result<Vec<Near>, NoMemory>
     ensures { IfOk result (λ roots. vec_len roots ≡ count) }

@@ -1,7 +1,7 @@
 //! A store that is started.
 
 use crate::fork_list::ForkList;
-use crate::forking::{Near, first_roots, insert_place, reserve_one};
+use crate::forking::{Near, first_roots, insert_place, note_root, reserve_one};
 use crate::types::{capacity_of, field_kind};
 use pst_base::{Counts, Kind, Name, NoMemory, NodeId, RunNo, Shape, SlotNo, TypeNo, VersionNo};
 use pst_order::Order;
@@ -21,7 +21,8 @@ pub struct Started<O: Order + Drop, N: FatNodes> {
     start: Place,
     versions: Versions<Place>,
     forks: ForkList,
-    // For each fork the root record's node at the place that was forked, as it was then: a place to look from.
+    // For each fork the root record's node at its place, as it was when the place was forked last or published; before that, the one
+    // at the place that was forked: where to look from.
     roots: Vec<Near>,
     calls: u32,
     // Over which places the records live that an image had, and how many runs it tells of that have no fork: none where the store was
@@ -517,6 +518,7 @@ impl<O: Order + Drop, N: FatNodes> Started<O, N> {
         ensures err { OnErr result (ForkRefused (state_of self.old) (state_of self.new)) }
     {
         let root = self.root(from);
+        note_root(&mut self.roots, from, root);
         self.calls += 1;
         reserve_one(&mut self.forks, &mut self.roots)?;
         let number = self.forks.len() as u32;
@@ -543,8 +545,10 @@ impl<O: Order + Drop, N: FatNodes> Started<O, N> {
         ensures ok { IfOk result (λ version. Published (state_of self.old) parent run at version (state_of self.new)) }
         ensures err { OnErr result (Same self.old self.new × Stays self.old self.new) }
     {
+        let root = self.root(at);
         let version = self.versions.publish(parent, run, at)?;
         self.forks.mark_published(at.number);
+        note_root(&mut self.roots, at, root);
         Ok(version)
     }
 

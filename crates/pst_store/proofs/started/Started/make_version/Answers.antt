@@ -1,7 +1,11 @@
 use Rattle.std.proofs.Common.{rules}
 use Rattle.pst_store.proofs.Stores.{on_err}
-use Rattle.pst_store.proofs.Forks.{publish_few, publish_index, published_kept, published_done, unpublished}
+use Rattle.pst_store.proofs.Forks.{publish_few, publish_place, publish_index, published_kept, published_done, unpublished}
 use Rattle.pst_store.proofs.started.Started.make_version.Goals as goal
+
+pub root-root-requires : goal.root-root-requires
+root-root-requires g c =
+    publish_place _ _ c.args.parent c.args.run c.args.at c.self.view_is c.self.invariant c.requires.there c.requires.forked
 
 pub publish-requires-clause-few : goal.publish-requires-clause-few
 publish-requires-clause-few g c =
