@@ -1,5 +1,5 @@
 -- What a part of a run leaves: the names of other runs, and all of a heap that it can't write.
-use Rattle.std.proofs.Common.{◌≡◌, ◌≢◌, Bool, true, false, IsTrue, Option, Some, None, Result, Ok, Err, OnErr, inl, inr, refl, ap, sym, ◌∙◌, subst}
+use Rattle.std.proofs.Common.{◌≡◌, ◌≢◌, Bool, true, false, IsTrue, Option, Some, None, Result, Ok, Err, OnErr, OnOk, inl, inr, refl, ap, sym, ◌∙◌, subst}
 use Rattle.std.specs.FinMap.{get}
 use Rattle.pst_base.specs.declared.names.Name.{Name}
 use Rattle.pst_base.specs.declared.names.TypeNo.{TypeNo}
@@ -83,6 +83,11 @@ module _ {P R : Type 0} (parts : Parts) (valid : IsValidCode parts) (s t : State
           | inr e ↦ ap (λ h. get h n) e ∙ fresh.fresh q (ran.kept.keeps.back q has)
         ];
       }
+
+-- what is so of each result
+pub on_ok : {X E Q : Type 0} (r : Result X E) → Q → OnOk r Q
+on_ok (Ok v) q = q
+on_ok (Err w) q = tt
 
 -- what is so of each error
 pub on_err : {X E Q : Type 0} (r : Result X E) → Q → OnErr r Q

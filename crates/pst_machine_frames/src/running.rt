@@ -1,6 +1,6 @@
 //! Runs from one charge that is due to the next, or to the end.
 
-ghost use Rattle.std.specs.Prelude.{◌≡◌, ◌+◌, ◌<◌, ◌^◌, None, Some, IfOk, OnOk, OnErr, length};
+ghost use Rattle.std.specs.Prelude.{◌≡◌, ◌+◌, ◌<◌, ◌^◌, None, Some, IfOk, IfSome, OnOk, OnErr, length};
 ghost use Rattle.pst_code.specs.declared.instr.Instr.TheVariants as instr;
 ghost use Rattle.pst_code.specs.Valid.{IsValidCode};
 ghost use Rattle.pst_code.specs.Machine.{next_instr};
@@ -9,12 +9,13 @@ ghost use Rattle.pst_machine_steps.specs.View.{number_in, procedure_of, AtEachMe
 ghost use Rattle.pst_machine_steps.specs.Live.{IsLiveSomewhere, IsRoot};
 ghost use Rattle.pst_machine_steps.specs.Calls.{held_in, HasRegister, HoldsNumber};
 ghost use Rattle.pst_machine_frames.specs.Ready.{Printed, step_of, whole, came_to, IfOut, IfNext, came_with, IfDue, current_of, IsRunning, IsFunded, CameApart, FallsApart, GoesOnApart, IsDue, IsOff, IsOut, IsRest, LeavesApart, Ran, RanApart};
+ghost use Rattle.pst_machine_steps.specs.Steps.{IsSeen};
 ghost use Rattle.pst_machine_steps.specs.Fields.{KeepsOthers};
 
 use pst_base::{Kind, NoMemory, Op, TrapKind, TypeNo};
 use pst_code::{Code, Instr, Procedure, Reg};
 use pst_machine_steps::{
-    CallFrame, Element, Register, Standing, Step, apply, bound, call, check, copy, jump,
+    CallFrame, Element, Register, Standing, Step, Top, apply, bound, call, check, copy, jump,
     jump_at_most, jump_less, leave, load, load_element, make, negate, operand, read, renew, root,
     same, set, set_root, store, store_element, take_charge,
 };
@@ -79,11 +80,11 @@ fn run_frames<H: HeapAt>(
         stale += 1;
     }
     // A reference to the root record can be used to the end of the slice, so that it is looked for once.
-    let top = heap.root(standing.place);
+    let mut top = Top::new(heap.root(standing.place));
     loop {
         let procedure = code.body(frame.procedure);
         match run_near(
-            standing, frame, left, code, procedure, heap, top, &mut stale,
+            standing, frame, left, code, procedure, heap, &mut top, &mut stale,
         )? {
             Step::Switched => {}
             step => return Ok(step),
@@ -101,19 +102,22 @@ fn run_near<H: HeapAt>(
     code: &Code,
     procedure: &Procedure,
     heap: &mut H,
-    top: H::Ref,
+    top: &mut Top<H::Ref>,
     stale: &mut usize,
 ) -> Result<Step, NoMemory>
     requires valid { IsValidCode code.now }
     requires running { IsRunning code.now (H.state heap.old) (whole standing.old frame.old left.old) }
     requires funded { IsFunded code.now (H.state heap.old) (whole standing.old frame.old left.old) }
-    requires top { IsRoot (H.state heap.old) standing.old.place top }
+    requires top { IsRoot (H.state heap.old) standing.old.place top.old.root }
+    requires last { IfSome top.old.last (IsSeen (H.state heap.old) standing.old.place) }
     requires procedure { procedure_of code.now frame.old.procedure ≡ procedure.now }
     ensures ran { IfOk result (RanApart H.state code.now heap.old standing.old frame.old left.old heap.new standing.new frame.new left.new) }
     ensures falls { IfOk result (FallsApart H.state code.now heap.old standing.old frame.old left.old heap.new standing.new frame.new left.new) }
     ensures out { IfOk result IsOut }
     ensures err { OnErr result (KeepsOthers standing.old.place (H.state heap.old) (H.state heap.new)) }
     ensures reads { OnErr result (¬ ((H.state heap.old).writable standing.old.place) → Unchanged (H.state heap.old) (H.state heap.new)) }
+    ensures top { top.new.root ≡ top.old.root }
+    ensures last { OnOk result (IfSome top.new.last (IsSeen (H.state heap.new) standing.old.place)) }
     ensures home { (standing.new.place ≡ standing.old.place) × (standing.new.run ≡ standing.old.run) }
 {
     let waiting = standing.callers.len();
@@ -133,18 +137,21 @@ fn run_frame<H: HeapAt>(
     code: &Code,
     procedure: &Procedure,
     heap: &mut H,
-    top: H::Ref,
+    top: &mut Top<H::Ref>,
 ) -> Result<Step, NoMemory>
     requires valid { IsValidCode code.now }
     requires running { IsRunning code.now (H.state heap.old) (whole standing.old frame.old left.old) }
     requires funded { IsFunded code.now (H.state heap.old) (whole standing.old frame.old left.old) }
-    requires top { IsRoot (H.state heap.old) standing.old.place top }
+    requires top { IsRoot (H.state heap.old) standing.old.place top.old.root }
+    requires last { IfSome top.old.last (IsSeen (H.state heap.old) standing.old.place) }
     requires procedure { procedure_of code.now frame.old.procedure ≡ procedure.now }
     ensures ran { IfOk result (RanApart H.state code.now heap.old standing.old frame.old left.old heap.new standing.new frame.new left.new) }
     ensures falls { IfOk result (FallsApart H.state code.now heap.old standing.old frame.old left.old heap.new standing.new frame.new left.new) }
     ensures out { IfOk result IsOut }
     ensures err { OnErr result (KeepsOthers standing.old.place (H.state heap.old) (H.state heap.new)) }
     ensures reads { OnErr result (¬ ((H.state heap.old).writable standing.old.place) → Unchanged (H.state heap.old) (H.state heap.new)) }
+    ensures top { top.new.root ≡ top.old.root }
+    ensures last { OnOk result (IfSome top.new.last (IsSeen (H.state heap.new) standing.old.place)) }
     ensures home { (standing.new.place ≡ standing.old.place) × (standing.new.run ≡ standing.old.run) }
 {
     match go_on(standing, frame, left, code, procedure, heap, top)? {
@@ -162,18 +169,21 @@ fn go_on<'a, H: HeapAt>(
     code: &Code,
     procedure: &'a Procedure,
     heap: &mut H,
-    top: H::Ref,
+    top: &mut Top<H::Ref>,
 ) -> Result<Rested<'a>, NoMemory>
     requires valid { IsValidCode code.now }
     requires running { IsRunning code.now (H.state heap.old) (whole standing.old frame.old left.old) }
     requires funded { IsFunded code.now (H.state heap.old) (whole standing.old frame.old left.old) }
-    requires top { IsRoot (H.state heap.old) standing.old.place top }
+    requires top { IsRoot (H.state heap.old) standing.old.place top.old.root }
+    requires last { IfSome top.old.last (IsSeen (H.state heap.old) standing.old.place) }
     requires procedure { procedure_of code.now frame.old.procedure ≡ procedure.now }
     ensures ran { IfOk result (λ rested. LeavesApart H.state code.now heap.old standing.old frame.old left.old heap.new standing.new frame.new left.new (came_with rested)) }
     ensures due { IfOk result (λ rested. IfDue rested (λ instr. next_instr (current_of code.now (H.state heap.new) (whole standing.new frame.new left.new)) ≡ Some instr)) }
     ensures at { IfOk result (λ rested. IfDue rested (λ instr. frame.new.at + 1 < 2 ^ 64)) }
     ensures err { OnErr result (KeepsOthers standing.old.place (H.state heap.old) (H.state heap.new)) }
     ensures reads { OnErr result (¬ ((H.state heap.old).writable standing.old.place) → Unchanged (H.state heap.old) (H.state heap.new)) }
+    ensures top { top.new.root ≡ top.old.root }
+    ensures last { OnOk result (IfSome top.new.last (IsSeen (H.state heap.new) standing.old.place)) }
     ensures home { (standing.new.place ≡ standing.old.place) × (standing.new.run ≡ standing.old.run) }
 {
     let instrs = procedure.instructions.as_slice();
@@ -212,14 +222,15 @@ fn step<H: HeapAt>(
     procedure: &Procedure,
     kinds: &[Kind],
     heap: &mut H,
-    top: H::Ref,
+    top: &mut Top<H::Ref>,
     instr: &Instr,
     out: &mut Option<Step>,
 ) -> Result<Flow, NoMemory>
     requires valid { IsValidCode code.now }
     requires running { IsRunning code.now (H.state heap.old) (whole standing.old frame.old left.old) }
     requires funded { IsFunded code.now (H.state heap.old) (whole standing.old frame.old left.old) }
-    requires top { IsRoot (H.state heap.old) standing.old.place top }
+    requires top { IsRoot (H.state heap.old) standing.old.place top.old.root }
+    requires last { IfSome top.old.last (IsSeen (H.state heap.old) standing.old.place) }
     requires procedure { procedure_of code.now frame.old.procedure ≡ procedure.now }
     requires kinds { kinds.now ≡ procedure.now.kinds }
     requires at { frame.old.at + 1 < 2 ^ 64 }
@@ -228,6 +239,8 @@ fn step<H: HeapAt>(
     ensures next { IfOk result (λ flow. IfNext flow (frame.new.at ≡ frame.old.at + 1)) }
     ensures err { OnErr result (KeepsOthers standing.old.place (H.state heap.old) (H.state heap.new)) }
     ensures reads { OnErr result (¬ ((H.state heap.old).writable standing.old.place) → Unchanged (H.state heap.old) (H.state heap.new)) }
+    ensures top { top.new.root ≡ top.old.root }
+    ensures last { OnOk result (IfSome top.new.last (IsSeen (H.state heap.new) standing.old.place)) }
     ensures home { (standing.new.place ≡ standing.old.place) × (standing.new.run ≡ standing.old.run) }
 {
     match instruction(standing, frame, left, code, kinds, heap, top, instr, out)? {
@@ -297,6 +310,22 @@ fn flow_behind(step: Step, out: &mut Option<Step>) -> Flow
     }
 }
 
+/// The same of a write, which goes on or traps.
+#[inline(always)]
+fn written(trap: Option<TrapKind>, out: &mut Option<Step>) -> Flow
+    ensures came { came_to result out.new ≡ Some (step_of trap) }
+    ensures out { IfOut result (IsOff out.new) }
+    ensures next { IfNext result (trap ≡ None) }
+{
+    match trap {
+        None => Flow::Behind,
+        Some(kind) => {
+            *out = Some(Step::Trap(kind));
+            Flow::Out
+        }
+    }
+}
+
 /// Where a call or a return is due.
 #[inline(always)]
 fn left_due(out: &mut Option<Step>) -> Flow
@@ -318,14 +347,15 @@ fn instruction<H: HeapAt>(
     code: &Code,
     kinds: &[Kind],
     heap: &mut H,
-    top: H::Ref,
+    top: &mut Top<H::Ref>,
     instr: &Instr,
     out: &mut Option<Step>,
 ) -> Result<Flow, NoMemory>
     requires valid { IsValidCode code.now }
     requires running { IsRunning code.now (H.state heap.old) (whole standing.old frame.old left.old) }
     requires funded { IsFunded code.now (H.state heap.old) (whole standing.old frame.old left.old) }
-    requires top { IsRoot (H.state heap.old) standing.old.place top }
+    requires top { IsRoot (H.state heap.old) standing.old.place top.old.root }
+    requires last { IfSome top.old.last (IsSeen (H.state heap.old) standing.old.place) }
     requires kinds { kinds.now ≡ (procedure_of code.now frame.old.procedure).kinds }
     requires at { frame.old.at + 1 < 2 ^ 64 }
     requires instr { next_instr (current_of code.now (H.state heap.old) (whole standing.old frame.old left.old)) ≡ Some instr.now }
@@ -334,8 +364,11 @@ fn instruction<H: HeapAt>(
     ensures still { IfOk result (λ flow. IfNext flow (frame.new.at ≡ frame.old.at)) }
     ensures err { OnErr result (KeepsOthers standing.old.place (H.state heap.old) (H.state heap.new)) }
     ensures reads { OnErr result (¬ ((H.state heap.old).writable standing.old.place) → Unchanged (H.state heap.old) (H.state heap.new)) }
+    ensures top { top.new.root ≡ top.old.root }
+    ensures last { OnOk result (IfSome top.new.last (IsSeen (H.state heap.new) standing.old.place)) }
     ensures home { (standing.new.place ≡ standing.old.place) × (standing.new.run ≡ standing.old.run) }
 {
+    let at = standing.place;
     match instr {
         Instr::Charge(line) => Ok(flow_of(take_charge(left, frame, *line), out)),
         Instr::Const(d, n) => Ok(flow_of(set(frame, *d, Register::Number(*n)), out)),
@@ -347,41 +380,24 @@ fn instruction<H: HeapAt>(
         Instr::Div(d, a, b) => Ok(flow_behind(apply(frame, Op::Div, *d, *a, *b), out)),
         Instr::Rem(d, a, b) => Ok(flow_of(apply(frame, Op::Rem, *d, *a, *b), out)),
         Instr::Neg(d, a) => Ok(flow_behind(negate(frame, *d, *a), out)),
-        Instr::Root(d, slot) => Ok(flow_of(
-            root(heap, standing.place, top, frame, kinds, *d, *slot),
-            out,
-        )),
-        Instr::Setroot(slot, s) => Ok(flow_behind(
-            step_of(set_root(heap, standing.place, top, frame, *slot, *s)?),
-            out,
-        )),
+        Instr::Root(d, slot) => Ok(flow_of(root(heap, at, top, frame, kinds, *d, *slot), out)),
+        Instr::Setroot(slot, s) => Ok(written(set_root(heap, at, top, frame, *slot, *s)?, out)),
         Instr::Check(o) => Ok(flow_behind(check(frame, *o), out)),
-        Instr::Load(d, o, slot) => {
-            Ok(flow_of(load(heap, standing.place, frame, kinds, *d, *o, *slot), out))
-        }
-        Instr::Store(o, slot, s) => Ok(flow_behind(
-            step_of(store(heap, standing.place, frame, *o, *slot, *s)?),
-            out,
-        )),
+        Instr::Load(d, o, slot) => Ok(flow_of(load(heap, at, frame, kinds, *d, *o, *slot), out)),
+        Instr::Store(o, slot, s) => Ok(written(store(heap, at, top, frame, *o, *slot, *s)?, out)),
         Instr::Bound(i, elements) => Ok(flow_behind(bound(frame, *i, *elements), out)),
         Instr::Loadx(d, o, first, elements, i) => {
             let element = Element::new(*first, *elements, *i);
-            Ok(flow_behind(
-                load_element(heap, standing.place, frame, kinds, *d, *o, element),
-                out,
-            ))
+            Ok(flow_behind(load_element(heap, at, frame, kinds, *d, *o, element), out))
         }
         Instr::Storex(o, first, elements, i, s) => {
             let element = Element::new(*first, *elements, *i);
-            Ok(flow_behind(
-                step_of(store_element(heap, standing.place, frame, *o, element, *s)?),
-                out,
-            ))
+            Ok(written(store_element(heap, at, top, frame, *o, element, *s)?, out))
         }
         Instr::New(d, ty) => {
             let made = &mut standing.made;
             Ok(flow_behind(
-                make(heap, standing.place, standing.run, made, frame, *d, *ty)?,
+                make(heap, at, top, standing.run, made, frame, *d, *ty)?,
                 out,
             ))
         }
@@ -457,17 +473,6 @@ fn jump_unequal<H: HeapAt>(heap: &H, frame: &mut CallFrame<H::Ref>, a: Reg, b: R
 {
     let equal = same(heap, read(frame, a), read(frame, b));
     jump(frame, !equal, to)
-}
-
-/// Goes on after a write, or traps.
-#[inline(always)]
-fn step_of(trap: Option<TrapKind>) -> Step
-    ensures { result ≡ step_of trap }
-{
-    match trap {
-        None => Step::Next,
-        Some(kind) => Step::Trap(kind),
-    }
 }
 
 /// Prints a number, unless the run has printed 65,536.

@@ -7,7 +7,7 @@ use Rattle.pst_base.specs.declared.names.TrapKind.TheVariants.{Null as NullTrap,
 use Rattle.pst_base.specs.declared.names.Name.{Name}
 use Rattle.pst_base.specs.Name.{root_name}
 use Rattle.pst_base.specs.Heap.{kind_in}
-use Rattle.pst_program.specs.Value.{number_of, index_of}
+use Rattle.pst_program.specs.Value.{number_of, index_of, content}
 use Rattle.pst_program.specs.Sound.{IsOf}
 use Rattle.pst_program.specs.Meaning.{World}
 use Rattle.pst_code.specs.declared.instr.Reg.{Reg}
@@ -19,8 +19,10 @@ use Rattle.pst_machine_steps.specs.declared.fields.Element.{Element}
 use Rattle.pst_machine_steps.specs.declared.register.Register.{Register}
 use Rattle.pst_machine_steps.specs.declared.register.Register.TheVariants.{Number, Null, Reference}
 use Rattle.pst_machine_steps.specs.declared.standing.CallFrame.{CallFrame}
+use Rattle.pst_machine_steps.specs.declared.standing.Seen.{Seen}
 use Rattle.pst_machine_steps.specs.declared.standing.Step.{Step}
 use Rattle.pst_machine_steps.specs.declared.standing.Step.TheVariants.{Next, Here, Switched, Waits, Ends, Trap}
+use Rattle.pst_machine_steps.specs.declared.standing.Top.{Top}
 use Rattle.pst_machine_steps.specs.View.{value_of, frame_of, move_of}
 use Rattle.pst_machine_steps.specs.Live.{IsLive}
 use Rattle.pst_machine_steps.specs.Calls.{held_in}
@@ -43,6 +45,16 @@ ReadsAs s at old move step new = (parts : Parts) (c : List Caller) (w : World) �
 -- so with the move of this instruction: the step carries it out
 abbrev pub Reads : {P R : Type 0} → State P R → (at : P) → (old : CallFrame R) → Instr → Step → (new : CallFrame R) → Type 0
 Reads s at old instr step new = ReadsAs s at old (λ parts. act parts (Some instr)) step new
+
+-- what was seen of a field of the root record is what it holds at a place, and can be used there
+pub record IsSeen {P R : Type 0} (s : State P R) (at : P) (seen : Seen R) : Type 0 where
+  pub value : value_of s.name seen.value ≡ content (kind_in s.shape (s.heap at) root_name seen.slot.0) (s.heap at) root_name seen.slot.0
+  pub live : IsLive s at seen.value
+
+-- what was read of the root record is known no more
+pub record Forgets {R : Type 0} (before after : Top R) : Type 0 where
+  pub root : after.root ≡ before.root
+  pub last : after.last ≡ None
 
 -- a field of the root record can be given what a register holds
 pub record MayWriteRoot {P R : Type 0} (s : State P R) (at : P) (slot : ℕ) (v : Register R) : Type 0 where

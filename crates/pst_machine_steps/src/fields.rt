@@ -1,6 +1,6 @@
 //! The instructions that read and write records.
 
-ghost use Rattle.std.specs.Prelude.{◌≡◌, ◌+◌, ◌<◌, ◌≤◌, ◌^◌, All, map, Some, IfOk, OnOk, OnErr, length, slice_get, slice_index_or, slice_set};
+ghost use Rattle.std.specs.Prelude.{◌≡◌, ◌+◌, ◌<◌, ◌≤◌, ◌^◌, All, map, Some, IfOk, IfSome, OnOk, OnErr, length, slice_get, slice_index_or, slice_set};
 ghost use Rattle.std.specs.Option.{option_map};
 ghost use Rattle.pst_base.specs.Name.{root_name};
 ghost use Rattle.pst_base.specs.Heap.{kind_in};
@@ -12,12 +12,12 @@ ghost use Rattle.pst_places.specs.Store.{MayStorePointer};
 ghost use Rattle.pst_machine_steps.specs.View.{value_of, frame_of, StaysAt};
 ghost use Rattle.pst_machine_steps.specs.Live.{IsLive, IsPlainRegister, IsRoot};
 ghost use Rattle.pst_machine_steps.specs.Calls.{held_in, HasRegister, HoldsNumber};
-ghost use Rattle.pst_machine_steps.specs.Steps.{MayWriteRoot, MayStore, MayStoreElements, Reads, Stored, StoredElement, slot_in, RefusesElement};
+ghost use Rattle.pst_machine_steps.specs.Steps.{Forgets, IsSeen, MayWriteRoot, MayStore, MayStoreElements, Reads, Stored, StoredElement, slot_in, RefusesElement};
 ghost use Rattle.pst_machine_steps.specs.Fields.{FieldIs, ElementsAre, MayWriteField, FieldWritten, PointerWritten, Made, KeepsOthers};
 
 use crate::frame::{index, read, set};
 use crate::register::Register;
-use crate::standing::{CallFrame, Step};
+use crate::standing::{CallFrame, Seen, Step, Top};
 use pst_base::{Kind, Name, NoMemory, RunNo, SlotNo, TrapKind, TypeNo};
 use pst_code::Reg;
 use pst_places::{HeapAt, StoreFault};
@@ -107,12 +107,12 @@ fn renew_all<H: HeapAt>(heap: &H, at: H::Place, registers: &mut Vec<Register<H::
     }
 }
 
-/// Sets a register to a field of the root record, which is of the register's kind. A reference to the root record is at hand.
+/// Sets a register to a field of the root record, which is of the register's kind.
 #[inline(always)]
 pub fn root<H: HeapAt>(
     heap: &H,
     at: H::Place,
-    top: H::Ref,
+    top: &mut Top<H::Ref>,
     frame: &mut CallFrame<H::Ref>,
     kinds: &[Kind],
     d: Reg,
@@ -120,15 +120,45 @@ pub fn root<H: HeapAt>(
 ) -> Step
     requires there { HasRegister frame.old d }
     requires kinds { d.0 < length kinds.now }
-    requires top { IsRoot (H.state heap.now) at top }
+    requires top { IsRoot (H.state heap.now) at top.old.root }
+    requires last { IfSome top.old.last (IsSeen (H.state heap.now) at) }
     requires kind { kind_in (H.state heap.now).shape ((H.state heap.now).heap at) root_name slot.0 ≡ slice_get kinds.now d.0 }
     ensures acts { Reads (H.state heap.now) at frame.old (instr.Root d slot) result frame.new }
     ensures live { All (IsLive (H.state heap.now) at) frame.old.registers.items → All (IsLive (H.state heap.now) at) frame.new.registers.items }
     ensures same { frame.new.procedure ≡ frame.old.procedure }
     ensures still { StaysAt frame.old result frame.new }
+    ensures top { top.new.root ≡ top.old.root }
+    ensures last { IfSome top.new.last (IsSeen (H.state heap.now) at) }
 {
-    let v = field(heap, at, top, slot, kind_at(kinds, d));
+    let v = top_field(heap, at, top, slot, kind_at(kinds, d));
     set(frame, d, v)
+}
+
+/// What a field of the root record holds, at a place. It is looked up unless it was the last one that was.
+#[inline(always)]
+fn top_field<H: HeapAt>(
+    heap: &H,
+    at: H::Place,
+    top: &mut Top<H::Ref>,
+    slot: SlotNo,
+    kind: Kind,
+) -> Register<H::Ref>
+    requires top { IsRoot (H.state heap.now) at top.old.root }
+    requires last { IfSome top.old.last (IsSeen (H.state heap.now) at) }
+    requires kind { kind_in (H.state heap.now).shape ((H.state heap.now).heap at) root_name slot.0 ≡ Some kind }
+    ensures value { value_of (H.state heap.now).name result ≡ content (Some kind) ((H.state heap.now).heap at) root_name slot.0 }
+    ensures live { IsLive (H.state heap.now) at result }
+    ensures top { top.new.root ≡ top.old.root }
+    ensures last { IfSome top.new.last (IsSeen (H.state heap.now) at) }
+{
+    if let Some(seen) = top.last {
+        if seen.slot == slot {
+            return seen.value;
+        }
+    }
+    let value = field(heap, at, top.root, slot, kind);
+    top.last = Some(Seen { slot, value });
+    value
 }
 
 /// Sets a register to a field of the record that another one points to, which is of the register's kind; null traps.
@@ -218,24 +248,26 @@ pub fn write<H: HeapAt>(
     }
 }
 
-/// Writes a field of the root record, to which a reference is at hand. The answer is why it was refused, if it was.
+/// Writes a field of the root record. The answer is why it was refused, if it was.
 #[inline(always)]
 pub fn set_root<H: HeapAt>(
     heap: &mut H,
     at: H::Place,
-    top: H::Ref,
+    top: &mut Top<H::Ref>,
     frame: &CallFrame<H::Ref>,
     slot: SlotNo,
     s: Reg,
 ) -> Result<Option<TrapKind>, NoMemory>
     requires there { HasRegister frame.now s }
-    requires top { IsRoot (H.state heap.old) at top }
+    requires top { IsRoot (H.state heap.old) at top.old.root }
     requires may { MayWriteRoot (H.state heap.old) at slot.0 (held_in frame.now s) }
     ensures ok { IfOk result (λ trap. FieldWritten (H.state heap.old) at root_name slot.0 (held_in frame.now s) trap (H.state heap.new)) }
     ensures err { OnErr result (KeepsOthers at (H.state heap.old) (H.state heap.new)) }
+    ensures forgets { Forgets top.old top.new }
 {
+    top.forget();
     let v = read(frame, s);
-    write(heap, at, top, slot, v)
+    write(heap, at, top.root, slot, v)
 }
 
 /// Writes a field of the record that a register points to; null traps.
@@ -243,6 +275,7 @@ pub fn set_root<H: HeapAt>(
 pub fn store<H: HeapAt>(
     heap: &mut H,
     at: H::Place,
+    top: &mut Top<H::Ref>,
     frame: &CallFrame<H::Ref>,
     object: Reg,
     slot: SlotNo,
@@ -253,7 +286,9 @@ pub fn store<H: HeapAt>(
     ensures ok { IfOk result (λ trap. Stored (H.state heap.old) at (held_in frame.now object) slot.0 (held_in frame.now s) trap (H.state heap.new)) }
     ensures null { IsPlainRegister (held_in frame.now object) → heap.new ≡ heap.old }
     ensures err { OnErr result (KeepsOthers at (H.state heap.old) (H.state heap.new)) }
+    ensures forgets { Forgets top.old top.new }
 {
+    top.forget();
     match read(frame, object) {
         Register::Reference(r) => {
             let v = read(frame, s);
@@ -268,6 +303,7 @@ pub fn store<H: HeapAt>(
 pub fn store_element<H: HeapAt>(
     heap: &mut H,
     at: H::Place,
+    top: &mut Top<H::Ref>,
     frame: &CallFrame<H::Ref>,
     object: Reg,
     element: Element,
@@ -279,7 +315,9 @@ pub fn store_element<H: HeapAt>(
     ensures ok { IfOk result (λ trap. StoredElement (H.state heap.old) at frame.now object element (held_in frame.now s) trap (H.state heap.new)) }
     ensures refused { RefusesElement (held_in frame.now object) (slot_in (H.state heap.old).name frame.now element) → heap.new ≡ heap.old }
     ensures err { OnErr result (KeepsOthers at (H.state heap.old) (H.state heap.new)) }
+    ensures forgets { Forgets top.old top.new }
 {
+    top.forget();
     let Register::Reference(r) = read(frame, object) else {
         return Ok(Some(TrapKind::Null));
     };
@@ -317,6 +355,7 @@ fn write_pointer<H: HeapAt>(
 pub fn make<H: HeapAt>(
     heap: &mut H,
     at: H::Place,
+    top: &mut Top<H::Ref>,
     run: RunNo,
     made: &mut u32,
     frame: &mut CallFrame<H::Ref>,
@@ -333,7 +372,9 @@ pub fn make<H: HeapAt>(
     ensures still { IfOk result (λ step. StaysAt frame.old step frame.new) }
     ensures made { OnOk result (made.new ≡ made.old + 1) }
     ensures err { OnErr result (KeepsOthers at (H.state heap.old) (H.state heap.new)) }
+    ensures forgets { Forgets top.old top.new }
 {
+    top.forget();
     let name = Name {
         run,
         ordinal: *made,

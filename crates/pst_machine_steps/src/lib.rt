@@ -24,4 +24,4 @@ pub use fields::{Element, load, load_element, make, renew, root, set_root, store
 pub use frame::{held, operand, read, set};
 pub use plain::{apply, bound, check, copy, jump, jump_at_most, jump_less, negate, take_charge};
 pub use register::{Register, same};
-pub use standing::{CallFrame, Standing, Step, Waiting};
+pub use standing::{CallFrame, Seen, Standing, Step, Top, Waiting};

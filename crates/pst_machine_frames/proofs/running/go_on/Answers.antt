@@ -1,10 +1,12 @@
-use Rattle.std.proofs.Common.{◌≡◌, ℕ, ◌+◌, ◌-◌, ◌<◌, ◌^◌, List, Option, Some, None, length, take, drop, ap, sym, subst, arith, ◌∙◌}
+use Rattle.std.proofs.Common.{◌≡◌, ℕ, ◌+◌, ◌-◌, ◌<◌, ◌^◌, List, Option, Some, None, IfSome, length, take, drop, ap, sym, subst, arith, ◌∙◌}
 use Rattle.std.proofs.lemmas.List.{drop-drop, take_rest}
 use Rattle.pst_code.specs.declared.instr.Instr.{Instr}
 use Rattle.pst_code.specs.Machine.{next_instr}
 use Rattle.pst_machine_steps.specs.declared.standing.Step.{Step}
 use Rattle.pst_machine_steps.specs.declared.standing.Step.TheVariants.{Here, Switched}
 use Rattle.pst_machine_steps.specs.View.{procedure_of}
+use Rattle.pst_machine_steps.specs.Live.{IsRoot}
+use Rattle.pst_machine_steps.specs.Steps.{IsSeen}
 use Rattle.pst_machine_frames.specs.declared.running.Flow.{Flow}
 use Rattle.pst_machine_frames.specs.declared.running.Rested.{Rested}
 use Rattle.pst_machine_frames.specs.Ready.{GoesOn, IfNext, IfDue, Leaves, LeavesBy, StaysOn, came_with, current_of, whole}
@@ -28,7 +30,9 @@ loop-rest-preserved-in-Next g c =
     record {
       ran = ran_on parts s0 s t a0 a b Switched c.loop-rest.invariant.ran (goes_as_moves parts s t a b goes.ran);
       procedure = ap (procedure_of parts) goes.stays ∙ c.loop-rest.invariant.procedure;
-      top = root_kept parts s t a b Here c.args.top goes.ran c.loop-rest.invariant.top;
+      top = subst (λ (r : g.row.H-Ref.Denot). IsRoot t b.place r) (sym c.step.ensures.top) (root_kept parts s t a b Here c.loop-rest.top.root goes.ran c.loop-rest.invariant.top);
+      same = c.step.ensures.top ∙ c.loop-rest.invariant.same;
+      last = subst (λ (p : g.row.H-Place.Denot). IfSome c.step.new.top.last (IsSeen t p)) (sym goes.ran.place) c.in_ok-step.ensures.last;
       rest = take_rest c.loop-rest.rest.now 1 ∙ ap (drop 1) c.loop-rest.invariant.rest ∙ drop-drop 1 c.loop-rest.frame.at instrs ∙ ap (λ (i : ℕ). drop i instrs) (sym next);
     }
 
@@ -46,7 +50,9 @@ loop-rest-preserved g c =
     record {
       ran = ran_on parts s0 s t a0 a b Switched c.loop-rest.invariant.ran (goes_as_moves parts s t a b goes.ran);
       procedure = ap (procedure_of parts) goes.stays ∙ c.loop-rest.invariant.procedure;
-      top = root_kept parts s t a b Here c.args.top goes.ran c.loop-rest.invariant.top;
+      top = subst (λ (r : g.row.H-Ref.Denot). IsRoot t b.place r) (sym c.step.ensures.top) (root_kept parts s t a b Here c.loop-rest.top.root goes.ran c.loop-rest.invariant.top);
+      same = c.step.ensures.top ∙ c.loop-rest.invariant.same;
+      last = subst (λ (p : g.row.H-Place.Denot). IfSome c.step.new.top.last (IsSeen t p)) (sym goes.ran.place) c.in_ok-step.ensures.last;
       rest = ap (λ (is : List Instr). take (length is - c.step.new.frame.at) (drop c.step.new.frame.at is)) c.as_slice-instrs.ensures ∙ take_rest instrs c.step.new.frame.at;
     }
 
@@ -64,7 +70,9 @@ loop-rest-preserved-in-Behind g c =
     record {
       ran = ran_on parts s0 s t a0 a b Switched c.loop-rest.invariant.ran (goes_as_moves parts s t a b goes.ran);
       procedure = ap (procedure_of parts) goes.stays ∙ c.loop-rest.invariant.procedure;
-      top = root_kept parts s t a b Here c.args.top goes.ran c.loop-rest.invariant.top;
+      top = subst (λ (r : g.row.H-Ref.Denot). IsRoot t b.place r) (sym c.step.ensures.top) (root_kept parts s t a b Here c.loop-rest.top.root goes.ran c.loop-rest.invariant.top);
+      same = c.step.ensures.top ∙ c.loop-rest.invariant.same;
+      last = subst (λ (p : g.row.H-Place.Denot). IfSome c.step.new.top.last (IsSeen t p)) (sym goes.ran.place) c.in_ok-step.ensures.last;
       rest = ap (λ (is : List Instr). take (length is - c.step.new.frame.at) (drop c.step.new.frame.at is)) c.as_slice-instrs.ensures ∙ take_rest instrs c.step.new.frame.at;
     }
 
@@ -127,3 +135,8 @@ returns-in-Out-clause-at g c =
           let small : b.current.at + 1 < 2 ^ 64 = omega arith in
           subst (λ (r : Rested). IfDue r (λ instr. b.current.at + 1 < 2 ^ 64)) (sym w.result-is) small
     ]
+
+pub returns-in-Out-clause-last : goal.returns-in-Out-clause-last
+returns-in-Out-clause-last g c =
+    let t = g.H.HeapAt.state c.step.new.heap in
+    subst (λ (p : g.row.H-Place.Denot). IfSome c.step.new.top.last (IsSeen t p)) c.loop-rest.invariant.ran.place c.in_ok-step.ensures.last

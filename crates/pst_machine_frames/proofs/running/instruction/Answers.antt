@@ -14,7 +14,6 @@ use Rattle.pst_base.specs.declared.names.Kind.{Kind}
 use Rattle.pst_base.specs.declared.names.Kind.TheVariants.{Int, Pointer}
 use Rattle.pst_code.specs.declared.instr.Instr.{Instr}
 use Rattle.pst_code.specs.declared.instr.Instr.TheVariants.{Const, Null, Copy, Print, New, Add, Sub, Mul, Div, Rem, Neg, Root, Setroot, Check, Load, Store, Bound, Loadx, Storex, Jump, Jumpeq, Jumpne, Jumplt, Jumple, Jumpgt, Jumpge}
-use Rattle.pst_machine_steps.specs.declared.standing.Step.{Step}
 use Rattle.pst_machine_steps.specs.declared.standing.Step.TheVariants.{Trap}
 use Rattle.pst_machine_steps.specs.Live.{IsLive}
 use Rattle.pst_machine_steps.specs.Calls.{held_in, HoldsNumber}
@@ -359,10 +358,9 @@ returns-in_ok-set_root-in-Setroot-clause-acted g c =
     let parts = c.args.code.now in
     let t = g.H.HeapAt.state c.set_root.new.heap in
     let trap = c.in_ok-set_root-in-Setroot.field-0 in
-    came_acted c.flow_behind-in-Setroot.ensures.came
-    (subst (λ (x : Step). Acted parts s a c.args.instr.now x t a) (sym c.step_of.ensures)
+    came_acted c.written.ensures.came
     (subst (λ (i : Instr). Acted parts s a i (step_of trap) t a) (sym c.in-Setroot.is)
-    (written_acted parts s t a c.requires.running.live (Setroot c.in-Setroot.slot c.in-Setroot.s) root_name c.in-Setroot.slot.0 c.in-Setroot.s trap c.requires.running.shape refl c.in_ok-set_root-in-Setroot.ensures.ok)))
+    (written_acted parts s t a c.requires.running.live (Setroot c.in-Setroot.slot c.in-Setroot.s) root_name c.in-Setroot.slot.0 c.in-Setroot.s trap c.requires.running.shape refl c.in_ok-set_root-in-Setroot.ensures.ok))
 
 pub returns-in_ok-store-in-Store-clause-acted : goal.returns-in_ok-store-in-Store-clause-acted
 returns-in_ok-store-in-Store-clause-acted g c =
@@ -372,11 +370,10 @@ returns-in_ok-store-in-Store-clause-acted g c =
     let t = g.H.HeapAt.state c.store.new.heap in
     let instr = Store c.in-Store.o c.in-Store.slot c.in-Store.s in
     let trap = c.in_ok-store-in-Store.field-0 in
-    came_acted c.flow_behind-in-Store.ensures.came
-    (subst (λ (x : Step). Acted parts s a c.args.instr.now x t a) (sym c.step_of-in-Store.ensures)
+    came_acted c.written-in-Store.ensures.came
     (subst (λ (i : Instr). Acted parts s a i (step_of trap) t a) (sym c.in-Store.is)
     (stored_acted parts s a c.requires.running.live t c.in-Store.o c.in-Store.s c.in-Store.slot trap (held_in a.current c.in-Store.o) refl c.requires.running.shape c.in_ok-store-in-Store.ensures.ok
-    (λ plain. subst (λ (h : g.row.H.Denot). Acted parts s a instr (Trap NullTrap) (g.H.HeapAt.state h) a) (sym (c.in_ok-store-in-Store.ensures.null plain)) (null_acted parts s a c.requires.running.live c.in-Store.o c.in-Store.s c.in-Store.slot plain)))))
+    (λ plain. subst (λ (h : g.row.H.Denot). Acted parts s a instr (Trap NullTrap) (g.H.HeapAt.state h) a) (sym (c.in_ok-store-in-Store.ensures.null plain)) (null_acted parts s a c.requires.running.live c.in-Store.o c.in-Store.s c.in-Store.slot plain))))
 
 pub returns-in-Loadx-clause-acted : goal.returns-in-Loadx-clause-acted
 returns-in-Loadx-clause-acted g c =
@@ -401,11 +398,10 @@ returns-in_ok-store_element-in-Storex-clause-acted g c =
     let t = g.H.HeapAt.state c.store_element.new.heap in
     let instr = Storex i.o e.first e.elements e.index i.s in
     let trap = c.in_ok-store_element-in-Storex.field-0 in
-    came_acted c.flow_behind-in-Storex.ensures.came
-    (subst (λ (x : Step). Acted parts s a c.args.instr.now x t a) (sym c.step_of-in-Storex.ensures)
+    came_acted c.written-in-Storex.ensures.came
     (subst (λ (instr : Instr). Acted parts s a instr (step_of trap) t a) (ap (λ (e : Element). Storex i.o e.first e.elements e.index i.s) c.new-element-in-Storex.ensures ∙ sym i.is)
     (element_acted parts s t a c.requires.running.live i.o i.s e.index e.first e.elements c.requires.running.shape trap c.in_ok-store_element-in-Storex.ensures.ok
-    (λ refused step acted. subst (λ (h : g.row.H.Denot). Acted parts s a instr step (g.H.HeapAt.state h) a) (sym (c.in_ok-store_element-in-Storex.ensures.refused refused)) acted))))
+    (λ refused step acted. subst (λ (h : g.row.H.Denot). Acted parts s a instr step (g.H.HeapAt.state h) a) (sym (c.in_ok-store_element-in-Storex.ensures.refused refused)) acted)))
 
 pub returns-in_err-set_root-in-Setroot-clause-reads : goal.returns-in_err-set_root-in-Setroot-clause-reads
 returns-in_err-set_root-in-Setroot-clause-reads g c =

@@ -5,13 +5,13 @@ use Rattle.pst_machine_steps.specs.declared.standing.Step.TheVariants.{Switched}
 use Rattle.pst_machine_frames.specs.Ready.{IfDue, Leaves, came_with, current_of, whole, total_of}
 use Rattle.pst_machine_frames.specs.declared.running.Rested.{Rested}
 use Rattle.pst_machine_frames.proofs.Moving.{ran_on, below_on}
-use Rattle.pst_machine_frames.proofs.Reading.{on_err, ran_reads}
+use Rattle.pst_machine_frames.proofs.Reading.{on_err, on_ok, ran_reads}
 use Rattle.pst_machine_frames.proofs.running.run_frame.Goals as goal
 
 pub returns-in-At : goal.returns-in-At
 returns-in-At g c =
     let l = subst (λ (r : Rested). Leaves c.args.code.now (g.H.HeapAt.state c.args.heap.now) (whole c.args.standing.now c.args.frame.now c.args.left.now) (came_with r) (g.H.HeapAt.state c.go_on.new.heap) (whole c.go_on.new.standing c.go_on.new.frame c.go_on.new.left)) c.in-At.is c.in_ok-step.ensures.ran in
-    record { ran = l.0; falls = l.1; out = l.2; err = tt; reads = tt; home = c.go_on.ensures.home }
+    record { ran = l.0; falls = l.1; out = l.2; err = tt; reads = tt; top = c.go_on.ensures.top; last = c.in_ok-step.ensures.last; home = c.go_on.ensures.home }
 
 pub switch-requires : goal.switch-requires
 switch-requires g c =
@@ -41,5 +41,7 @@ returns-in-Due g c =
       out = c.switch.ensures.out;
       err = on_err c.switch.result l.0.kept;
       reads = on_err c.switch.result (ran_reads parts c.requires.valid s t a b c.requires.running Switched l.0);
+      top = c.go_on.ensures.top;
+      last = on_ok c.switch.result c.in_ok-step.ensures.last;
       home = (c.switch.ensures.home.0 ∙ c.go_on.ensures.home.0, c.switch.ensures.home.1 ∙ c.go_on.ensures.home.1);
     }

@@ -1,4 +1,4 @@
-use Rattle.std.proofs.Common.{ap, ◌∙◌, subst, length, Option, inl, inr, refl, ⊎_elim}
+use Rattle.std.proofs.Common.{ap, ◌∙◌, subst, sym, IfSome, length, Option, inl, inr, refl, ⊎_elim}
 use Rattle.std.specs.Prelude.{unwrap_or}
 use Rattle.std.proofs.lemmas.Bool.{cases_lt}
 use Rattle.std.proofs.lemmas.Option.{slice_get_past}
@@ -6,6 +6,9 @@ use Rattle.pst_code.specs.declared.procedure.Procedure.{Procedure}
 use Rattle.pst_machine_steps.specs.declared.standing.Step.{Step}
 use Rattle.pst_machine_steps.specs.declared.standing.Step.TheVariants.{Switched}
 use Rattle.pst_machine_steps.specs.View.{no_procedure}
+use Rattle.pst_machine_steps.specs.declared.standing.Seen.{Seen}
+use Rattle.pst_machine_steps.specs.Live.{IsRoot}
+use Rattle.pst_machine_steps.specs.Steps.{IsSeen}
 use Rattle.pst_machine_frames.specs.Ready.{Ran, whole, current_of}
 use Rattle.pst_machine_frames.proofs.Moving.{ran_none, ran_on, root_kept, rest_of, procedure_there}
 use Rattle.pst_machine_frames.proofs.Reading.{on_err, reads_on}
@@ -14,7 +17,8 @@ use Rattle.pst_machine_frames.proofs.running.run_frames.Goals as goal
 pub loop-step-init : goal.loop-step-init
 loop-step-init g c = record {
   ran = ran_none c.args.code.now (g.H.HeapAt.state c.args.heap.now) (whole c.args.standing.now c.args.frame.now c.args.left.now) c.requires.running c.requires.funded;
-  top = record { live = c.root-top.ensures.live; name = c.root-top.ensures.name };
+  top = subst (IsRoot (g.H.HeapAt.state c.args.heap.now) c.args.standing.now.place) (sym c.new-top.ensures.root) (record { live = c.root.ensures.live; name = c.root.ensures.name });
+  last = subst (λ (o : Option (Seen g.row.H-Ref.Denot)). IfSome o (IsSeen (g.H.HeapAt.state c.args.heap.now) c.args.standing.now.place)) (sym c.new-top.ensures.last) tt;
 }
 
 pub body-procedure-requires : goal.body-procedure-requires
@@ -37,7 +41,8 @@ loop-step-preserved g c =
     let moves : Ran parts s a Switched t b = subst (λ (x : Step). Ran parts s a x t b) c.in-Switched.is c.in_ok-step.ensures.ran in
     record {
       ran = ran_on parts (g.H.HeapAt.state c.args.heap.now) s t (whole c.args.standing.now c.args.frame.now c.args.left.now) a b Switched c.loop-step.invariant.ran moves;
-      top = root_kept parts s t a b Switched c.root-top.result moves c.loop-step.invariant.top;
+      top = subst (λ (r : g.row.H-Ref.Denot). IsRoot t b.place r) (sym c.run_near.ensures.top) (root_kept parts s t a b Switched c.loop-step.top.root moves c.loop-step.invariant.top);
+      last = subst (λ (p : g.row.H-Place.Denot). IfSome c.run_near.new.top.last (IsSeen t p)) (sym moves.place) c.in_ok-step.ensures.last;
     }
 
 pub returns-in_default : goal.returns-in_default
