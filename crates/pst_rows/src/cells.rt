@@ -30,7 +30,7 @@ const HEAD: usize = 3;
 const INLINE: usize = 1;
 
 // The slots behind the head, and the stamps.
-type List = SmallVec<Stamp, 1>;
+type List = SmallVec<Stamp, INLINE>;
 
 /// The slots of a row and its stamped values, in the order of slot and then place. The first slots stand in the row, in its head,
 /// so that a read of them touches the node alone; a list has the other slots and behind them the stamped values, 16 bytes each. A
