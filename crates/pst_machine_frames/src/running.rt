@@ -394,13 +394,7 @@ fn instruction<H: HeapAt>(
             let element = Element::new(*first, *elements, *i);
             Ok(written(store_element(heap, at, top, frame, *o, element, *s)?, out))
         }
-        Instr::New(d, ty) => {
-            let made = &mut standing.made;
-            Ok(flow_behind(
-                make(heap, at, top, standing.run, made, frame, *d, *ty)?,
-                out,
-            ))
-        }
+        Instr::New(d, ty) => Ok(flow_behind(make(heap, standing, top, frame, *d, *ty)?, out)),
         Instr::Print(s) => Ok(flow_behind(print(&mut standing.printed, frame, *s)?, out)),
         Instr::Jump(to) => Ok(flow_of(jump(frame, true, *to), out)),
         Instr::Jumpeq(a, b, to) => Ok(flow_behind(jump_equal(heap, frame, *a, *b, *to), out)),

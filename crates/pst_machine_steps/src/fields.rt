@@ -17,8 +17,8 @@ ghost use Rattle.pst_machine_steps.specs.Fields.{FieldIs, ElementsAre, MayWriteF
 
 use crate::frame::{index, read, set};
 use crate::register::Register;
-use crate::standing::{CallFrame, Seen, Step, Top};
-use pst_base::{Kind, Name, NoMemory, RunNo, SlotNo, TrapKind, TypeNo};
+use crate::standing::{CallFrame, Seen, Standing, Step, Top};
+use pst_base::{Kind, Name, NoMemory, SlotNo, TrapKind, TypeNo};
 use pst_code::Reg;
 use pst_places::{HeapAt, StoreFault};
 
@@ -354,32 +354,31 @@ fn write_pointer<H: HeapAt>(
 /// had made before.
 pub fn make<H: HeapAt>(
     heap: &mut H,
-    at: H::Place,
+    standing: &mut Standing<H::Place, H::Ref>,
     top: &mut Top<H::Ref>,
-    run: RunNo,
-    made: &mut u32,
     frame: &mut CallFrame<H::Ref>,
     d: Reg,
     ty: TypeNo,
 ) -> Result<Step, NoMemory>
     requires there { HasRegister frame.old d }
-    requires writable { (H.state heap.old).writable at }
+    requires writable { (H.state heap.old).writable standing.old.place }
     requires known_type { IsNewType (H.state heap.old) ty }
-    requires fresh { IsFresh (H.state heap.old) record { run = run; ordinal = made.old } }
-    requires numbered { made.old + 1 < 2 ^ 32 }
+    requires fresh { IsFresh (H.state heap.old) record { run = standing.old.run; ordinal = standing.old.made } }
+    requires numbered { standing.old.made + 1 < 2 ^ 32 }
     requires room { HasRoom (H.state heap.old) }
-    ensures ok { IfOk result (λ step. Made (H.state heap.old) at record { run = run; ordinal = made.old } frame.old d.0 ty step (H.state heap.new) frame.new) }
+    ensures ok { IfOk result (λ step. Made (H.state heap.old) standing.old.place record { run = standing.old.run; ordinal = standing.old.made } frame.old d.0 ty step (H.state heap.new) frame.new) }
     ensures still { IfOk result (λ step. StaysAt frame.old step frame.new) }
-    ensures made { OnOk result (made.new ≡ made.old + 1) }
-    ensures err { OnErr result (KeepsOthers at (H.state heap.old) (H.state heap.new)) }
+    ensures counted { OnOk result (standing.new ≡ record standing.old { made = standing.old.made + 1 }) }
+    ensures err { OnErr result (KeepsOthers standing.old.place (H.state heap.old) (H.state heap.new)) }
+    ensures stays { OnErr result (standing.new ≡ standing.old) }
     ensures forgets { Forgets top.old top.new }
 {
     top.forget();
     let name = Name {
-        run,
-        ordinal: *made,
+        run: standing.run,
+        ordinal: standing.made,
     };
-    let r = heap.allocate(at, ty, name)?;
-    *made += 1;
+    let r = heap.allocate(standing.place, ty, name)?;
+    standing.made += 1;
     Ok(set(frame, d, Register::Reference(r)))
 }

@@ -1,4 +1,4 @@
-use Rattle.std.proofs.Common.{refl, ap, sym, subst, ◌∙◌, ◌<◌, ℤ, Some, List, All, inl, inr, length, rules, slice_set}
+use Rattle.std.proofs.Common.{refl, ap, sym, subst, ◌∙◌, ◌+◌, ◌<◌, ℤ, Some, List, All, inl, inr, length, rules, slice_set}
 use Rattle.std.proofs.lemmas.Int.{to_z-of_z}
 use mir.Syntax.{w64}
 use mir.Val.{SFits}
@@ -14,6 +14,7 @@ use Rattle.pst_base.specs.declared.names.Kind.{Kind}
 use Rattle.pst_base.specs.declared.names.Kind.TheVariants.{Int, Pointer}
 use Rattle.pst_code.specs.declared.instr.Instr.{Instr}
 use Rattle.pst_code.specs.declared.instr.Instr.TheVariants.{Const, Null, Copy, Print, New, Add, Sub, Mul, Div, Rem, Neg, Root, Setroot, Check, Load, Store, Bound, Loadx, Storex, Jump, Jumpeq, Jumpne, Jumplt, Jumple, Jumpgt, Jumpge}
+use Rattle.pst_machine_steps.specs.declared.standing.Standing.{Standing}
 use Rattle.pst_machine_steps.specs.declared.standing.Step.TheVariants.{Trap}
 use Rattle.pst_machine_steps.specs.Live.{IsLive}
 use Rattle.pst_machine_steps.specs.Calls.{held_in, HoldsNumber}
@@ -665,9 +666,12 @@ returns-in_ok-make-in-New-clause-acted g c =
     let parts = c.args.code.now in
     let t = g.H.HeapAt.state c.make.new.heap in
     let step = c.in_ok-make-in-New.field-0 in
+    let made : Acted parts s a (New c.in-New.d c.in-New.ty) step t (record a { current = c.make.new.frame; made = a.made + 1 }) =
+    made_acted parts s t a c.requires.running.live c.make.new.frame (a.made + 1) c.in-New.d c.in-New.ty step c.requires.running.shape
+    (target_here parts s a c.requires.valid c.requires.running c.in-New.d c.in-New.ty (c.requires.instr ∙ ap (λ (i : Instr). Some i) c.in-New.is)) c.in_ok-make-in-New.ensures.ok refl in
     came_acted c.flow_behind-in-New.ensures.came
-    (subst (λ (i : Instr). Acted parts s a i step t (record a { current = c.make.new.frame; made = c.make.new.made })) (sym c.in-New.is)
-    (made_acted parts s t a c.requires.running.live c.make.new.frame c.make.new.made c.in-New.d c.in-New.ty step c.requires.running.shape (target_here parts s a c.requires.valid c.requires.running c.in-New.d c.in-New.ty (c.requires.instr ∙ ap (λ (i : Instr). Some i) c.in-New.is)) c.in_ok-make-in-New.ensures.ok c.in_ok-make-in-New.ensures.made))
+    (subst (λ (i : Instr). Acted parts s a i step t (whole c.make.new.standing c.make.new.frame c.args.left.now)) (sym c.in-New.is)
+    (subst (λ (x : Standing g.row.H-Place.Denot g.row.H-Ref.Denot). Acted parts s a (New c.in-New.d c.in-New.ty) step t (whole x c.make.new.frame c.args.left.now)) (sym c.in_ok-make-in-New.ensures.counted) made))
 
 pub returns-in-Call-clause-acted : goal.returns-in-Call-clause-acted
 returns-in-Call-clause-acted g c =
