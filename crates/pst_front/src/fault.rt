@@ -25,7 +25,7 @@ pub enum FaultKind {
     Duplicate,
     /// A type that does not fit, or arguments that are too many or too few.
     Mismatch,
-    /// An in-degree limit that is not from 1 to 16.
+    /// An in-degree limit, or a number of elements, that is not from 1 to 16.
     Limit,
     /// One more thing of a kind than there may be.
     TooMany,
