@@ -2,7 +2,7 @@
 use Rattle.std.proofs.Common.{◌≡◌, ℕ, zero, suc, ◌+◌, ◌<◌, ◌≤◌, List, [], ◌∷◌, ◌++◌, length, get_or, slice_get, Some, map, take, refl, sym, ap, ap₂, ◌∙◌, arith}
 use Rattle.std.proofs.lemmas.List.{map-append, map_more, take_more, length-take-le}
 use Rattle.pst_base.specs.Below.{listed}
-use Rattle.pst_queue.specs.declared.links.Link.TheVariants.{Out}
+use Rattle.pst_nodes.specs.declared.links.Link.TheVariants.{Out}
 use Rattle.pst_nodes.specs.declared.node.Node.{Node}
 use Rattle.pst_nodes.specs.Arena.{link_at}
 use Rattle.pst_base.specs.declared.shape.TypeShape.{TypeShape}

@@ -1,7 +1,7 @@
 //! The nodes of an image, with their rows.
 
 ghost use Rattle.std.specs.Prelude.{◌≡◌, ◌<◌, ◌^◌, ℕ, IfOk, length, map};
-ghost use Rattle.pst_queue.specs.declared.links.Link.TheVariants.{Out};
+ghost use Rattle.pst_nodes.specs.declared.links.Link.TheVariants.{Out};
 ghost use Rattle.pst_repair.specs.Seen.{seen_in, seen_node};
 ghost use Rattle.pst_nodes.specs.Arena.{link_at};
 ghost use Rattle.pst_image_meaning.specs.Denoted.{link_of as denoted_link, node_of as denoted_node, nodes_of as denoted_nodes};
@@ -11,9 +11,9 @@ use crate::contents::{put_bases, put_stamps};
 use pst_base::{NoMemory, NodeId, Shape};
 use pst_image_form::NodePart;
 use pst_nodes::header::Header;
+use pst_nodes::links::Link;
 use pst_nodes::node::{Node, Nodes};
 use pst_order::Pos;
-use pst_queue::links::Link;
 use pst_rows::{Content, Row, Stamp};
 use std::alloc::Global;
 

@@ -17,8 +17,8 @@ use Rattle.pst_nodes.specs.Arena.{HasRoom, IsTyped, type_of, rows_of, values_of,
 use Rattle.pst_mirror.proofs.ChartLemmas.{row_set_law, rows_hold-at, rows_edge-at, alive}
 use Rattle.pst_mirror.proofs.ChartSplit.{row_cut_law, row_split_law}
 use Rattle.pst_mirror.proofs.ChartReplace.{row_replace_law}
-use Rattle.pst_queue.specs.declared.links.Link.{Link}
-use Rattle.pst_queue.specs.declared.links.Link.TheVariants.{Out}
+use Rattle.pst_nodes.specs.declared.links.Link.{Link}
+use Rattle.pst_nodes.specs.declared.links.Link.TheVariants.{Out}
 use Rattle.pst_base.specs.declared.names.Name.{Name}
 use Rattle.pst_base.specs.declared.names.NodeId.{NodeId}
 use Rattle.pst_nodes.specs.Header.{HeaderValue}

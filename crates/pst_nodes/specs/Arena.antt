@@ -19,8 +19,8 @@ use Rattle.pst_base.specs.Name.{root_name}
 use Rattle.pst_base.specs.declared.shape.TypeShape.{TypeShape}
 use Rattle.pst_base.specs.Shape.{type_at}
 use Rattle.pst_rows.specs.Changes.{slot_count}
-use Rattle.pst_queue.specs.declared.links.Link.{Link}
-use Rattle.pst_queue.specs.declared.links.Link.TheVariants.{Out}
+use Rattle.pst_nodes.specs.declared.links.Link.{Link}
+use Rattle.pst_nodes.specs.declared.links.Link.TheVariants.{Out}
 use Rattle.pst_nodes.specs.declared.node.Node.{Node}
 use Rattle.pst_nodes.specs.declared.node.Nodes.{Nodes}
 

@@ -3,8 +3,8 @@ use Rattle.std.specs.Prelude.{Bool, true, false, Option, Some, None}
 use Rattle.pst_base.specs.declared.names.Name.{Name}
 use Rattle.pst_base.specs.declared.names.NodeId.{NodeId}
 use Rattle.pst_base.specs.declared.names.TypeNo.{TypeNo}
-use Rattle.pst_queue.specs.declared.links.Link.{Link}
-use Rattle.pst_queue.specs.declared.links.Link.TheVariants as link
+use Rattle.pst_nodes.specs.declared.links.Link.{Link}
+use Rattle.pst_nodes.specs.declared.links.Link.TheVariants as link
 use Rattle.pst_nodes.specs.declared.header.Wait.{Wait}
 use Rattle.pst_nodes.specs.declared.header.Wait.TheVariants.{Out, Last, Before}
 

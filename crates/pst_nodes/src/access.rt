@@ -11,10 +11,10 @@ ghost use Rattle.pst_nodes.specs.Arena.{spare_nodes, HasRoom, new_node, rows_of,
 ghost use Rattle.pst_nodes.specs.Changes.{HasStampedOver, HasSlotSet, IsSegmentBegun, IsSegmentReplaced, IsTouched, AreSameNodes, IsCutInTwo};
 
 use crate::header::Header;
+use crate::links::{Link, Links};
 use crate::node::{Node, Nodes};
 use pst_base::{Name, NoMemory, NodeId, Shape, SlotNo, TypeNo};
 use pst_order::{Order, Pos};
-use pst_queue::links::{Link, Links};
 use pst_rows::{Content, Row, Segment, Stamp};
 use std::alloc::Global;
 

@@ -3,8 +3,8 @@
 ghost use Rattle.std.specs.Prelude.{◌≡◌, is_some};
 ghost use Rattle.pst_nodes.specs.Header.{later_of, link_of};
 
+use crate::links::Link;
 use pst_base::{Name, NodeId, TypeNo};
-use pst_queue::links::Link;
 use std::marker::Model;
 
 /// A link of the queue without the node that comes next.

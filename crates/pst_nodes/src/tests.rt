@@ -1,10 +1,10 @@
 //! What no clause says: that the calls which take memory succeed, and how large a node is.
 
 use crate::header::Header;
+use crate::links::{Link, Links};
 use crate::node::{Node, Nodes};
 use pst_base::{Name, NoMemory, NodeId, RunNo, Targets, TypeNo, TypeShape};
 use pst_order::Pos;
-use pst_queue::links::{Link, Links};
 use pst_rows::Row;
 use std::alloc::Global;
 use std::mem::size_of;

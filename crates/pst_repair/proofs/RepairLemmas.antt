@@ -10,10 +10,10 @@ use Rattle.pst_rows.specs.Changes.{slot_count}
 use Rattle.pst_mirror.specs.Kinds.{HasKind}
 use Rattle.pst_rows.specs.Rows.{width_of}
 use Rattle.pst_base.specs.declared.names.NodeId.{NodeId}
-use Rattle.pst_queue.specs.Queue.{numbered, waits, last_from, ends_at, ends_of, head_of, tail_of}
-use Rattle.pst_queue.specs.declared.queue.Ends.{Ends}
-use Rattle.pst_queue.specs.declared.queue.Queue.{Queue}
-use Rattle.pst_queue.proofs.QueueLemmas.{waits-push}
+use Rattle.pst_nodes.specs.Queue.{numbered, waits, last_from, ends_at, ends_of, head_of, tail_of}
+use Rattle.pst_nodes.specs.declared.queue.Ends.{Ends}
+use Rattle.pst_nodes.specs.declared.queue.Queue.{Queue}
+use Rattle.pst_nodes.proofs.QueueLemmas.{waits-push}
 use Rattle.pst_nodes.specs.declared.node.Node.{Node}
 use Rattle.pst_base.specs.declared.shape.TypeShape.{TypeShape}
 use Rattle.pst_nodes.specs.Arena.{no_frame, rows_of, row_at, Frame, frames_of, frame_at, AreRows, chart, lives, IsTyped, type_no, type_of}

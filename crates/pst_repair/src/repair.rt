@@ -10,8 +10,8 @@ ghost use Rattle.pst_repair.specs.Repair.{IsQueued, IsDone, splits_in};
 
 use pst_base::{NoMemory, Shape};
 use pst_nodes::node::Nodes;
+use pst_nodes::queue::Queue;
 use pst_order::Order;
-use pst_queue::queue::Queue;
 use pst_split::split::split;
 
 /// Splits the node that waits first, and gives whether one waited: then there is one node more, and the potential is lower

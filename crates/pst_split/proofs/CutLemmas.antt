@@ -1,7 +1,7 @@
 use Rattle.pst_base.specs.Shape.{type_at}
 use Rattle.pst_rows.specs.Changes.{slot_count}
 use Rattle.std.proofs.lemmas.List.{append-nil}
-use Rattle.pst_queue.proofs.QueueLemmas.{chain_kept}
+use Rattle.pst_nodes.proofs.QueueLemmas.{chain_kept}
 use Rattle.std.proofs.Common.{◌≡◌, ◌≢◌, ℕ, ◌+◌, ◌≤◌, ◌<◌, true, List, [], ◌++◌, length, get_or, refl, sym, ap, ◌∙◌, subst, ⊎_elim, ◌⊎◌, inl, inr, arith}
 use Rattle.std.proofs.lemmas.Bool.{cases_eq, cases_lt, eq-eqb, false≢true}
 use Rattle.pst_rows.specs.declared.content.Content.{Content}
@@ -15,8 +15,8 @@ use Rattle.pst_rows.specs.Rows.{stamped_count}
 use Rattle.pst_nodes.specs.Arena.{no_frame, rows_of, row_at, frames_of, frame_at, Frame, link_at, AreRows, chart, IsSlot, IsTyped}
 use Rattle.pst_mirror.proofs.MirrorLemmas.{target_node}
 use Rattle.pst_mirror.proofs.PartnerLemmas.{one_partner}
-use Rattle.pst_queue.specs.Queue.{waits, HoldsList}
-use Rattle.pst_queue.specs.declared.queue.Queue.{Queue}
+use Rattle.pst_nodes.specs.Queue.{waits, HoldsList}
+use Rattle.pst_nodes.specs.declared.queue.Queue.{Queue}
 use Rattle.pst_nodes.specs.declared.node.Node.{Node}
 use Rattle.pst_base.specs.declared.shape.TypeShape.{TypeShape}
 use Rattle.pst_nodes.specs.Changes.{IsTouched}

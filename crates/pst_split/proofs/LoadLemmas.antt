@@ -7,9 +7,9 @@ use Rattle.std.proofs.lemmas.Bool.{cases_eq, cases_lt, eq-eqb, eqb-true, or_left
 use Rattle.std.proofs.lemmas.List.{append_assoc, append-nil, length-map, get_or-map, get_or_past}
 use Rattle.std.proofs.lemmas.List.Sums.{sum_by-cons}
 use Rattle.pst_rows.specs.declared.row.Row.{Row}
-use Rattle.pst_queue.specs.Queue.{waits}
-use Rattle.pst_queue.specs.declared.queue.Queue.{Queue}
-use Rattle.pst_queue.proofs.QueueLemmas.{waits-push}
+use Rattle.pst_nodes.specs.Queue.{waits}
+use Rattle.pst_nodes.specs.declared.queue.Queue.{Queue}
+use Rattle.pst_nodes.proofs.QueueLemmas.{waits-push}
 use Rattle.pst_nodes.specs.declared.node.Node.{Node}
 use Rattle.pst_base.specs.declared.shape.TypeShape.{TypeShape}
 use Rattle.pst_nodes.specs.Changes.{IsTouched}

@@ -27,9 +27,9 @@ use Rattle.pst_mirror.proofs.SplitBodyLemmas.{named, partner_names, finish_law, 
 use Rattle.pst_mirror.proofs.SplitLemmas.{split_whole_law}
 use Rattle.pst_mirror.proofs.LivesLemmas.{split_life_law}
 use Rattle.pst_mirror.proofs.ChartLemmas.{charts_steady}
-use Rattle.pst_queue.specs.Queue.{AreThere}
-use Rattle.pst_queue.specs.declared.queue.Queue.{Queue}
-use Rattle.pst_queue.proofs.QueueLemmas.{chain_kept}
+use Rattle.pst_nodes.specs.Queue.{AreThere}
+use Rattle.pst_nodes.specs.declared.queue.Queue.{Queue}
+use Rattle.pst_nodes.proofs.QueueLemmas.{chain_kept}
 use Rattle.pst_nodes.specs.declared.node.Node.{Node}
 use Rattle.pst_base.specs.declared.shape.TypeShape.{TypeShape}
 use Rattle.pst_nodes.specs.Changes.{IsCutInTwo}

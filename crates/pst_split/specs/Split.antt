@@ -8,7 +8,7 @@ use Rattle.pst_rows.specs.Rows.{stamped_before, stamped_after}
 use Rattle.pst_order.specs.Places.{rank}
 use Rattle.pst_nodes.specs.declared.node.Node.{Node}
 use Rattle.pst_nodes.specs.declared.node.Nodes.{Nodes}
-use Rattle.pst_queue.specs.declared.queue.Queue.{Queue}
+use Rattle.pst_nodes.specs.declared.queue.Queue.{Queue}
 use Rattle.pst_base.specs.declared.shape.TypeShape.{TypeShape}
 use Rattle.pst_nodes.specs.Arena.{row_at, frame_at, chart, lives}
 use Rattle.pst_split.specs.Steps.{HasQueuedOnly}

@@ -10,8 +10,8 @@ use Rattle.pst_mirror.specs.Partners.{IsPartner, IsHalfway, one_more}
 use Rattle.pst_mirror.specs.Segments.{IsSegmentOf}
 use Rattle.pst_rows.specs.Rows.{width_of}
 use Rattle.pst_nodes.specs.Arena.{HasRoom, row_at, frames_of, link_at, lo_at, hi_at, chart, IsSlot}
-use Rattle.pst_queue.specs.Queue.{HoldsList, waits}
-use Rattle.pst_queue.specs.declared.queue.Queue.{Queue}
+use Rattle.pst_nodes.specs.Queue.{HoldsList, waits}
+use Rattle.pst_nodes.specs.declared.queue.Queue.{Queue}
 use Rattle.pst_nodes.specs.declared.node.Node.{Node}
 use Rattle.pst_nodes.specs.declared.node.Nodes.{Nodes}
 use Rattle.pst_base.specs.declared.shape.TypeShape.{TypeShape}

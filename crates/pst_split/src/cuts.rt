@@ -11,8 +11,8 @@ ghost use Rattle.pst_split.specs.Steps.{AreParted, IsOuter, IsOuterOf, HasCutPar
 use crate::load::queue_if_over;
 use pst_base::{NodeId, Shape, SlotNo, TypeNo};
 use pst_nodes::node::Nodes;
+use pst_nodes::queue::Queue;
 use pst_order::{Order, Pos};
-use pst_queue::queue::Queue;
 use pst_rows::Content;
 
 /// A slot of a node.

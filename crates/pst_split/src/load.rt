@@ -2,15 +2,15 @@
 
 ghost use Rattle.std.specs.Prelude.{◌≡◌, ◌≢◌, ℕ, ◌+◌, ◌<◌, ◌≤◌, ◌↔◌, IsTrue, List, length, IfSome};
 ghost use Rattle.pst_rows.specs.declared.row.Row.{Row};
-ghost use Rattle.pst_queue.specs.Queue.{HoldsList};
+ghost use Rattle.pst_nodes.specs.Queue.{HoldsList};
 ghost use Rattle.pst_nodes.specs.Arena.{frame_at, rows_of, frames_of, link_at, IsTyped};
 ghost use Rattle.pst_split.specs.Load.{half_in, first_in, IsOver};
 ghost use Rattle.pst_split.specs.Steps.{Queues, KeepsQueue, HasQueuedOnly};
 
 use pst_base::{NodeId, Shape, SlotNo, TypeNo};
 use pst_nodes::node::Nodes;
+use pst_nodes::queue::Queue;
 use pst_nodes::slots::type_at;
-use pst_queue::queue::Queue;
 
 /// Half of a type's capacity: its pointer slots and its inverse slots.
 pub fn half(shape: &Shape, ty: TypeNo) -> usize

@@ -13,8 +13,8 @@ use crate::renames::rename_partners;
 use crate::room::{part, split_place};
 use pst_base::{NoMemory, NodeId, Shape, SlotNo, TypeNo};
 use pst_nodes::node::Nodes;
+use pst_nodes::queue::Queue;
 use pst_order::{Order, Pos};
-use pst_queue::queue::Queue;
 
 /// Splits a node that has more stamped values than its capacity, and queues each half and each partner that is over
 /// its capacity then. Gives the right half. A refusal changes nothing but room.

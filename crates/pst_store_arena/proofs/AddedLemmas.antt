@@ -10,10 +10,10 @@ use Rattle.pst_base.specs.Shape.{type_at}
 use Rattle.pst_rows.specs.declared.row.Row.{Row}
 use Rattle.pst_rows.specs.declared.content.Stamp.{Stamp}
 use Rattle.pst_rows.specs.Changes.{IsNewRow}
-use Rattle.pst_queue.specs.declared.links.Link.TheVariants.{Out}
-use Rattle.pst_queue.specs.declared.queue.Queue.{Queue}
-use Rattle.pst_queue.specs.Queue.{AreThere}
-use Rattle.pst_queue.proofs.QueueLemmas.{chain_kept}
+use Rattle.pst_nodes.specs.declared.links.Link.TheVariants.{Out}
+use Rattle.pst_nodes.specs.declared.queue.Queue.{Queue}
+use Rattle.pst_nodes.specs.Queue.{AreThere}
+use Rattle.pst_nodes.proofs.QueueLemmas.{chain_kept}
 use Rattle.pst_nodes.specs.declared.node.Node.{Node}
 use Rattle.pst_nodes.specs.Arena.{new_node, link_at}
 use Rattle.pst_nodes.proofs.NodeLemmas.{map-push}

@@ -18,7 +18,7 @@ use Rattle.pst_mirror.specs.Degree.{is_other_entry}
 use Rattle.pst_mirror.specs.Kinds.{IsInverse}
 use Rattle.pst_mirror.specs.Lives.{IsIn as IsInLives}
 use Rattle.pst_rows.specs.declared.content.Content.{Content}
-use Rattle.pst_queue.specs.declared.queue.Queue.{Queue}
+use Rattle.pst_nodes.specs.declared.queue.Queue.{Queue}
 use Rattle.pst_nodes.specs.declared.node.Node.{Node}
 use Rattle.pst_nodes.specs.Changes.{AreSameNodes}
 use Rattle.pst_split.specs.Load.{IsSound}

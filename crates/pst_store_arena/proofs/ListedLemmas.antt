@@ -1,8 +1,8 @@
 -- An arena of a list of nodes.
 use Rattle.std.proofs.Common.{◌≡◌, ℕ, List, [], None, sym, subst, arith}
 use Rattle.pst_base.specs.declared.shape.TypeShape.{TypeShape}
-use Rattle.pst_queue.specs.declared.links.Link.TheVariants.{Out}
-use Rattle.pst_queue.specs.declared.queue.Queue.{Queue}
+use Rattle.pst_nodes.specs.declared.links.Link.TheVariants.{Out}
+use Rattle.pst_nodes.specs.declared.queue.Queue.{Queue}
 use Rattle.pst_nodes.specs.declared.node.Node.{Node}
 use Rattle.pst_nodes.specs.Arena.{link_at}
 use Rattle.pst_split.specs.Steps.{Queues}

@@ -1,14 +1,14 @@
 -- The nodes whose links are in the queue.
-use Rattle.pst_queue.proofs.QueueLemmas.{waits_is, link_of_waiting}
-use Rattle.pst_queue.specs.Queue.{numbered, head_of, waits, last_from, ends_at}
+use Rattle.pst_nodes.proofs.QueueLemmas.{waits_is, link_of_waiting}
+use Rattle.pst_nodes.specs.Queue.{numbered, head_of, waits, last_from, ends_at}
 use Rattle.std.proofs.Common.{Bool, IsTrue, false, not, true, ◌↔◌, ◌≡◌, ◌≢◌, ℕ, zero, suc, ◌+◌, List, [], ◌∷◌, ◌++◌, length, None, eqb, refl, sym, ap, ◌∙◌, subst, ⊎_elim, ◌⊎◌, inl, inr, arith}
 use Rattle.std.proofs.lemmas.Bool.{false≢true, or_left, eq-eqb}
 use Rattle.std.specs.List.{Contains}
 use Rattle.std.proofs.lemmas.Option.{none-some}
 use Rattle.pst_base.specs.declared.shape.TypeShape.{TypeShape}
-use Rattle.pst_queue.specs.declared.links.Link.{Link}
-use Rattle.pst_queue.specs.declared.links.Link.TheVariants.{Out, Last, Before}
-use Rattle.pst_queue.specs.declared.queue.Queue.{Queue}
+use Rattle.pst_nodes.specs.declared.links.Link.{Link}
+use Rattle.pst_nodes.specs.declared.links.Link.TheVariants.{Out, Last, Before}
+use Rattle.pst_nodes.specs.declared.queue.Queue.{Queue}
 use Rattle.pst_nodes.specs.declared.node.Node.{Node}
 use Rattle.pst_nodes.specs.Arena.{link_at}
 use Rattle.pst_split.specs.Steps.{Queues}

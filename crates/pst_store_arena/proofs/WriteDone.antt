@@ -17,7 +17,7 @@ use Rattle.pst_mirror.specs.Mirror.{Chart, IsMirrored, IsLinked}
 use Rattle.pst_nodes.specs.declared.node.Node.{Node}
 use Rattle.pst_nodes.specs.Arena.{HasRoom, rows_of, frames_of, row_at, link_at, chart, lives, type_no, type_of, IsOpenSlot, IsSlot, IsTyped, AreRows}
 use Rattle.pst_nodes.specs.Changes.{AreSameNodes, IsTouched, AreTouched, added}
-use Rattle.pst_queue.specs.declared.queue.Queue.{Queue}
+use Rattle.pst_nodes.specs.declared.queue.Queue.{Queue}
 use Rattle.pst_split.specs.Load.{IsSound, stamped_at}
 use Rattle.pst_split.specs.Steps.{AreGrown, Queues, KeepsQueue}
 use Rattle.pst_split.proofs.LoadLemmas.{grown_on, grown_more, rows_kept, queue_on}

@@ -3,8 +3,8 @@ use Rattle.std.proofs.Common.{◌≡◌, ℕ, ◌<◌, true, List, ◌++◌, len
 use Rattle.std.proofs.lemmas.Bool.{or_cases}
 use Rattle.pst_base.specs.declared.names.NodeId.{NodeId}
 use Rattle.pst_base.specs.declared.shape.TypeShape.{TypeShape}
-use Rattle.pst_queue.specs.Queue.{waits}
-use Rattle.pst_queue.specs.declared.queue.Queue.{Queue}
+use Rattle.pst_nodes.specs.Queue.{waits}
+use Rattle.pst_nodes.specs.declared.queue.Queue.{Queue}
 use Rattle.pst_nodes.specs.declared.node.Node.{Node}
 use Rattle.pst_nodes.specs.Arena.{rows_of, frames_of, link_at, IsTyped}
 use Rattle.pst_nodes.specs.Changes.{AreSameNodes}

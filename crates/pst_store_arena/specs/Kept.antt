@@ -6,9 +6,9 @@ use Rattle.pst_base.specs.declared.shape.TypeShape.{TypeShape}
 use Rattle.pst_base.specs.Shape.{type_at}
 use Rattle.pst_rows.specs.declared.row.Row.{Row}
 use Rattle.pst_rows.specs.Changes.{IsNewRow}
-use Rattle.pst_queue.specs.declared.links.Link.{Link}
-use Rattle.pst_queue.specs.declared.links.Link.TheVariants.{Out, Last, Before}
-use Rattle.pst_queue.specs.declared.queue.Queue.{Queue}
+use Rattle.pst_nodes.specs.declared.links.Link.{Link}
+use Rattle.pst_nodes.specs.declared.links.Link.TheVariants.{Out, Last, Before}
+use Rattle.pst_nodes.specs.declared.queue.Queue.{Queue}
 use Rattle.pst_nodes.specs.declared.node.Node.{Node}
 use Rattle.pst_order.specs.Places.{rank}
 use Rattle.pst_nodes.specs.Arena.{new_node, lives, frame_at, lo_at}

@@ -2,7 +2,7 @@
 
 ghost use Rattle.std.specs.Prelude.{◌≡◌, ◌<◌, ℕ, [], length, IfOk};
 ghost use Rattle.pst_base.specs.Name.{root_name};
-ghost use Rattle.pst_queue.specs.declared.links.Link.TheVariants.{Out};
+ghost use Rattle.pst_nodes.specs.declared.links.Link.TheVariants.{Out};
 ghost use Rattle.pst_nodes.specs.Arena.{link_at};
 ghost use Rattle.pst_store_meaning.specs.Store.{AreHeld, AreAllHeld};
 ghost use Rattle.pst_repair.specs.Seen.{seen_in};

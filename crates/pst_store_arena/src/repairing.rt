@@ -13,8 +13,8 @@ ghost use Rattle.pst_store_arena.specs.Kept.{waiting_of, noted_of};
 
 use pst_base::{NoMemory, NodeId, ROOT, Shape};
 use pst_nodes::node::Nodes;
+use pst_nodes::queue::Queue;
 use pst_order::Order;
-use pst_queue::queue::Queue;
 use pst_repair::repair::repair;
 use pst_roots::RootIndex;
 

@@ -20,8 +20,8 @@ ghost use Rattle.pst_store_arena.specs.Writes.{HoldsPointer, LeadsTo, IsNode, Is
 
 use pst_base::{NoMemory, NodeId, Shape, SlotNo};
 use pst_nodes::node::Nodes;
+use pst_nodes::queue::Queue;
 use pst_order::{Order, Pos};
-use pst_queue::queue::Queue;
 use pst_rows::Content;
 use pst_split::load::queue_if_over;
 use pst_store_meaning::place::Place;

@@ -1,5 +1,5 @@
 use Rattle.std.proofs.Common.{◌≡◌, ℕ, take}
-use Rattle.pst_queue.specs.declared.links.Link.TheVariants.{Out}
+use Rattle.pst_nodes.specs.declared.links.Link.TheVariants.{Out}
 use Rattle.pst_repair.specs.Seen.{seen}
 use Rattle.pst_nodes.specs.Arena.{link_at}
 use Rattle.pst_image_meaning.specs.Denoted.{nodes_of as denoted_nodes}

@@ -1,5 +1,5 @@
 use Rattle.std.proofs.Common.{ℕ, List, [], ◌∷◌, ◌++◌, sym, ◌∙◌, arith}
-use Rattle.pst_queue.specs.Queue.{tail_of}
+use Rattle.pst_nodes.specs.Queue.{tail_of}
 use Rattle.pst_split.specs.Steps.{Queues}
 use Rattle.pst_split.proofs.ShownLemmas.{shows_rows, shows_on, live_rows, live_on}
 use Rattle.pst_repair.specs.Seen.{seen}

@@ -1,7 +1,7 @@
 use Rattle.std.proofs.Common.{◌≡◌, refl, ap, ◌∙◌, arith, map, get_or, ⊎_elim}
 use Rattle.std.proofs.lemmas.Bool.{cases_eq, eq-eqb, ne_eqb}
 use Rattle.std.proofs.lemmas.List.{get_or-set_same, get_or-set_other, length-map}
-use Rattle.pst_queue.specs.declared.links.Link.TheVariants.{Out}
+use Rattle.pst_nodes.specs.declared.links.Link.TheVariants.{Out}
 use Rattle.pst_nodes.specs.declared.node.Node.{Node}
 use Rattle.pst_nodes.specs.Arena.{frame_of}
 use Rattle.pst_nodes.specs.Header.{HeaderValue}
