@@ -1,7 +1,7 @@
+pub mod Counting
+pub mod Numbers
+pub mod Opening
 pub mod Paths
-pub mod Totals
 pub mod Progress
 pub mod Queries
-pub mod Counting
-pub mod Opening
-pub mod Numbers
+pub mod Totals

@@ -14,9 +14,9 @@ ghost use Rattle.pst_history.specs.declared.history.TheConstants.{RUNS};
 
 use crate::answer::answer;
 use crate::history::NumberedHistory;
+use crate::refusal::refused;
 use pst_base::NoMemory;
 use pst_program::Program;
-use pst_replay_refusals::refused;
 use pst_script::{Command, Reply};
 use std::alloc::Global;
 
