@@ -4,7 +4,7 @@ use pst_base::NoMemory;
 use pst_image_pack::pack;
 use pst_image_rules::Rule;
 use pst_image_unpack::{ImageFault, Unpacked, unpack};
-use pst_labels::LabelOrder;
+use pst_order::LabelOrder;
 use pst_store_arena::Arena;
 use std::alloc::Global;
 

@@ -11,9 +11,11 @@
 #![tactic(auto)]
 
 mod compare;
+mod labels;
 mod order;
 mod row;
 
 pub use compare::{Compare, Counting, PlaceList, partition};
+pub use labels::{LabelOrder, rule};
 pub use order::{Order, Pos, Walked, ranks, ranks_rise};
 pub use row::RowOrder;

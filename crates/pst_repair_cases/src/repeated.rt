@@ -14,8 +14,7 @@ ghost use Rattle.pst_store_meaning.specs.Store.{state_of};
 ghost use Rattle.pst_store_rings.specs.Rings.{HasRing, IsStamped};
 
 use pst_base::{Kind, NoMemory, NodeId, RunNo, Shape, VersionNo};
-use pst_labels::LabelOrder;
-use pst_order::Order;
+use pst_order::{LabelOrder, Order};
 use pst_places::StoreFault;
 use pst_store::{Started, Store};
 use pst_store_arena::Arena;

@@ -5,7 +5,7 @@ ghost use Rattle.pst_rows_bed.specs.Beds.{IsReady};
 
 use crate::bed::Bed;
 use pst_base::{NoMemory, NodeId, SlotNo};
-use pst_labels::LabelOrder;
+use pst_order::LabelOrder;
 use pst_rows::Content;
 use std::alloc::Global;
 

@@ -6,8 +6,7 @@ ghost use Rattle.pst_order.specs.Places.{IsIn};
 ghost use Rattle.pst_rows_bed.specs.Beds.{IsReady};
 
 use pst_base::{NoMemory, NodeId, SlotNo};
-use pst_labels::LabelOrder;
-use pst_order::{Order, Pos, RowOrder};
+use pst_order::{LabelOrder, Order, Pos, RowOrder};
 use pst_rows::Content;
 use pst_rows_bed::{Bed, are_in_order, filled, insert_at_random, insert_behind};
 use std::alloc::Global;

@@ -8,8 +8,7 @@ ghost use Rattle.pst_rows_bed.specs.Beds.{AreIn, IsReady};
 mod checks;
 
 use checks::{orders_agree, places_keep_values, sets_labels_anew, splits_eleven, splits_many};
-use pst_labels::LabelOrder;
-use pst_order::{Order, Pos};
+use pst_order::{LabelOrder, Order, Pos};
 use pst_rows::{Row, Stamp};
 use pst_rows_bed::{
     Bed, are_reversed, compare_many, filled, find_splits, insert_behind, insert_behind_first,

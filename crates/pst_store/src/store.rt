@@ -2,8 +2,7 @@
 
 use crate::Started;
 use pst_base::{NoMemory, RunNo, Shape, TypeNo, VersionNo};
-use pst_labels::LabelOrder;
-use pst_order::{Order, Pos};
+use pst_order::{LabelOrder, Order, Pos};
 use pst_store_arena::{Arena, FatNodes};
 use std::alloc::Global;
 use std::marker::Model;
