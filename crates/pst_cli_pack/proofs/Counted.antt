@@ -3,7 +3,7 @@ use Rattle.std.proofs.Common.{sym, subst}
 use Rattle.pst_history.specs.History.{Opening}
 use Rattle.pst_cli_scripts.specs.Script.{by_tree}
 use Rattle.pst_cli_scripts.specs.Kept.{history_after}
-use Rattle.pst_history_openings.proofs.Sound.{left-sound}
+use Rattle.pst_history_laws.proofs.Sound.{left-sound}
 use Rattle.pst_image_engine.specs.Counted.{OpensFew}
 use Rattle.pst_image_engine.proofs.Counted.{counts_law, opening_counts_law}
 use Rattle.pst_cli_pack.specs.Laws.{ScriptCountsLaw}

@@ -21,15 +21,15 @@ use Rattle.pst_image_form.specs.declared.parts.ImageParts.{ImageParts}
 use Rattle.pst_image_form.specs.Bytes.{image_bytes}
 use Rattle.pst_image_form.proofs.Forms.{one_form}
 use Rattle.pst_image_parts.specs.Parts.{parts_of}
-use Rattle.pst_history_lines.proofs.Meanings.{meaning_law}
+use Rattle.pst_history_laws.proofs.Meanings.{meaning_law}
 use Rattle.pst_image_engine.proofs.Counted.{counts_law, few_counts_law, opening_counts_law}
 use Rattle.pst_image_engine.specs.Counted.{OpensFew}
-use Rattle.pst_history_openings.specs.TakenUp.{taken_up, all_dropped}
-use Rattle.pst_history_openings.specs.Laws.{left_by}
-use Rattle.pst_history_openings.proofs.Commands.{begins_law}
-use Rattle.pst_history_openings.proofs.Dropped.{taken-same, none-open, sound-kept}
-use Rattle.pst_history_openings.proofs.Sound.{left-sound}
-use Rattle.pst_history_openings.proofs.Scripts.{left-alike, taken-alike, sound_behind_law, stays_behind_law, taken_up_law}
+use Rattle.pst_history_laws.specs.TakenUp.{taken_up, all_dropped}
+use Rattle.pst_history_laws.specs.Openings.{left_by}
+use Rattle.pst_history_laws.proofs.Commands.{begins_law}
+use Rattle.pst_history_laws.proofs.Dropped.{taken-same, none-open, sound-kept}
+use Rattle.pst_history_laws.proofs.Sound.{left-sound}
+use Rattle.pst_history_laws.proofs.Scripts.{left-alike, taken-alike, sound_behind_law, stays_behind_law, taken_up_law}
 use Rattle.pst_image_unpack.specs.Unpacked.{IsOwnText, IsAccepted}
 use Rattle.pst_image_unpack.proofs.Deciding.{one_text, never_both}
 use Rattle.pst_cli_sessions.specs.Storing.{IsLeft}

@@ -24,7 +24,7 @@ use Rattle.pst_image_meaning.specs.Denoted.{heap_in}
 use Rattle.pst_image_form.specs.declared.parts.VersionPart.{VersionPart}
 use Rattle.pst_cli_pack.specs.Packing.{IsImage}
 use Rattle.pst_cli_resume.specs.Opening.{descent_of, opening_in}
-use Rattle.pst_history_openings.specs.TakenUp.{taken_up}
+use Rattle.pst_history_laws.specs.TakenUp.{taken_up}
 
 -- what is made of each item in two steps
 mapped : {A B C : Type 0} (f : B → C) (g : A → B) (xs : List A) (ys : List C) → length xs ≡ length ys

@@ -31,11 +31,11 @@ use Rattle.pst_image_form.specs.Bytes.{HasForm, image_bytes}
 use Rattle.pst_image_form.proofs.Forms.{one_form}
 use Rattle.pst_image_rules.specs.Rules.{IsJudged}
 use Rattle.pst_image_parts.specs.Parts.{parts_of}
-use Rattle.pst_history_lines.specs.Laws.{IsReadAgain}
-use Rattle.pst_history_lines.proofs.Canonical.{canonical_law}
-use Rattle.pst_history_openings.specs.TakenUp.{taken_up}
-use Rattle.pst_history_openings.specs.Laws.{left_by}
-use Rattle.pst_history_openings.proofs.Scripts.{program_goes_on_law}
+use Rattle.pst_history_laws.specs.LawsLines.{IsReadAgain}
+use Rattle.pst_history_laws.proofs.Canonical.{canonical_law}
+use Rattle.pst_history_laws.specs.TakenUp.{taken_up}
+use Rattle.pst_history_laws.specs.Openings.{left_by}
+use Rattle.pst_history_laws.proofs.Scripts.{program_goes_on_law}
 use Rattle.pst_image_unpack.specs.Unpacked.{IsAccepted}
 use Rattle.pst_image_unpack.proofs.Deciding.{one_program, never_both}
 use Rattle.pst_cli_pack.specs.Packing.{IsImage, PacksWhole}

@@ -13,8 +13,8 @@ use Rattle.pst_cli_scripts.specs.Pieces.{state_after}
 use Rattle.pst_cli_scripts.specs.Script.{by_tree, script_of}
 use Rattle.pst_store_meaning.specs.Store.{Stored}
 use Rattle.pst_image_form.specs.declared.parts.ImageParts.{ImageParts}
-use Rattle.pst_history_openings.specs.TakenUp.{taken_up, all_dropped, NoneOpen}
-use Rattle.pst_history_openings.specs.Laws.{left_by}
+use Rattle.pst_history_laws.specs.TakenUp.{taken_up, all_dropped, NoneOpen}
+use Rattle.pst_history_laws.specs.Openings.{left_by}
 use Rattle.pst_image_unpack.specs.Unpacked.{IsAccepted}
 use Rattle.pst_cli_resume.specs.Opening.{opening_in}
 use Rattle.pst_cli_resume.specs.Resuming.{resumed_in}

@@ -15,9 +15,9 @@ use Rattle.pst_cli_scripts.specs.Input.{cut_of}
 use Rattle.pst_cli_serving.specs.Held.{kept_in}
 use Rattle.pst_store_meaning.specs.Store.{Stored}
 use Rattle.pst_image_form.specs.declared.parts.ImageParts.{ImageParts}
-use Rattle.pst_history_lines.specs.Laws.{IsReadAgain}
-use Rattle.pst_history_openings.specs.TakenUp.{taken_up, all_dropped}
-use Rattle.pst_history_openings.specs.Laws.{left_by, replies_on}
+use Rattle.pst_history_laws.specs.LawsLines.{IsReadAgain}
+use Rattle.pst_history_laws.specs.TakenUp.{taken_up, all_dropped}
+use Rattle.pst_history_laws.specs.Openings.{left_by, replies_on}
 use Rattle.pst_image_unpack.specs.Unpacked.{IsAccepted}
 use Rattle.pst_cli_pack.specs.Packing.{PackRow}
 use Rattle.pst_cli_resume.specs.Opening.{opening_in}

@@ -1,0 +1,10 @@
+pub mod Canonical
+pub mod Commands
+pub mod Dropped
+pub mod Endings
+pub mod Histories
+pub mod Meanings
+pub mod SameParts
+pub mod Scripts
+pub mod Sound
+pub mod Typing
