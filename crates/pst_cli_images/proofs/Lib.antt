@@ -1,0 +1,10 @@
+pub mod Behind
+pub mod Counted
+pub mod Days
+pub mod Found
+pub mod Leaving
+pub mod Openings
+pub mod Resumes
+pub mod Rows
+pub mod Starts
+pub mod Taking

@@ -1,4 +1,0 @@
-pub mod Starts
-pub mod Counted
-pub mod Leaving
-pub mod Found

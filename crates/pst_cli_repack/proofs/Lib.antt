@@ -1,4 +1,0 @@
-pub mod Behind
-pub mod Openings
-pub mod Resumes
-pub mod Days

@@ -1,5 +1,0 @@
-use Rattle.pst_cli_repack.proofs.Resumes.{accepted_law, resumed_law, never_refused_law}
-use Rattle.pst_cli_repack.proofs.laws.resumed.Goals as goal
-
-pub returns : goal.returns
-returns c = record { accepted = accepted_law; replies = resumed_law; never_refused = never_refused_law }

@@ -1,4 +1,0 @@
-pub mod Repacking
-pub mod Left
-pub mod Laws
-pub mod Days
