@@ -14,7 +14,7 @@ use Rattle.pst_grammar.specs.declared.lexeme.Lead.TheVariants as lead
 use Rattle.pst_grammar.specs.Lexemes.{Lexeme, Name, Plain, Leading}
 use Rattle.pst_grammar.specs.Spelling.{listed as spelled_list}
 use Rattle.pst_grammar.specs.Spelling.{TypeText, Int, Named, type_word, spelled_type, spelled_count, FieldText, Val, Ptr, field, spelled_field, Parameter, parameter, spelled_parameter, Local, local, spelled_local, spelled_result, head, Item, Record, Root, Procedure, item, spelled_item, each, Opening, First, Second, language, language_word, spelled_opening, Program, program}
-use Rattle.pst_notation_statements.specs.Texts.{line, listed}
+use Rattle.pst_notation.specs.Texts.{line, listed}
 use Rattle.pst_notation.proofs.Pieces.{Reads, written, space, feed, on_line, name, number, fixed, open_ends, operator}
 use Rattle.pst_notation.proofs.ExpressionReads.{listed_read}
 use Rattle.pst_notation.proofs.StatementReads.{block_reads, close_reads}

@@ -8,8 +8,8 @@ use Rattle.pst_lex.specs.Bytes.{EndsWord}
 use Rattle.pst_grammar.specs.declared.lexeme.Sign.TheVariants as sign
 use Rattle.pst_grammar.specs.Lexemes.{Lexeme, Operator, Plain}
 use Rattle.pst_grammar.specs.Spelling.{Expr, Number, Null, Name, Parens, Field, Indexed, Negate, Not, Binary, expr, spelled, each, after_comma, listed}
-use Rattle.pst_notation_statements.specs.Texts as texts
-use Rattle.pst_notation_statements.specs.Texts.{expr_text, behind_comma}
+use Rattle.pst_notation.specs.Texts as texts
+use Rattle.pst_notation.specs.Texts.{expr_text, behind_comma}
 use Rattle.pst_notation.proofs.Pieces.{Reads, written, space, name, number, fixed, open_ends, close_ends, minus_ends, dot_ends, operator}
 
 pub expr_reads : (e : Expr) {rest : List ℕ} {ts : List Lexeme} → EndsWord rest → Reads rest ts → Reads (expr_text (expr e) ++ rest) (spelled e ts)

@@ -1,8 +1,10 @@
+pub mod Blocks
 pub mod DeclarationLines
 pub mod DeclarationReads
 pub mod ExpressionLines
 pub mod ExpressionReads
 pub mod Fronts
+pub mod Indents
 pub mod Limits
 pub mod Pieces
 pub mod ReadBack

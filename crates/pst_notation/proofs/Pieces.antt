@@ -11,7 +11,7 @@ use Rattle.pst_lex.specs.Words.{Word, Fixed, mark_text}
 use Rattle.pst_lex.specs.Lexing.{AreWords, LexedAs, EndsMark}
 use Rattle.pst_grammar.specs.declared.lexeme.Label.{Label}
 use Rattle.pst_grammar.specs.Lexemes.{Lexeme, Name, Number, Operator}
-use Rattle.pst_notation_statements.specs.Texts.{op_text, line}
+use Rattle.pst_notation.specs.Texts.{op_text, line}
 use Rattle.pst_notation.specs.Tokens.{word_of, words_of}
 
 -- the text has these tokens, lines apart, if a text may have such

@@ -7,7 +7,7 @@ use Rattle.pst_grammar.specs.declared.lexeme.Sign.TheVariants as sign
 use Rattle.pst_grammar.specs.declared.lexeme.Lead.TheVariants as lead
 use Rattle.pst_grammar.specs.Lexemes.{Lexeme, Plain, Leading}
 use Rattle.pst_grammar.specs.Spelling.{Expr, expr, spelled, ended, spelled_call, Statement, New, Call, Result, Write, Print, If, Either, While, Return, Block, Empty, Then, phrase, phrases, spelled_statement, spelled_block}
-use Rattle.pst_notation_statements.specs.Texts.{expr_text, line, call_text, phrase_text, phrases_text}
+use Rattle.pst_notation.specs.Texts.{expr_text, line, call_text, phrase_text, phrases_text}
 use Rattle.pst_notation.proofs.Pieces.{Reads, written, space, feed, on_line, name, fixed, open_ends}
 use Rattle.pst_notation.proofs.ExpressionReads.{expr_reads, listed_read}
 

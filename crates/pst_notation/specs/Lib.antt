@@ -1,4 +1,5 @@
 pub mod Canonical
 pub mod Laws
 pub mod Lines
+pub mod Texts
 pub mod Tokens

@@ -4,7 +4,7 @@ ghost use Rattle.std.specs.Prelude.{◌≡◌, ◌++◌, OnOk, codes};
 ghost use Rattle.std.specs.Fmt.{signed_decimal};
 ghost use Rattle.pst_tree.specs.Syntax as tree;
 ghost use Rattle.pst_tree.specs.View.{expr_of};
-ghost use Rattle.pst_notation_statements.specs.Texts.{op_text, expr_text};
+ghost use Rattle.pst_notation.specs.Texts.{op_text, expr_text};
 
 use itoa::Buffer;
 use pst_base::{NoMemory, Op};

@@ -2,8 +2,8 @@ use Rattle.std.proofs.Common.{◌≡◌, ◌+◌, ◌*◌, ◌++◌, drop}
 use Rattle.pst_tree.specs.declared.statement.Block.{size-Block}
 use Rattle.pst_tree.specs.declared.statement.Statement.{size-Statement}
 use Rattle.pst_tree.specs.View.{phrases_of, statements_of}
-use Rattle.pst_notation_statements.specs.Texts.{phrases_text}
-use Rattle.pst_notation_statements.proofs.statements.+statements.Given as goal
+use Rattle.pst_notation.specs.Texts.{phrases_text}
+use Rattle.pst_notation.proofs.statements.+statements.Given as goal
 
 -- what was put, and what is left to put, is all of it
 abbrev pub invariant-put_block-loop-statement : goal.invariant-put_block-loop-statement

@@ -5,7 +5,7 @@ ghost use Rattle.std.specs.List.{flat_map};
 ghost use Rattle.std.specs.Option.{option_map};
 ghost use Rattle.pst_tree.specs.Syntax as tree;
 ghost use Rattle.pst_tree.specs.View.{expr_of, phrase_of, phrases_of};
-ghost use Rattle.pst_notation_statements.specs.Texts.{line, result_text, expr_text, phrase_text, phrases_text, guarded_text, listed, behind_comma};
+ghost use Rattle.pst_notation.specs.Texts.{line, result_text, expr_text, phrase_text, phrases_text, guarded_text, listed, behind_comma};
 
 use crate::expressions::put_expression;
 use pst_base::NoMemory;

@@ -1,9 +1,9 @@
 use Rattle.std.proofs.Common.{◌++◌, ap, ◌∙◌, sym}
 use Rattle.pst_tree.specs.Syntax.{Phrases}
 use Rattle.pst_tree.specs.View.{statements_of}
-use Rattle.pst_notation_statements.specs.Texts.{phrases_text}
-use Rattle.pst_notation_statements.proofs.Blocks.{block_is_list}
-use Rattle.pst_notation_statements.proofs.statements.+statements.Goals as goal
+use Rattle.pst_notation.specs.Texts.{phrases_text}
+use Rattle.pst_notation.proofs.Blocks.{block_is_list}
+use Rattle.pst_notation.proofs.statements.+statements.Goals as goal
 
 pub put_block-loop-statement-init : goal.put_block-loop-statement-init
 put_block-loop-statement-init t c =

@@ -1,6 +1,6 @@
 use Rattle.std.proofs.Common.{◌+◌, ◌*◌, max}
 use Rattle.pst_tree.specs.declared.expression.Expression.{size-Expression}
-use Rattle.pst_notation_statements.proofs.expressions.+expressions.Given as goal
+use Rattle.pst_notation.proofs.expressions.+expressions.Given as goal
 
 abbrev pub decreases-put_expression : goal.decreases-put_expression
 decreases-put_expression l = 3 * size-Expression l.e.now
