@@ -8,7 +8,7 @@ use Rattle.pst_line.specs.Store.{Stored}
 use Rattle.pst_cli_words.specs.declared.job.Job.{Job}
 use Rattle.pst_cli_words.specs.declared.job.Job.TheVariants.{Run, Replay, Line, Check, Code}
 use Rattle.pst_cli_scripts.specs.Kept.{Kept, kept_by, still, together}
-use Rattle.pst_cli_sessions.specs.Lining.{IsLineLeft, IsLineBroken}
+use Rattle.pst_cli_serving.specs.Lining.{IsLineLeft, IsLineBroken}
 use Rattle.pst_cli_serving.specs.Output.{rules_of}
 use Rattle.pst_cli_serving.specs.Held.{kept_in}
 

@@ -22,7 +22,7 @@ use Rattle.pst_cli_scripts.specs.Kept.{first_history, history_after}
 use Rattle.pst_front.specs.Verdict.{Accepted, Refused as IsRefusedBy, Judged, HasFault}
 use Rattle.pst_cli_serving.specs.Serving.{Refuses, status_of}
 use Rattle.pst_cli_scripts.specs.Sessions.{StopsAtReply}
-use Rattle.pst_cli_sessions.specs.Storing.{IsLeft, IsBroken}
+use Rattle.pst_cli_serving.specs.Storing.{IsLeft, IsBroken}
 use Rattle.pst_cli_bench.specs.Bench.{printed_from, summary, summary_of, BenchRow}
 use Rattle.pst_cli_bench.proofs.Summing.{after_all}
 

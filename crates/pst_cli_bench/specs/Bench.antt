@@ -21,7 +21,7 @@ use Rattle.pst_cli_scripts.specs.Kept.{first_history, history_after}
 use Rattle.pst_front.specs.Verdict.{Verdict, Accepted, Refused as IsRefusedBy, fault_text}
 use Rattle.pst_front.specs.Pages.{routines_in}
 use Rattle.pst_cli_serving.specs.Output.{OfVerdict}
-use Rattle.pst_cli_sessions.specs.Storing.{IsLeft, IsBroken}
+use Rattle.pst_cli_serving.specs.Storing.{IsLeft, IsBroken}
 
 -- ---- the numbers that were printed
 

@@ -11,15 +11,14 @@ ghost use Rattle.pst_history.specs.Direct.{meaning_of};
 ghost use Rattle.pst_store.specs.Whole.{nodes_in, state_in};
 ghost use Rattle.pst_cli_bench.specs.Bench.{printed_in, printed_at, printed_from, after_lines, BreaksAfterSome, summary, bench_lines, summary_of, IsBrokenAfterSome, BenchRow};
 ghost use Rattle.pst_cli_scripts.specs.Kept.{history_after};
-ghost use Rattle.pst_cli_sessions.specs.Storing.{IsLeft};
+ghost use Rattle.pst_cli_serving.specs.Storing.{IsLeft};
 ghost use Rattle.pst_cli_scripts.specs.Script.{by_tree, after_line};
 ghost use Rattle.pst_cli_scripts.specs.Sessions.{HasTaken, StandForSome, OnEachHistory, BreaksBetween};
 
 use pst_base::{NoMemory, Text};
 use pst_bench::bench_script;
 use pst_cli_scripts::{Session, reply_to, say, split_line};
-use pst_cli_serving::{refuse, status_of};
-use pst_cli_sessions::Running;
+use pst_cli_serving::{Running, refuse, status_of};
 use pst_cli_words::Status;
 use pst_front::{NoProgram, program_of};
 use pst_io::Sink;

@@ -17,7 +17,7 @@ use Rattle.pst_cli_scripts.specs.Pieces.{IsPartOf, state_after, BreaksIn}
 use Rattle.pst_cli_scripts.specs.Script.{by_tree, script_of}
 use Rattle.pst_cli_scripts.specs.Sessions.{StopsAtReply}
 use Rattle.pst_cli_serving.specs.Serving.{status_of}
-use Rattle.pst_cli_sessions.proofs.Keeping.{meaning_shape}
+use Rattle.pst_cli_serving.proofs.Keeping.{meaning_shape}
 use Rattle.pst_image_form.specs.declared.parts.ImageParts.{ImageParts}
 use Rattle.pst_image_rules.specs.declared.rule.Rule.{Rule}
 use Rattle.pst_image_rules.specs.declared.rule.Rule.TheVariants.{Ranges}

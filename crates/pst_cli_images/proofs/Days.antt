@@ -32,7 +32,7 @@ use Rattle.pst_history_laws.proofs.Sound.{left-sound}
 use Rattle.pst_history_laws.proofs.Scripts.{left-alike, taken-alike, sound_behind_law, stays_behind_law, taken_up_law}
 use Rattle.pst_image_unpack.specs.Unpacked.{IsOwnText, IsAccepted}
 use Rattle.pst_image_unpack.proofs.Deciding.{one_text, never_both}
-use Rattle.pst_cli_sessions.specs.Storing.{IsLeft}
+use Rattle.pst_cli_serving.specs.Storing.{IsLeft}
 use Rattle.pst_cli_images.specs.Packing.{IsImage}
 use Rattle.pst_cli_images.proofs.Starts.{script-start, lines-start}
 use Rattle.pst_cli_images.specs.Opening.{opening_in}

@@ -15,7 +15,7 @@ use Rattle.pst_cli_scripts.specs.declared.stop.Stop.TheVariants as stop
 use Rattle.pst_cli_scripts.specs.Script.{by_tree}
 use Rattle.pst_cli_scripts.specs.Kept.{Kept, history_after}
 use Rattle.pst_front.specs.Verdict.{Accepted}
-use Rattle.pst_cli_sessions.proofs.Keeping.{meaning_shape}
+use Rattle.pst_cli_serving.proofs.Keeping.{meaning_shape}
 use Rattle.pst_cli_asking.specs.Asking.{GivesAll, StopsAsking}
 use Rattle.pst_cli_images.specs.Packing.{IsImage, Packs, Images}
 

@@ -24,7 +24,7 @@ use Rattle.pst_image_engine.proofs.Left.{left_rules_law}
 use Rattle.pst_program.specs.declared.program.Program.{Program}
 use Rattle.pst_program.specs.View.{routines_of}
 use Rattle.pst_translation.specs.Compiled.{code_of}
-use Rattle.pst_cli_sessions.specs.Storing.{IsRunning}
+use Rattle.pst_cli_serving.specs.Storing.{IsRunning}
 use Rattle.pst_image_meaning.specs.Denoted.{arena_in}
 use Rattle.pst_cli_images.specs.Packing.{IsImage}
 

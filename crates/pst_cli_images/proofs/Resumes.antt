@@ -25,7 +25,7 @@ use Rattle.pst_cli_scripts.specs.Pieces.{pieces_from}
 use Rattle.pst_cli_scripts.specs.Script.{by_tree_from, by_tree, script_of, reply_of, next_of}
 use Rattle.pst_cli_serving.specs.Held.{kept_in}
 use Rattle.pst_store_meaning.specs.Store.{Stored}
-use Rattle.pst_cli_sessions.specs.Storing.{IsLeft}
+use Rattle.pst_cli_serving.specs.Storing.{IsLeft}
 use Rattle.pst_image_form.specs.declared.parts.ImageParts.{ImageParts}
 use Rattle.pst_image_form.specs.Bytes.{HasForm, image_bytes}
 use Rattle.pst_image_form.proofs.Forms.{one_form}

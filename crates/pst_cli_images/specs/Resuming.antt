@@ -16,7 +16,7 @@ use Rattle.pst_cli_scripts.specs.Pieces.{IsPartOf}
 use Rattle.pst_cli_scripts.specs.Script.{by_tree, script_of}
 use Rattle.pst_cli_scripts.specs.Sessions.{AnswersText}
 use Rattle.pst_front.specs.Pages.{routines_in}
-use Rattle.pst_cli_sessions.specs.Storing.{IsLeft, IsBroken}
+use Rattle.pst_cli_serving.specs.Storing.{IsLeft, IsBroken}
 use Rattle.pst_cli_serving.specs.Rows.{HasRead}
 use Rattle.pst_image_form.specs.declared.parts.ImageParts.{ImageParts}
 use Rattle.pst_image_rules.specs.declared.rule.Rule.{Rule}

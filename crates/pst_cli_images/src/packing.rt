@@ -18,8 +18,7 @@ ghost use Rattle.pst_cli_images.specs.Packing.{ImagesScript, IsImage, PacksScrip
 use pst_base::{NoMemory, Text};
 use pst_cli_asking::carry_script;
 use pst_cli_scripts::{Session, Stop, read_text, say};
-use pst_cli_serving::{refuse, status_of};
-use pst_cli_sessions::Running;
+use pst_cli_serving::{Running, refuse, status_of};
 use pst_cli_words::Status;
 use pst_front::{NoProgram, canonical_program};
 use pst_image_pack::pack;

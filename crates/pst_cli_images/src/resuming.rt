@@ -12,8 +12,7 @@ ghost use Rattle.pst_cli_images.specs.Resuming.{Refuses, Resumes, ResumeRow, ref
 
 use pst_base::NoMemory;
 use pst_cli_scripts::{answer_text, read_all, say};
-use pst_cli_serving::status_of;
-use pst_cli_sessions::Running;
+use pst_cli_serving::{Running, status_of};
 use pst_cli_words::Status;
 use pst_image_rules::Rule;
 use pst_image_unpack::{ImageFault, Unpacked, unpack};

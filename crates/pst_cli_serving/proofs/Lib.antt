@@ -1,4 +1,6 @@
 pub mod Counting
-pub mod Serving
-pub mod RowLemmas
+pub mod Keeping
+pub mod LineStores
 pub mod Outputs
+pub mod RowLemmas
+pub mod Serving

@@ -4,7 +4,7 @@ use Rattle.pst_store_meaning.specs.Store.{Stored}
 use Rattle.pst_cli_words.specs.declared.job.Job.{Job}
 use Rattle.pst_cli_words.specs.declared.job.Job.TheVariants.{Run, Replay, Line, Check, Code}
 use Rattle.pst_cli_scripts.specs.Kept.{Kept, kept_by, still}
-use Rattle.pst_cli_sessions.specs.Storing.{IsLeft, IsBroken}
+use Rattle.pst_cli_serving.specs.Storing.{IsLeft, IsBroken}
 use Rattle.pst_cli_serving.specs.Output.{rules_of}
 
 -- `run` leaves the store in a history; every other job leaves it as it was handed in

@@ -8,7 +8,7 @@ use Rattle.pst_front.specs.declared.page.Page.{Page}
 use Rattle.pst_front.specs.declared.page.Page.TheVariants.{Canonical, Listing}
 use Rattle.pst_cli_scripts.specs.Pieces.{pieces_from, IsPartOf, StopsInReply, StopsBeforeReply}
 use Rattle.pst_cli_scripts.specs.Script.{Rules, by_tree, script_of}
-use Rattle.pst_cli_sessions.specs.Lining.{by_line}
+use Rattle.pst_cli_serving.specs.Lining.{by_line}
 use Rattle.pst_cli_scripts.specs.Kept.{Kept, first_history}
 use Rattle.pst_front.specs.Pages.{routines_in, page_text}
 use Rattle.pst_front.specs.Verdict.{Verdict, Accepted, Refused, Judged, fault_text}

@@ -11,12 +11,31 @@
 //!
 //!     let text = read_text(alloc, &mut lines, source)?;
 //!     let status = serve::<Replaying, S, K>(alloc, text, &mut (), &mut lines, source, sink);
+//!
+//! MERGE: one head is wanted; the above is that of `pst_cli_serving`, and the below of `pst_cli_sessions`.
+//!
+//! The three sessions: what answers the commands of a script, by a store, by replaying, or by the store of a linear history.
+//!
+//! Model: a session, with what is held beside it, stands for histories of its program (the trait [`Session`](pst_cli_scripts::Session)).
+//!
+//! Contract: [`Running`] answers by the engine over a store of fat nodes, [`Replaying`] by executing each version's runs again,
+//! and both give the replies of a tree of versions; [`Lining`] answers by the store of a linear history, where only the newest
+//! version may be written. What is held is left with every version of the history, within the bound of its store.
+//!
+//!     let mut session = Running::begin(alloc, program, store)?;
+//!     let reply = session.apply(alloc, store, &command)?;
 #![tactic(auto)]
 
 mod laws;
+mod lining;
+mod replaying;
+mod running;
 mod stopped;
 mod text;
 
 pub use laws::input_has_one_output;
+pub use lining::Lining;
+pub use replaying::Replaying;
+pub use running::Running;
 pub use stopped::status_of;
 pub use text::{print, refuse, serve};

@@ -5,8 +5,8 @@ use Rattle.pst_program.specs.declared.program.Program.{Program}
 use Rattle.pst_history.specs.Direct.{meaning_of}
 use Rattle.pst_cli_scripts.specs.Script.{by_tree}
 use Rattle.pst_cli_scripts.specs.Kept.{kept_by, first_history, history_after}
-use Rattle.pst_cli_sessions.specs.Storing.{IsLeft, IsBroken}
-use Rattle.pst_cli_sessions.proofs.Keeping.{meaning_shape}
+use Rattle.pst_cli_serving.specs.Storing.{IsLeft, IsBroken}
+use Rattle.pst_cli_serving.proofs.Keeping.{meaning_shape}
 use Rattle.pst_cli_asking.proofs.Finding.{carrying_stopped, found_stopped, answer_found, answer_lacks}
 use Rattle.pst_cli_asking.proofs.asking.answer_to.Goals as goal
 

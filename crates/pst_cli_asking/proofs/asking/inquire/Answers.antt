@@ -3,7 +3,7 @@ use Rattle.std.proofs.KnownBytes.{Appends-nil}
 use Rattle.pst_history.specs.Direct.{meaning_of}
 use Rattle.pst_cli_scripts.specs.Script.{by_tree}
 use Rattle.pst_cli_scripts.specs.Kept.{kept_by, history_after}
-use Rattle.pst_cli_sessions.specs.Storing.{IsLeft, IsBroken}
+use Rattle.pst_cli_serving.specs.Storing.{IsLeft, IsBroken}
 use Rattle.pst_cli_questions.specs.Telling.{Tells}
 use Rattle.pst_cli_asking.specs.Asking.{AnsweredWhole, AnsweredInPart}
 use Rattle.pst_cli_asking.proofs.AskRows.{fault_asked, answer_asked, answer_stopped, script_asked}

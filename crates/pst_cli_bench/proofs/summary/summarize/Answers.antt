@@ -6,7 +6,7 @@ use Rattle.pst_history.specs.Direct.{meaning_of}
 use Rattle.pst_cli_scripts.specs.Pieces.{AfterSome}
 use Rattle.pst_cli_scripts.specs.Script.{by_tree, script_of}
 use Rattle.pst_cli_scripts.specs.Kept.{first_history}
-use Rattle.pst_cli_sessions.specs.Storing.{IsBroken}
+use Rattle.pst_cli_serving.specs.Storing.{IsBroken}
 use Rattle.pst_cli_bench.specs.Bench.{bench_lines, summary_of}
 use Rattle.pst_cli_bench.proofs.Benching.{broken_behind, summary_is}
 use Rattle.pst_cli_bench.proofs.Summing.{of_error}

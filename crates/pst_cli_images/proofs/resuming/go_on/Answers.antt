@@ -6,7 +6,7 @@ use Rattle.pst_history.specs.History.{begun}
 use Rattle.pst_history.specs.Direct.{meaning_of}
 use Rattle.pst_engine.specs.Stands.{opening_of}
 use Rattle.pst_store.specs.Whole.{state_in}
-use Rattle.pst_cli_sessions.proofs.Keeping.{meaning_shape}
+use Rattle.pst_cli_serving.proofs.Keeping.{meaning_shape}
 use Rattle.pst_image_rules.specs.declared.rule.Rule.TheVariants.{Ranges}
 use Rattle.pst_cli_images.specs.Resuming.{resumed_in}
 use Rattle.pst_cli_images.proofs.Taking.{opens_in, opening_is}

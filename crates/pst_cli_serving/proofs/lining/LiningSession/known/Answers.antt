@@ -1,5 +1,5 @@
-use Rattle.pst_cli_sessions.proofs.LineStores.{line_left, line_broken}
-use Rattle.pst_cli_sessions.proofs.lining.LiningSession.known.Goals as goal
+use Rattle.pst_cli_serving.proofs.LineStores.{line_left, line_broken}
+use Rattle.pst_cli_serving.proofs.lining.LiningSession.known.Goals as goal
 
 pub returns-clause-leaves : goal.returns-clause-leaves
 returns-clause-leaves g c m h r =

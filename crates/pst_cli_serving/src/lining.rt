@@ -21,7 +21,7 @@ pub struct Lining<L: LineCalls> {
 
 impl<L: LineCalls> Session for Lining<L> {
     ghost use Rattle.pst_line.specs.Store.{IsEmpty};
-    ghost use Rattle.pst_cli_sessions.specs.Lining.{by_line, IsLineLeft, IsLineBroken, IsLining};
+    ghost use Rattle.pst_cli_serving.specs.Lining.{by_line, IsLineLeft, IsLineBroken, IsLining};
 
     type Held = L;
 

@@ -5,8 +5,8 @@ use Rattle.pst_history.specs.Meaning.{Meaning}
 use Rattle.pst_history.specs.History.{after}
 use Rattle.pst_engine.specs.Stands.{EngineStands}
 use Rattle.pst_store.specs.Whole.{queue_in, state_in}
-use Rattle.pst_cli_sessions.proofs.Keeping.{nothing_waits}
-use Rattle.pst_cli_sessions.proofs.running.RunningSession.apply.Goals as goal
+use Rattle.pst_cli_serving.proofs.Keeping.{nothing_waits}
+use Rattle.pst_cli_serving.proofs.running.RunningSession.apply.Goals as goal
 
 pub returns-clause-stands : goal.returns-clause-stands
 returns-clause-stands g c m h r =

@@ -3,8 +3,8 @@ use Rattle.pst_history.specs.Meaning.{Meaning}
 use Rattle.pst_engine_runs.specs.Stands.{HoldsVersions}
 use Rattle.pst_linerun.specs.Linear.{line_reply, line_after}
 use Rattle.pst_linerun.specs.Standing.{SessionStands}
-use Rattle.pst_cli_sessions.proofs.LineStores.{line_broken}
-use Rattle.pst_cli_sessions.proofs.lining.LiningSession.apply.Goals as goal
+use Rattle.pst_cli_serving.proofs.LineStores.{line_broken}
+use Rattle.pst_cli_serving.proofs.lining.LiningSession.apply.Goals as goal
 
 pub returns-in-Ok-clause-answer : goal.returns-in-Ok-clause-answer
 returns-in-Ok-clause-answer g c m h r =

@@ -11,7 +11,7 @@ use Rattle.pst_line.specs.declared.place.Stretch.{Stretch}
 use Rattle.pst_line.specs.Store.{Stored as LineStored, stamp, bound, rows_from, Means, IsStored, IsClosed}
 use Rattle.pst_linerun.specs.declared.session.LineSession.{LineSession}
 use Rattle.pst_linerun.specs.Standing.{SessionStands}
-use Rattle.pst_cli_sessions.specs.Lining.{IsLineBounded, IsLineLeft, IsLineBroken}
+use Rattle.pst_cli_serving.specs.Lining.{IsLineBounded, IsLineLeft, IsLineBroken}
 
 many_rows : (v : ℕ) (rows : List Stretch) → length (rows_from v rows) ≡ length rows
 many_rows v [] = refl

@@ -4,8 +4,8 @@ use Rattle.pst_program.specs.declared.program.Program.{Program}
 use Rattle.pst_program.specs.View.{routines_of}
 use Rattle.pst_history.specs.Direct.{meaning_of}
 use Rattle.pst_line.specs.Store.{IsStarted}
-use Rattle.pst_cli_sessions.proofs.Keeping.{meaning_shape}
-use Rattle.pst_cli_sessions.proofs.lining.LiningSession.begin.Goals as goal
+use Rattle.pst_cli_serving.proofs.Keeping.{meaning_shape}
+use Rattle.pst_cli_serving.proofs.lining.LiningSession.begin.Goals as goal
 
 pub a_new_session_stands-requires-clause-store : goal.a_new_session_stands-requires-clause-store
 a_new_session_stands-requires-clause-store g c =

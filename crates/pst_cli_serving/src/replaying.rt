@@ -17,7 +17,7 @@ pub struct Replaying {
 impl Session for Replaying {
     ghost use Rattle.std.specs.Prelude.{⊤};
     ghost use Rattle.pst_cli_scripts.specs.Script.{by_tree};
-    ghost use Rattle.pst_cli_sessions.specs.Replaying.{IsReplaying};
+    ghost use Rattle.pst_cli_serving.specs.Replaying.{IsReplaying};
 
     type Held = ();
 

@@ -29,7 +29,7 @@ impl<O: Order + Drop, N: FatNodes> Running<O, N> {
     ghost use Rattle.pst_history.specs.Direct.{meaning_of};
     ghost use Rattle.pst_engine.specs.Stands.{IsOpeningHeap, opening_of};
     ghost use Rattle.pst_store.specs.Whole.{queue_in, state_in};
-    ghost use Rattle.pst_cli_sessions.specs.Storing.{IsRunning};
+    ghost use Rattle.pst_cli_serving.specs.Storing.{IsRunning};
 
     /// A session over a store that has versions, with this next run number and budget. It stands for the opening that has them.
     pub fn over(
@@ -72,7 +72,7 @@ impl<O: Order + Drop, N: FatNodes> Running<O, N> {
 impl<O: Order + Drop, N: FatNodes> Session for Running<O, N> {
     ghost use Rattle.std.specs.Prelude.{◌≡◌, None};
     ghost use Rattle.pst_cli_scripts.specs.Script.{by_tree};
-    ghost use Rattle.pst_cli_sessions.specs.Storing.{IsLeft, IsBroken, IsRunning};
+    ghost use Rattle.pst_cli_serving.specs.Storing.{IsLeft, IsBroken, IsRunning};
 
     type Held = StoreOf<O, N>;
 

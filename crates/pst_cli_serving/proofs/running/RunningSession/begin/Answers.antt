@@ -2,8 +2,8 @@ use Rattle.std.proofs.Common.{◌∙◌, ap}
 use Rattle.pst_program.specs.declared.program.Program.{Program}
 use Rattle.pst_program.specs.View.{routines_of}
 use Rattle.pst_history.specs.Direct.{meaning_of}
-use Rattle.pst_cli_sessions.proofs.Keeping.{meaning_shape, started}
-use Rattle.pst_cli_sessions.proofs.running.RunningSession.begin.Goals as goal
+use Rattle.pst_cli_serving.proofs.Keeping.{meaning_shape, started}
+use Rattle.pst_cli_serving.proofs.running.RunningSession.begin.Goals as goal
 
 pub a_new_engine_stands-requires-clause-heap : goal.a_new_engine_stands-requires-clause-heap
 a_new_engine_stands-requires-clause-heap g c =
