@@ -22,7 +22,7 @@ use Rattle.pst_translation.proofs.ValidLists.{all_front, all_back}
 use Rattle.pst_translation.proofs.ValidSorts.{of_truth, FieldOf, field_is, ArrayOf, array_is, load_kind, element_kind, negated, no_not, denied, Operands, number_operands, and_operands, or_operands, is_logical, Compared, compared_operands}
 use Rattle.pst_translation.proofs.ValidActions.{Put, put}
 use Rattle.pst_translation.proofs.ValidTables.{noted_covers}
-use Rattle.pst_codegen_registers.specs.Ready.{Has, HasAll, HasNoted, HasEnd, IsOperand, IsTest, AreArguments, IsResult, IsReady, AreReady, IsReadyProcedure}
+use Rattle.pst_codegen_expressions.specs.Ready.{Has, HasAll, HasNoted, HasEnd, IsOperand, IsTest, AreArguments, IsResult, IsReady, AreReady, IsReadyProcedure}
 
 -- ---- expressions
 

@@ -10,7 +10,7 @@ use Rattle.pst_program.specs.View.{routines_of, procedure_of}
 use Rattle.pst_code.specs.declared.procedure.Procedure.{Procedure}
 use Rattle.pst_code.specs.declared.procedure.Parts.{Parts}
 use Rattle.pst_translation.specs.Compiled.{procedure_code, code_of}
-use Rattle.pst_codegen_registers.specs.Ready.{IsReadyProcedure}
+use Rattle.pst_codegen_expressions.specs.Ready.{IsReadyProcedure}
 use Rattle.pst_codegen.proofs.Typed.{procedure_ready}
 
 pub ready_at : (program : Program) → IsTyped (routines_of program) → (i : ℕ) (p : TypedProc) → i < length program.procedures.items.items → p ≡ get_or program.procedures.items.items i p → IsReadyProcedure program.shape (procedure_of p)

@@ -4,7 +4,7 @@
 ghost use Rattle.std.specs.Prelude.{◌≡◌, ◌+◌, length, IfOk, OnOk};
 ghost use Rattle.pst_program.specs.Syntax.{If, Either, While};
 ghost use Rattle.pst_program.specs.View.{expr_of, action_of, actions_of};
-ghost use Rattle.pst_codegen_registers.specs.Ready.{HasNoted, IsTest, IsReady, AreReady};
+ghost use Rattle.pst_codegen_expressions.specs.Ready.{HasNoted, IsTest, IsReady, AreReady};
 ghost use Rattle.pst_codegen_expressions.specs.Emitted.{Emits};
 ghost use Rattle.pst_codegen_statements.specs.Made.{code_by, block_by};
 

@@ -4,13 +4,12 @@ ghost use Rattle.std.specs.Prelude.{◌≡◌, ◌++◌, map, IfOk};
 ghost use Rattle.pst_program.specs.Typed.{IsTyped};
 ghost use Rattle.pst_program.specs.View.{routines_of, procedure_of};
 ghost use Rattle.pst_translation.specs.Compiled.{procedure_code, code_of};
-ghost use Rattle.pst_codegen_registers.specs.Ready.{IsReadyProcedure};
+ghost use Rattle.pst_codegen_expressions.specs.Ready.{IsReadyProcedure};
 
 use crate::blocks::emit_block;
 use pst_base::{Kinds, NoMemory, TypeShape};
 use pst_code::{Code, Instrs, Parts, Procedure, ProcedureList};
-use pst_codegen_expressions::Layout;
-use pst_codegen_registers::table_of;
+use pst_codegen_expressions::{Layout, table_of};
 use pst_codegen_statements::emit_end;
 use pst_program::{Program, TypedProc};
 use pst_translation::Need;

@@ -1,1 +1,5 @@
+pub mod Bridge
 pub mod Lengths
+pub mod Noting
+pub mod Rows
+pub mod Turns

@@ -3,7 +3,7 @@
 ghost use Rattle.std.specs.Prelude.{◌≡◌, ◌+◌, true, length, IfOk, OnOk};
 ghost use Rattle.pst_program.specs.View.{expr_of};
 ghost use Rattle.pst_translation.specs.Code.{reg, arithmetic, opposite, jump_of, compare_code};
-ghost use Rattle.pst_codegen_registers.specs.Ready.{HasNoted, IsOperand, IsTest};
+ghost use Rattle.pst_codegen_expressions.specs.Ready.{HasNoted, IsOperand, IsTest};
 ghost use Rattle.pst_codegen_expressions.specs.Emitted.{Emits, comparison_code, condition_size, condition_code};
 ghost use Rattle.pst_codegen_expressions.specs.Sizes.{expr_size};
 

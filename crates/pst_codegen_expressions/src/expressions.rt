@@ -6,13 +6,13 @@ ghost use Rattle.pst_program.specs.Syntax.{Number, Null, Root};
 ghost use Rattle.pst_program.specs.Typed.{root_kind};
 ghost use Rattle.pst_program.specs.View.{expr_of};
 ghost use Rattle.pst_translation.specs.Code.{kind_or, arithmetic};
-ghost use Rattle.pst_codegen_registers.specs.Ready.{HasNoted, IsOperand};
+ghost use Rattle.pst_codegen_expressions.specs.Ready.{HasNoted, IsOperand};
 ghost use Rattle.pst_codegen_expressions.specs.Emitted.{Emits, temps_of, operand_code, operand_register};
 
 use crate::layout::Layout;
+use crate::needs::root_kind;
 use pst_base::{Kind, NoMemory, Op, SlotNo, TypeNo};
 use pst_code::{Instr, Reg};
-use pst_codegen_registers::root_kind;
 use pst_program::Typed;
 
 /// Adds an instruction.

@@ -3,9 +3,9 @@
 ghost use Rattle.std.specs.Prelude.{◌+◌, ◌≤◌, length};
 ghost use Rattle.pst_code.specs.declared.procedure.TheConstants.{MOST_REGISTERS};
 
+use crate::table::Table;
 use pst_base::{Kind, TypeShape};
 use pst_code::Reg;
-use pst_codegen_registers::Table;
 
 /// The record types, and the registers of a procedure: the parameters and locals first, then the temporary ones.
 #[derive(Drop)]
@@ -19,7 +19,7 @@ pub struct Layout<'a> {
 impl Layout<'_> {
     ghost use Rattle.std.specs.Prelude.{◌≡◌};
     ghost use Rattle.pst_translation.specs.Needs.{temp_of};
-    ghost use Rattle.pst_codegen_registers.specs.Ready.{HasNoted};
+    ghost use Rattle.pst_codegen_expressions.specs.Ready.{HasNoted};
 
     /// The temporary register for a level and a kind.
     pub fn temporary(&self, level: u16, kind: Kind) -> Reg

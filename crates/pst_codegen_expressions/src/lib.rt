@@ -8,12 +8,26 @@
 //! is the one free answer, also where an index would not fit 32 bits.
 //!
 //! For example `x < 5`, to be left for index 7 where it does not hold, is `const r1 5`, `jumpge r0 r1 7`.
+//!
+//! MERGE: one head is wanted; the above is that of `pst_codegen_expressions`, and the below of `pst_codegen_registers`.
+//!
+//! The temporary registers that the code of a procedure needs: the first pass of the compiler.
+//!
+//! The model is `table_of` of `pst_translation`, a list of levels and kinds in the order in which the code first needs them. A
+//! [`Table`] is such a list, and knows the index of each; `table_of` gives that of a procedure whose expressions are operands
+//! and conditions of levels that fit 16 bits, as those of a well-typed program are.
+//!
+//! For example the code of `x = x + 1` needs two: the number of level 1, into which the 1 is loaded, and then that of level 0, for
+//! the sum.
 #![tactic(auto)]
 
 mod conditions;
 mod expressions;
 mod layout;
+mod needs;
+mod table;
 
 pub use conditions::{after, emit_test, test_len};
 pub use expressions::{emit_expr, put};
 pub use layout::Layout;
+pub use needs::table_of;

@@ -2,7 +2,7 @@
 
 ghost use Rattle.std.specs.Prelude.{OnOk};
 ghost use Rattle.pst_translation.specs.Code.{end_code};
-ghost use Rattle.pst_codegen_registers.specs.Ready.{HasNoted, HasEnd};
+ghost use Rattle.pst_codegen_expressions.specs.Ready.{HasNoted, HasEnd};
 ghost use Rattle.pst_codegen_expressions.specs.Emitted.{Emits, temps_of};
 
 use pst_base::{Kind, NoMemory};

@@ -4,7 +4,7 @@ ghost use Rattle.std.specs.Prelude.{◌≡◌, map, IfOk, OnOk};
 ghost use Rattle.std.specs.Option.{option_map};
 ghost use Rattle.pst_program.specs.Syntax.{Set, SetRoot, Store, StoreIndexed, Call, Print, Return};
 ghost use Rattle.pst_program.specs.View.{expr_of};
-ghost use Rattle.pst_codegen_registers.specs.Ready.{HasNoted, IsOperand, AreArguments, IsResult};
+ghost use Rattle.pst_codegen_expressions.specs.Ready.{HasNoted, IsOperand, AreArguments, IsResult};
 ghost use Rattle.pst_codegen_expressions.specs.Emitted.{Emits};
 ghost use Rattle.pst_codegen_statements.specs.Made.{EmitsOne, arguments_by, argument_registers};
 

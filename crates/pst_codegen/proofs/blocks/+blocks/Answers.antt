@@ -3,8 +3,8 @@ use Rattle.pst_program.specs.Syntax.{Actions}
 use Rattle.pst_program.specs.View.{actions_of, statements_of}
 use Rattle.pst_translation.specs.Code.{Temp, block_code}
 use Rattle.pst_translation.specs.Needs.{temp_of}
-use Rattle.pst_codegen_registers.specs.Ready.{HasNoted, AreReady}
-use Rattle.pst_codegen_registers.proofs.Bridge.{block_is_list}
+use Rattle.pst_codegen_expressions.specs.Ready.{HasNoted, AreReady}
+use Rattle.pst_codegen_expressions.proofs.Bridge.{block_is_list}
 use Rattle.pst_codegen.proofs.blocks.+blocks.Goals as goal
 
 pub emit_block-loop-statement-init : goal.emit_block-loop-statement-init

@@ -4,7 +4,7 @@ use Rattle.pst_program.specs.declared.block.TypedStatement.{size-TypedStatement}
 use Rattle.pst_program.specs.View.{actions_of, statements_of}
 use Rattle.pst_translation.specs.Code.{block_code}
 use Rattle.pst_translation.specs.Needs.{temp_of}
-use Rattle.pst_codegen_registers.specs.Ready.{HasNoted, AreReady}
+use Rattle.pst_codegen_expressions.specs.Ready.{HasNoted, AreReady}
 use Rattle.pst_codegen.proofs.blocks.+blocks.Given as goal
 
 abbrev pub invariant-emit_block-loop-statement : goal.invariant-emit_block-loop-statement

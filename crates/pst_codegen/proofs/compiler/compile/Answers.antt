@@ -2,7 +2,7 @@ use Rattle.std.proofs.Common.{rules, subst, sym}
 use Rattle.pst_program.specs.View.{routines_of, procedure_of}
 use Rattle.pst_translation.proofs.Valid.{compiled_is_valid}
 use Rattle.pst_code.specs.Valid.{IsValidCode}
-use Rattle.pst_codegen_registers.specs.Ready.{IsReadyProcedure}
+use Rattle.pst_codegen_expressions.specs.Ready.{IsReadyProcedure}
 use Rattle.pst_codegen.proofs.Whole.{ready_at, code_is}
 use Rattle.pst_codegen.proofs.compiler.compile.Goals as goal
 

@@ -2,7 +2,7 @@ use Rattle.std.proofs.Common.{◌≡◌, ◌++◌, drop, map}
 use Rattle.pst_program.specs.View.{expr_of}
 use Rattle.pst_translation.specs.Code.{arguments_code, registers}
 use Rattle.pst_translation.specs.Needs.{temp_of}
-use Rattle.pst_codegen_registers.specs.Ready.{HasNoted, AreArguments}
+use Rattle.pst_codegen_expressions.specs.Ready.{HasNoted, AreArguments}
 use Rattle.pst_codegen_statements.proofs.statements.emit_arguments.Given as goal
 
 abbrev pub invariant-loop-e : goal.invariant-loop-e

@@ -1,7 +1,7 @@
 use Rattle.std.proofs.Common.{◌∙◌, subst, sym, refl}
 use Rattle.std.specs.Option.{IsSome}
-use Rattle.pst_codegen_registers.proofs.Rows.{index_found}
-use Rattle.pst_codegen_registers.proofs.table.Table.index_of.Goals as goal
+use Rattle.pst_codegen_expressions.proofs.Rows.{index_found}
+use Rattle.pst_codegen_expressions.proofs.table.Table.index_of.Goals as goal
 
 pub unwrap-requires : goal.unwrap-requires
 unwrap-requires c = subst IsSome (sym (c.find.ensures ∙ index_found c.args.self.now c.args.level c.args.kind c.requires)) refl

@@ -11,8 +11,8 @@ use Rattle.pst_base.specs.declared.names.Kind.{Kind}
 use Rattle.pst_program.specs.Typed.{same_kind}
 use Rattle.pst_translation.specs.declared.need.Need.{Need}
 use Rattle.pst_translation.specs.Needs.{need, same_need, is_noted, noted_one, index_in}
-use Rattle.pst_codegen_registers.specs.declared.table.Temporary.{Temporary}
-use Rattle.pst_codegen_registers.specs.Rows.{index_noted, found_in, row_at, IsIndexed}
+use Rattle.pst_codegen_expressions.specs.declared.table.Temporary.{Temporary}
+use Rattle.pst_codegen_expressions.specs.Rows.{index_noted, found_in, row_at, IsIndexed}
 
 -- ---- what has an index below the length is found
 

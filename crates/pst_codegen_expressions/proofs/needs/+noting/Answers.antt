@@ -2,10 +2,10 @@ use Rattle.std.proofs.Common.{◌≡◌, ap, sym, subst, ◌∙◌}
 use Rattle.pst_program.specs.Syntax.{Actions}
 use Rattle.pst_program.specs.View.{actions_of, statements_of}
 use Rattle.pst_translation.specs.Needs.{block_needs, noted}
-use Rattle.pst_codegen_registers.specs.Ready.{HasAll, AreReady}
-use Rattle.pst_codegen_registers.proofs.Bridge.{block_is_list}
-use Rattle.pst_codegen_registers.proofs.Turns.{statements_left, statements_noted}
-use Rattle.pst_codegen_registers.proofs.needs.+noting.Goals as goal
+use Rattle.pst_codegen_expressions.specs.Ready.{HasAll, AreReady}
+use Rattle.pst_codegen_expressions.proofs.Bridge.{block_is_list}
+use Rattle.pst_codegen_expressions.proofs.Turns.{statements_left, statements_noted}
+use Rattle.pst_codegen_expressions.proofs.needs.+noting.Goals as goal
 
 pub note_block-loop-statement-init : goal.note_block-loop-statement-init
 note_block-loop-statement-init t c =

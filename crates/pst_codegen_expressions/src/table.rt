@@ -1,7 +1,7 @@
 //! The table of the temporary registers of a procedure.
 
 ghost use Rattle.std.specs.Prelude.{◌≡◌, ◌<◌, ℕ, OnOk, length};
-ghost use Rattle.pst_codegen_registers.specs.Rows.{row_at};
+ghost use Rattle.pst_codegen_expressions.specs.Rows.{row_at};
 
 use pst_base::{Kind, NoMemory};
 use pst_translation::Need;
@@ -23,7 +23,7 @@ struct Row {
 
 impl Model for Row {
     ghost use Rattle.std.specs.Prelude.{List};
-    ghost use Rattle.pst_codegen_registers.specs.declared.table.Temporary.{Temporary};
+    ghost use Rattle.pst_codegen_expressions.specs.declared.table.Temporary.{Temporary};
 
     ghost Value = { List Temporary };
 
@@ -32,7 +32,7 @@ impl Model for Row {
 
 impl Row {
     ghost use Rattle.std.specs.Prelude.{◌≡◌, [], ◌∷◌, ◌++◌, MatchResult};
-    ghost use Rattle.pst_codegen_registers.specs.Rows.{found_in};
+    ghost use Rattle.pst_codegen_expressions.specs.Rows.{found_in};
 
     /// A row with no register.
     fn new(alloc: Global) -> Self
@@ -75,7 +75,7 @@ pub struct Table {
 impl Model for Table {
     ghost use Rattle.std.specs.Prelude.{List};
     ghost use Rattle.pst_translation.specs.declared.need.Need.{Need};
-    ghost use Rattle.pst_codegen_registers.specs.Rows.{IsIndexed};
+    ghost use Rattle.pst_codegen_expressions.specs.Rows.{IsIndexed};
 
     ghost Value = { List Need };
 
@@ -87,7 +87,7 @@ impl Model for Table {
 impl Table {
     ghost use Rattle.std.specs.Prelude.{◌≡◌, ◌<◌, OnOk, [], length};
     ghost use Rattle.pst_translation.specs.Needs.{need, noted_one, index_in};
-    ghost use Rattle.pst_codegen_registers.specs.Rows.{index_noted};
+    ghost use Rattle.pst_codegen_expressions.specs.Rows.{index_noted};
 
     /// A table with no register.
     pub(crate) fn new(alloc: Global) -> Self

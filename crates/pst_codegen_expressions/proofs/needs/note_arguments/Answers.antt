@@ -1,6 +1,6 @@
-use Rattle.pst_codegen_registers.specs.Ready.{HasAll}
-use Rattle.pst_codegen_registers.proofs.Turns.{arguments_left, arguments_noted}
-use Rattle.pst_codegen_registers.proofs.needs.note_arguments.Goals as goal
+use Rattle.pst_codegen_expressions.specs.Ready.{HasAll}
+use Rattle.pst_codegen_expressions.proofs.Turns.{arguments_left, arguments_noted}
+use Rattle.pst_codegen_expressions.proofs.needs.note_arguments.Goals as goal
 
 pub loop-e-preserved : goal.loop-e-preserved
 loop-e-preserved c = record {

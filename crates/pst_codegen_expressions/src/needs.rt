@@ -7,7 +7,7 @@ ghost use Rattle.pst_program.specs.Typed.{root_kind};
 ghost use Rattle.pst_program.specs.View.{expr_of, action_of, actions_of, procedure_of};
 ghost use Rattle.pst_translation.specs.Code.{kind_or};
 ghost use Rattle.pst_translation.specs.Needs.{noted, expr_needs, test_needs, arguments_needs, return_needs, action_needs, block_needs, end_needs, table_of};
-ghost use Rattle.pst_codegen_registers.specs.Ready.{HasAll, IsOperand, IsTest, AreArguments, IsResult, IsReady, AreReady, IsReadyProcedure};
+ghost use Rattle.pst_codegen_expressions.specs.Ready.{HasAll, IsOperand, IsTest, AreArguments, IsResult, IsReady, AreReady, IsReadyProcedure};
 
 use crate::table::Table;
 use pst_base::{Kind, NoMemory, Op, SlotNo, TypeShape};

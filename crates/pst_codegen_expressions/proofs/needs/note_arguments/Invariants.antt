@@ -1,8 +1,8 @@
 use Rattle.std.proofs.Common.{◌≡◌, drop, map}
 use Rattle.pst_program.specs.View.{expr_of}
 use Rattle.pst_translation.specs.Needs.{arguments_needs, noted}
-use Rattle.pst_codegen_registers.specs.Ready.{HasAll, AreArguments}
-use Rattle.pst_codegen_registers.proofs.needs.note_arguments.Given as goal
+use Rattle.pst_codegen_expressions.specs.Ready.{HasAll, AreArguments}
+use Rattle.pst_codegen_expressions.proofs.needs.note_arguments.Given as goal
 
 abbrev pub invariant-loop-e : goal.invariant-loop-e
 invariant-loop-e l = record {

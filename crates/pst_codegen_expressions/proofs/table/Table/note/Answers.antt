@@ -1,6 +1,6 @@
 use Rattle.std.proofs.Common.{rules}
-use Rattle.pst_codegen_registers.proofs.Rows.{pushed, noted_then, noted_else, indexed_push}
-use Rattle.pst_codegen_registers.proofs.table.Table.note.Goals as goal
+use Rattle.pst_codegen_expressions.proofs.Rows.{pushed, noted_then, noted_else, indexed_push}
+use Rattle.pst_codegen_expressions.proofs.table.Table.note.Goals as goal
 
 pub returns-then-is_some : goal.returns-then-is_some
 returns-then-is_some c = noted_then c.args.self.now c.args.level c.args.kind c.find.result c.find.ensures (search rules)

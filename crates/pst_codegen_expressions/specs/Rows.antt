@@ -5,7 +5,7 @@ use Rattle.pst_base.specs.declared.names.Kind.{Kind}
 use Rattle.pst_program.specs.Typed.{same_kind}
 use Rattle.pst_translation.specs.declared.need.Need.{Need}
 use Rattle.pst_translation.specs.Needs.{need, same_need}
-use Rattle.pst_codegen_registers.specs.declared.table.Temporary.{Temporary}
+use Rattle.pst_codegen_expressions.specs.declared.table.Temporary.{Temporary}
 
 -- the index at which a table has a level and a kind
 abbrev pub index_noted : List Need → (level : ℕ) → Kind → Option ℕ

@@ -6,8 +6,8 @@ use Rattle.pst_program.specs.declared.block.TypedStatement.{TypedStatement}
 use Rattle.pst_program.specs.View.{expr_of, action_of, statements_of}
 use Rattle.pst_translation.specs.declared.need.Need.{Need}
 use Rattle.pst_translation.specs.Needs.{noted, expr_needs, arguments_needs, action_needs, block_needs}
-use Rattle.pst_codegen_registers.specs.Ready.{Has, AreArguments, AreReady}
-use Rattle.pst_codegen_registers.proofs.Noting.{noted_more}
+use Rattle.pst_codegen_expressions.specs.Ready.{Has, AreArguments, AreReady}
+use Rattle.pst_codegen_expressions.proofs.Noting.{noted_more}
 
 pub split : {A : Type 0} (xs : List A) (i : ℕ) (x : A) → i < length xs → x ≡ get_or xs i x → drop i xs ≡ x ∷ drop (i + 1) xs
 split xs i x lt e =

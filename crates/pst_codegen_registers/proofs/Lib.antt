@@ -1,4 +1,0 @@
-pub mod Bridge
-pub mod Noting
-pub mod Rows
-pub mod Turns
