@@ -6,15 +6,15 @@ ghost use Rattle.pst_program.specs.Syntax.{If, Either, While};
 ghost use Rattle.pst_program.specs.View.{expr_of, action_of, actions_of};
 ghost use Rattle.pst_codegen_expressions.specs.Ready.{HasNoted, IsTest, IsReady, AreReady};
 ghost use Rattle.pst_codegen_expressions.specs.Emitted.{Emits};
-ghost use Rattle.pst_codegen_statements.specs.Made.{code_by, block_by};
+ghost use Rattle.pst_codegen.specs.Made.{code_by, block_by};
 
+use crate::choices::{emit_choice, emit_guarded};
+use crate::statements::{
+    emit_call, emit_print, emit_return, emit_set, emit_set_root, emit_store, emit_store_element,
+};
 use pst_base::NoMemory;
 use pst_code::{Instr, Reg};
 use pst_codegen_expressions::{Layout, after, put, test_len};
-use pst_codegen_statements::{
-    emit_call, emit_choice, emit_guarded, emit_print, emit_return, emit_set, emit_set_root,
-    emit_store, emit_store_element,
-};
 use pst_program::{Typed, TypedBlock, TypedForm, TypedStatement};
 use std::alloc::Global;
 

@@ -7,10 +7,10 @@ ghost use Rattle.pst_translation.specs.Compiled.{procedure_code, code_of};
 ghost use Rattle.pst_codegen_expressions.specs.Ready.{IsReadyProcedure};
 
 use crate::blocks::emit_block;
+use crate::ends::emit_end;
 use pst_base::{Kinds, NoMemory, TypeShape};
 use pst_code::{Code, Instrs, Parts, Procedure, ProcedureList};
 use pst_codegen_expressions::{Layout, table_of};
-use pst_codegen_statements::emit_end;
 use pst_program::{Program, TypedProc};
 use pst_translation::Need;
 use std::alloc::Global;

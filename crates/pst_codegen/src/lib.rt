@@ -10,9 +10,22 @@
 //!
 //! For example `while x < 5` with a body of three instructions in line 1 is `charge 1`, `const r1 5`, `jumpge r0 r1 7`, the body,
 //! `jump 0`.
+//!
+//! MERGE: one head is wanted; the above is that of `pst_codegen`, and the below of `pst_codegen_statements`.
+//!
+//! The code of single statements, and of the end of a procedure.
+//!
+//! The model is that of `pst_translation`: each call adds exactly the code that it names for a statement of its kind, by the record
+//! types and registers of a [`Layout`](pst_codegen_expressions::Layout), or finds no memory. Of a choice or a loop the blocks are made
+//! before: [`emit_guarded`] and [`emit_choice`] add their code behind the test, with jumps to the indices that they are given.
+//!
+//! For example `print x` in line 1 is `charge 1`, `print r0`.
 #![tactic(auto)]
 
 mod blocks;
+mod choices;
 mod compiler;
+mod ends;
+mod statements;
 
 pub use compiler::compile;

@@ -3,7 +3,7 @@ use Rattle.pst_program.specs.View.{expr_of}
 use Rattle.pst_translation.specs.Code.{arguments_code, registers}
 use Rattle.pst_translation.specs.Needs.{temp_of}
 use Rattle.pst_codegen_expressions.specs.Ready.{HasNoted, AreArguments}
-use Rattle.pst_codegen_statements.proofs.statements.emit_arguments.Given as goal
+use Rattle.pst_codegen.proofs.statements.emit_arguments.Given as goal
 
 abbrev pub invariant-loop-e : goal.invariant-loop-e
 invariant-loop-e l = record {

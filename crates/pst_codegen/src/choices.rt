@@ -4,7 +4,7 @@ ghost use Rattle.std.specs.Prelude.{OnOk};
 ghost use Rattle.pst_program.specs.View.{expr_of};
 ghost use Rattle.pst_codegen_expressions.specs.Ready.{HasNoted, IsTest};
 ghost use Rattle.pst_codegen_expressions.specs.Emitted.{Emits};
-ghost use Rattle.pst_codegen_statements.specs.Made.{guarded_code, choice_code};
+ghost use Rattle.pst_codegen.specs.Made.{guarded_code, choice_code};
 
 use pst_base::NoMemory;
 use pst_code::Instr;

@@ -6,7 +6,7 @@ ghost use Rattle.pst_program.specs.Syntax.{Set, SetRoot, Store, StoreIndexed, Ca
 ghost use Rattle.pst_program.specs.View.{expr_of};
 ghost use Rattle.pst_codegen_expressions.specs.Ready.{HasNoted, IsOperand, AreArguments, IsResult};
 ghost use Rattle.pst_codegen_expressions.specs.Emitted.{Emits};
-ghost use Rattle.pst_codegen_statements.specs.Made.{EmitsOne, arguments_by, argument_registers};
+ghost use Rattle.pst_codegen.specs.Made.{EmitsOne, arguments_by, argument_registers};
 
 use pst_base::{NoMemory, ProcNo, SlotNo};
 use pst_code::{Instr, Reg, Regs};
