@@ -5,7 +5,7 @@ use Rattle.std.specs.Option.{option_map}
 use Rattle.pst_base.specs.declared.names.VersionNo.{VersionNo}
 use Rattle.pst_versions.specs.declared.rows.VersionRow.{VersionRow}
 use Rattle.pst_versions.specs.Rows.{parent_of}
-use Rattle.pst_places.specs.State.{State, IsSound}
+use Rattle.pst_versions.specs.State.{State, IsSound}
 use Rattle.pst_program.specs.declared.meaning.Value.{Value}
 use Rattle.pst_changed.specs.declared.slots.PathStep.{PathStep}
 use Rattle.pst_changed.specs.Reading.{reading}

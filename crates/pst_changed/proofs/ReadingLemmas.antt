@@ -10,7 +10,7 @@ use Rattle.pst_base.specs.Name.{root_name}
 use Rattle.pst_base.specs.Shape.{root_type}
 use Rattle.pst_base.specs.Heap.{kind_in, kind_from, pointer_in, type_in}
 use Rattle.pst_program.proofs.Fields.{held_type}
-use Rattle.pst_places.specs.State.{State, IsSound, IsRef}
+use Rattle.pst_versions.specs.State.{State, IsSound, IsRef}
 use Rattle.pst_changed.specs.declared.slots.PathStep.{PathStep}
 use Rattle.pst_changed.specs.Path.{FieldsLead, IsPathIn}
 use Rattle.pst_changed.specs.Reading.{reading, reading_from}

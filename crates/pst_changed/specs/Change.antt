@@ -6,7 +6,7 @@ use Rattle.pst_base.specs.Heap.{Heap}
 use Rattle.pst_program.specs.declared.meaning.Value.{Value}
 use Rattle.pst_versions.specs.declared.rows.VersionRow.{VersionRow}
 use Rattle.pst_versions.specs.Rows.{parent_of}
-use Rattle.pst_places.specs.State.{State}
+use Rattle.pst_versions.specs.State.{State}
 use Rattle.pst_changed.specs.declared.slots.PathStep.{PathStep}
 use Rattle.pst_changed.specs.Reading.{reading}
 

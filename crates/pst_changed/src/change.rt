@@ -7,8 +7,8 @@ ghost use Rattle.pst_changed.specs.Change.{IsFirstChange, NeverChanged, readings
 use crate::reading::reading_at;
 use crate::slots::Slots;
 use pst_base::VersionNo;
-use pst_places::VersionedHeap;
 use pst_program::Value;
+use pst_versions::VersionedHeap;
 
 /// Whether two readings are the same. None, for a null that was met too early, is not null.
 fn is_same(a: Option<Value>, b: Option<Value>) -> bool

@@ -9,8 +9,8 @@ ghost use Rattle.pst_changed.specs.Change.{heap_from};
 
 use crate::slots::PathStep;
 use pst_base::{Kind, VersionNo};
-use pst_places::{HeapAt, VersionedHeap};
 use pst_program::Value;
+use pst_versions::{HeapAt, VersionedHeap};
 
 /// What a field of a record holds, at a place.
 fn content<H: HeapAt>(heap: &H, at: H::Place, object: H::Ref, step: &PathStep) -> Value

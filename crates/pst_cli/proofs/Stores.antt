@@ -1,7 +1,7 @@
 -- What is kept of the two stores, of which a job works over one at most.
 use Rattle.std.proofs.Common.{refl, Option}
 use Rattle.pst_base.specs.declared.names.NodeId.{NodeId}
-use Rattle.pst_places.specs.State.{State}
+use Rattle.pst_versions.specs.State.{State}
 use Rattle.pst_store_meaning.specs.Store.{Stored}
 use Rattle.pst_line.specs.declared.place.LinePlace.{LinePlace}
 use Rattle.pst_line.specs.Store.{Stored as LineStored}

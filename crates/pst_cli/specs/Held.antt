@@ -1,7 +1,7 @@
 -- What each job leaves the two stores in.
 use Rattle.std.specs.Prelude.{◌≡◌, Option}
 use Rattle.pst_base.specs.declared.names.NodeId.{NodeId}
-use Rattle.pst_places.specs.State.{State}
+use Rattle.pst_versions.specs.State.{State}
 use Rattle.pst_store_meaning.specs.Store.{Stored as FatStored}
 use Rattle.pst_line.specs.declared.place.LinePlace.{LinePlace}
 use Rattle.pst_line.specs.Store.{Stored}

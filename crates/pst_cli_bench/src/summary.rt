@@ -23,11 +23,11 @@ use pst_cli_words::Status;
 use pst_front::{NoProgram, program_of};
 use pst_io::Sink;
 use pst_order::Order;
-use pst_places::VersionedHeap;
 use pst_program::Program;
 use pst_script::{Reply, reply_text};
 use pst_store::StoreOf;
 use pst_store_arena::FatNodes;
+use pst_versions::VersionedHeap;
 use std::alloc::Global;
 
 /// The numbers that a reply says were printed.

@@ -7,8 +7,8 @@ use pst_cli_case_files::{Case, UNTOUCHED};
 use pst_io::{MemSink, MemSource};
 use pst_line::calls::LineCalls;
 use pst_line::line_store::LineStore;
-use pst_places::VersionedHeap;
 use pst_store::Store;
+use pst_versions::VersionedHeap;
 use std::alloc::{AllocError, Global};
 use std::io;
 

@@ -8,7 +8,7 @@ use Rattle.pst_base.specs.declared.names.NodeId.{NodeId}
 use Rattle.pst_base.specs.declared.names.Counts.{Counts}
 use Rattle.pst_base.specs.Heap.{Heap, initial_heap}
 use Rattle.pst_versions.specs.declared.rows.VersionRow.{VersionRow}
-use Rattle.pst_places.specs.State.{State}
+use Rattle.pst_versions.specs.State.{State}
 use Rattle.pst_history.specs.declared.history.Descent.{Descent}
 use Rattle.pst_history.specs.Meaning.{Meaning}
 use Rattle.pst_history.specs.History.{History, next_run, heaps_of, counts_of, version_count}

@@ -24,9 +24,9 @@ use pst_image_rules::Rule;
 use pst_image_unpack::{ImageFault, Unpacked, unpack};
 use pst_io::{Lines, Sink, Source};
 use pst_order::Walked;
-use pst_places::VersionedHeap;
 use pst_store::StoreOf;
 use pst_store_arena::Listed;
+use pst_versions::VersionedHeap;
 use std::alloc::Global;
 
 /// The most that an image can say was made or written.

@@ -7,7 +7,7 @@ use Rattle.pst_base.specs.declared.names.VersionNo.{VersionNo}
 use Rattle.pst_base.specs.Heap.{Heap}
 use Rattle.pst_versions.specs.declared.rows.VersionRow.{VersionRow}
 use Rattle.pst_versions.specs.Rows.{parent_of}
-use Rattle.pst_places.specs.State.{State, IsSound, IsVersioned}
+use Rattle.pst_versions.specs.State.{State, IsSound, IsVersioned}
 use Rattle.pst_program.specs.declared.program.TypeEntry.{TypeEntry}
 use Rattle.pst_history.specs.Meaning.{Meaning}
 use Rattle.pst_history.specs.History.{History, heap_of, version_count}

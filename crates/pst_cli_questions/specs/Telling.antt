@@ -4,7 +4,7 @@ use Rattle.std.specs.Option.{option_map}
 use Rattle.std.specs.Fmt.{decimal}
 use Rattle.pst_base.specs.declared.names.VersionNo.{VersionNo}
 use Rattle.pst_program.specs.declared.program.Program.{Program}
-use Rattle.pst_places.specs.State.{State}
+use Rattle.pst_versions.specs.State.{State}
 use Rattle.pst_history.specs.Meaning.{Meaning}
 use Rattle.pst_history.specs.History.{History, heap_of, version_count}
 use Rattle.pst_dump.specs.Dump.{IsDump}

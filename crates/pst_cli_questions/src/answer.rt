@@ -14,8 +14,8 @@ use pst_base::{NoMemory, Text, VersionNo};
 use pst_changed::{Slots, changed, resolve, versions_there_decide};
 use pst_cli_words::Question;
 use pst_dump::dump;
-use pst_places::VersionedHeap;
 use pst_program::Program;
+use pst_versions::VersionedHeap;
 use std::alloc::Global;
 
 /// What is written where no version has the number.

@@ -5,7 +5,7 @@ use Rattle.pst_program.specs.declared.program.Program.{Program}
 use Rattle.pst_history.specs.Meaning.{Meaning}
 use Rattle.pst_history.specs.History.{History, counts_of, opening}
 use Rattle.pst_history.specs.Direct.{meaning_of}
-use Rattle.pst_places.specs.State.{State}
+use Rattle.pst_versions.specs.State.{State}
 use Rattle.pst_engine_runs.specs.Stands.{HoldsVersions}
 use Rattle.pst_line_nodes.specs.Line.{potential}
 use Rattle.pst_line.specs.declared.place.LinePlace.{LinePlace}

@@ -11,7 +11,7 @@ use Rattle.indexmap.specs.IndexSet.{insert_key}
 use Rattle.pst_base.specs.declared.names.Name.{Name}
 use Rattle.pst_base.specs.Name.{same_name}
 use Rattle.pst_base.proofs.NameLemmas.{same_name-true}
-use Rattle.pst_places.specs.State.{State}
+use Rattle.pst_versions.specs.State.{State}
 use Rattle.pst_dump.specs.Dump.{number_in}
 use Rattle.pst_dump.specs.Walk.{named, IsEntry}
 

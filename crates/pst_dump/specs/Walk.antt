@@ -9,7 +9,7 @@ use Rattle.pst_base.specs.declared.shape.TypeShape.{TypeShape}
 use Rattle.pst_base.specs.Name.{same_name}
 use Rattle.pst_base.specs.Shape.{type_at}
 use Rattle.pst_base.specs.Heap.{Rec, Heap, type_in}
-use Rattle.pst_places.specs.State.{State}
+use Rattle.pst_versions.specs.State.{State}
 use Rattle.pst_dump.specs.Dump.{number_in, target_word}
 use Rattle.pst_dump.specs.declared.numbering.Numbering.{Numbering}
 

@@ -9,8 +9,8 @@ ghost use Rattle.pst_dump.specs.Walk.{names_of, IsRecordWith, record_of, values_
 use crate::numbering::Numbering;
 use crate::walk::records;
 use pst_base::{NoMemory, SlotNo, Text, TypeShape, put_number};
-use pst_places::HeapAt;
 use pst_program::Program;
+use pst_versions::HeapAt;
 use std::alloc::Global;
 
 /// Puts a number that a record holds.

@@ -7,7 +7,7 @@ ghost use Rattle.pst_dump.specs.Walk.{names_of, AreEntries, IsRecordWith, pointe
 
 use crate::numbering::Numbering;
 use pst_base::{NoMemory, ROOT, Shape, SlotNo, TypeShape};
-use pst_places::HeapAt;
+use pst_versions::HeapAt;
 use std::alloc::Global;
 
 /// Notes the record that a pointer holds.

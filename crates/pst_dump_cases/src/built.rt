@@ -1,14 +1,14 @@
 //! A heap that a test builds.
 
 ghost use Rattle.std.specs.Prelude.{◌≡◌, IsTrue, IfSome, IfOk};
-ghost use Rattle.pst_places.specs.State.{HasRoom};
+ghost use Rattle.pst_versions.specs.State.{HasRoom};
 ghost use Rattle.pst_forest.specs.Forest.{state_of};
 
 use pst_base::{Kind, Name, NoMemory, RunNo, Shape, SlotNo, Targets, Text, TypeNo, TypeShape};
 use pst_dump::dump;
 use pst_forest::{Forest, PlaceNo, Reference};
-use pst_places::{HeapAt, MOST_FORKS, StoreFault, VersionedHeap};
 use pst_program::{FieldNames, Program, TypeEntry, TypeNames, TypedProcs};
+use pst_versions::{HeapAt, MOST_FORKS, StoreFault, VersionedHeap};
 use std::alloc::Global;
 
 /// The type of all records but the root record: two numbers, and then two pointers to items.

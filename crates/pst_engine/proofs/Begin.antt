@@ -11,7 +11,7 @@ use Rattle.pst_history.specs.declared.history.NamedCall.{NamedCall}
 use Rattle.pst_program.specs.Outcome.{no_counts, Outcome}
 use Rattle.pst_program.specs.Laws.{IsOlder}
 use Rattle.pst_versions.specs.declared.rows.VersionRow.{VersionRow}
-use Rattle.pst_places.specs.State.{State, ForkRow, IsVersioned, Forked}
+use Rattle.pst_versions.specs.State.{State, ForkRow, IsVersioned, Forked}
 use Rattle.pst_history.specs.declared.history.Run.{Run}
 use Rattle.pst_base.specs.Counts.{counts_plus}
 use Rattle.pst_history.specs.Meaning.{Meaning, Work, IsLawful}

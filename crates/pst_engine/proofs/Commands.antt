@@ -5,7 +5,7 @@ use Rattle.pst_base.specs.declared.names.RunNo.{RunNo}
 use Rattle.pst_base.specs.declared.names.VersionNo.{VersionNo}
 use Rattle.pst_versions.specs.declared.rows.VersionRow.{VersionRow}
 use Rattle.pst_versions.specs.Rows.{parent_of}
-use Rattle.pst_places.specs.State.{State}
+use Rattle.pst_versions.specs.State.{State}
 use Rattle.pst_history.specs.declared.history.Descent.{Descent}
 use Rattle.std.specs.Option.{option_map}
 use Rattle.std.proofs.Common.{map, take, drop, length-append, ◌-◌}

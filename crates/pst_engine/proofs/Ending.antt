@@ -11,7 +11,7 @@ use Rattle.pst_program.specs.declared.meaning.Ended.TheVariants.{Done, Trapped, 
 use Rattle.pst_program.specs.Outcome.{Outcome}
 use Rattle.pst_script.specs.declared.reply.Reply.{Reply}
 use Rattle.pst_script.specs.declared.reply.Reply.TheVariants as answer
-use Rattle.pst_places.specs.State.{State, WritesStay, IsVersioned, IsOpenFork, Published}
+use Rattle.pst_versions.specs.State.{State, WritesStay, IsVersioned, IsOpenFork, Published}
 use Rattle.pst_history.specs.declared.history.RunState.TheVariants.{Closed}
 use Rattle.pst_history.specs.declared.history.Run.{Run}
 use Rattle.pst_history.specs.Meaning.{Meaning, Work, IsLawful}

@@ -13,7 +13,7 @@ use Rattle.pst_base.proofs.Degrees.{get-with_record}
 use Rattle.pst_base.specs.Heap.{Rec, Heap, new_record, IsWellFormed, initial_heap}
 use Rattle.pst_program.specs.Laws.{IsOlder}
 use Rattle.pst_versions.specs.declared.rows.VersionRow.{VersionRow}
-use Rattle.pst_places.specs.State.{State, IsSound, IsVersioned}
+use Rattle.pst_versions.specs.State.{State, IsSound, IsVersioned}
 use Rattle.pst_history.specs.declared.history.Descent.{Descent}
 use Rattle.pst_history.specs.Meaning.{Meaning, IsLawful}
 use Rattle.pst_history.specs.History.{begun, opening, counts_of}

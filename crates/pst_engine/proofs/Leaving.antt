@@ -4,7 +4,7 @@ use Rattle.std.specs.Prelude.{remove, count_by}
 use Rattle.std.proofs.lemmas.List.Edits.{length-remove}
 use Rattle.std.proofs.lemmas.Option.{same_Some, slice_get_within}
 use Rattle.pst_base.specs.Heap.{Heap}
-use Rattle.pst_places.specs.State.{State}
+use Rattle.pst_versions.specs.State.{State}
 use Rattle.pst_history.specs.declared.history.RunState.{RunState}
 use Rattle.pst_history.specs.declared.history.Run.{Run}
 use Rattle.pst_history.specs.Meaning.{Meaning}

@@ -5,7 +5,7 @@ use Rattle.std.specs.FinMap.{get}
 use Rattle.pst_base.specs.declared.names.VersionNo.{VersionNo}
 use Rattle.pst_program.specs.Laws.{IsOlder}
 use Rattle.pst_versions.specs.declared.rows.VersionRow.{VersionRow}
-use Rattle.pst_places.specs.State.{State, ForkRow, IsVersioned, Published, published_in}
+use Rattle.pst_versions.specs.State.{State, ForkRow, IsVersioned, Published, published_in}
 use Rattle.pst_history.specs.declared.history.Run.{Run}
 use Rattle.pst_history.specs.declared.history.Descent.{Descent}
 use Rattle.pst_history.specs.Meaning.{Meaning}

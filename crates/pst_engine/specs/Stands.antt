@@ -15,7 +15,7 @@ use Rattle.pst_base.specs.Heap.{initial_heap}
 use Rattle.pst_program.specs.Sound.{CountsWithin}
 use Rattle.pst_program.specs.Laws.{IsOlder}
 use Rattle.pst_versions.specs.declared.rows.VersionRow.{VersionRow}
-use Rattle.pst_places.specs.State.{IsFresh, State, IsOpenFork, Published}
+use Rattle.pst_versions.specs.State.{IsFresh, State, IsOpenFork, Published}
 use Rattle.pst_script.specs.Commands.{in_range}
 use Rattle.pst_history.specs.declared.history.Descent.{Descent}
 use Rattle.pst_history.specs.Meaning.{Meaning}

@@ -8,8 +8,8 @@ use crate::engine::Engine;
 use crate::lines::{ask, call_run, close_run, drop_run, open_empty, open_run, run, step_run};
 use pst_base::{NoMemory, VersionNo};
 use pst_engine_runs::{Meant, known};
-use pst_places::VersionedHeap;
 use pst_script::{Command, Parents, Reply};
+use pst_versions::VersionedHeap;
 use std::alloc::Global;
 
 /// The parents of the versions after 0.

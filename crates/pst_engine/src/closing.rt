@@ -7,9 +7,9 @@ ghost use Rattle.pst_engine.specs.Changes.{Closes};
 
 use pst_base::{NoMemory, Numbers, RunNo, VersionNo};
 use pst_engine_runs::{Meant, OpenEntry, advance, known};
-use pst_places::VersionedHeap;
 use pst_program::Ended;
 use pst_script::Reply;
+use pst_versions::VersionedHeap;
 
 /// Publishes the place of a run that is done, and gives the answer to the run's end.
 fn settle<H: VersionedHeap>(

@@ -12,8 +12,8 @@ use crate::answer::answer;
 use pst_base::{NoMemory, RunNo};
 use pst_engine_runs::{Activations, Meant, known, refused};
 use pst_history::BUDGET;
-use pst_places::VersionedHeap;
 use pst_script::{Command, Reply};
+use pst_versions::VersionedHeap;
 use std::alloc::Global;
 
 /// A session over a heap of versions: it keeps the open runs, but no history and no heap. Two engines with equal fields answer

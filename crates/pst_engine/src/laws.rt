@@ -8,7 +8,7 @@ ghost use Rattle.pst_history.specs.declared.history.TheConstants.{BUDGET, RUNS};
 
 use crate::engine::Engine;
 use pst_engine_runs::{Meant, known};
-use pst_places::VersionedHeap;
+use pst_versions::VersionedHeap;
 
 /// An engine without open runs and a heap, whose versions have runs of their own below the engine's next run number, and forks in the
 /// order of these runs, and in which no record has a run number from that one on, stand for the opening that has the heap's versions,

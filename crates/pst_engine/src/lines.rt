@@ -10,8 +10,8 @@ use crate::engine::Engine;
 use crate::opening::{open, open_with};
 use pst_base::{NoMemory, Numbers, RunNo, Text, VersionNo};
 use pst_engine_runs::{Meant, call, index_of, query, step};
-use pst_places::VersionedHeap;
 use pst_script::{Call, Reply};
+use pst_versions::VersionedHeap;
 use std::alloc::Global;
 
 /// Opens a run with one call, and gives the index of its entry.

@@ -7,8 +7,8 @@ ghost use Rattle.pst_engine.specs.Changes.{MayOpenSome, Opens, OpensWith};
 
 use pst_base::{NoMemory, RunNo, VersionNo};
 use pst_engine_runs::{Meant, OpenEntry, bare, call, known, place_at};
-use pst_places::VersionedHeap;
 use pst_script::Call;
+use pst_versions::VersionedHeap;
 use std::alloc::Global;
 
 /// Opens a run without a call on the heap of a version, and gives the index of its entry.

@@ -3,7 +3,7 @@ use Rattle.std.specs.Prelude.{◌≡◌, false}
 use Rattle.pst_program.specs.declared.program.Program.{Program}
 use Rattle.pst_program.specs.Typed.{IsTyped}
 use Rattle.pst_program.specs.View.{routines_of}
-use Rattle.pst_places.specs.State.{State}
+use Rattle.pst_versions.specs.State.{State}
 use Rattle.pst_replay.specs.declared.replayer.Replayer.{Replayer}
 use Rattle.pst_replay.specs.Replay.{MayApply as MayReplay}
 use Rattle.pst_engine_runs.specs.Coded.{meant_by}

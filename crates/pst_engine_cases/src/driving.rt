@@ -8,7 +8,7 @@ use crate::lines::next_line;
 use crate::twins::Twins;
 use pst_base::NoMemory;
 use pst_engine_testing::{Random, Trouble};
-use pst_places::VersionedHeap;
+use pst_versions::VersionedHeap;
 use std::alloc::Global;
 
 /// What stands before each line of a reply in a story: a script with the replies to its lines.

@@ -4,7 +4,7 @@ use crate::twins::Twins;
 use pst_base::NoMemory;
 use pst_engine::Engine;
 use pst_engine_testing::Random;
-use pst_places::VersionedHeap;
+use pst_versions::VersionedHeap;
 use std::alloc::Global;
 
 /// The program that the lines are for: a list whose procedures make, move and drop its items, some of which trap, and some of

@@ -12,10 +12,10 @@ use pst_base::Text;
 use pst_engine::{Engine, a_new_engine_stands};
 use pst_engine_runs::Compiled;
 use pst_engine_testing::Trouble;
-use pst_places::VersionedHeap;
 use pst_program::Program;
 use pst_replay::Replayer;
 use pst_script::{Command, LineFault, read_line, reply_text};
+use pst_versions::VersionedHeap;
 use std::alloc::Global;
 
 /// An engine with its heap, and a replayer: two that answer the lines of a script.

@@ -13,7 +13,7 @@ use Rattle.pst_code.specs.Machine.{Move, Goes, Waits, Over, Stuck, EndsIn, spent
 use Rattle.pst_code.specs.Laws.{counted, counted_end, counted_move}
 use Rattle.pst_code.proofs.Going.{one_end}
 use Rattle.pst_code.proofs.Counting.{counts_shift}
-use Rattle.pst_places.specs.State.{State}
+use Rattle.pst_versions.specs.State.{State}
 use Rattle.pst_machine.specs.declared.stage.Stage.{Stage}
 use Rattle.pst_machine.specs.declared.stage.Progress.{Progress}
 use Rattle.pst_machine.specs.declared.stage.Progress.TheVariants.{Running, Done, Trapped as TrappedAt}

@@ -12,7 +12,7 @@ use Rattle.pst_code.specs.declared.procedure.Procedure.{Procedure}
 use Rattle.pst_code.specs.declared.procedure.Parts.{Parts}
 use Rattle.pst_code.specs.Procedures.{procedure_named}
 use Rattle.pst_code.specs.Valid.{parameters_of, signature}
-use Rattle.pst_places.specs.State.{State}
+use Rattle.pst_versions.specs.State.{State}
 use Rattle.pst_history.specs.declared.history.NamedCall.{NamedCall}
 use Rattle.pst_history.specs.Meaning.{Meaning, Work, AllFit, fits, fits_one}
 use Rattle.pst_history.proofs.Lists.{slice_get-last}

@@ -10,7 +10,7 @@ use Rattle.pst_base.specs.Heap.{Heap}
 use Rattle.pst_program.specs.declared.meaning.Ended.{Ended}
 use Rattle.pst_program.specs.Sound.{CountsBelow}
 use Rattle.pst_program.specs.Laws.{IsOlder}
-use Rattle.pst_places.specs.State.{State, WritesStay, IsVersioned}
+use Rattle.pst_versions.specs.State.{State, WritesStay, IsVersioned}
 use Rattle.pst_history.specs.declared.history.Run.{Run}
 use Rattle.pst_base.specs.Counts.{counts_plus}
 use Rattle.pst_history.specs.Meaning.{Meaning, IsLawful, CanBeDone}

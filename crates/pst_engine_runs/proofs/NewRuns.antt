@@ -8,7 +8,7 @@ use Rattle.pst_base.specs.Heap.{Rec}
 use Rattle.pst_base.specs.declared.names.Name.{Name}
 use Rattle.pst_program.specs.Laws.{IsOlder}
 use Rattle.pst_versions.specs.declared.rows.VersionRow.{VersionRow}
-use Rattle.pst_places.specs.State.{State, IsSound, IsFresh, Forked}
+use Rattle.pst_versions.specs.State.{State, IsSound, IsFresh, Forked}
 use Rattle.pst_history.specs.Meaning.{Meaning}
 use Rattle.pst_history.specs.History.{History}
 use Rattle.pst_history.proofs.Sound.{present}

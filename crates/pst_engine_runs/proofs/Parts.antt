@@ -11,7 +11,7 @@ use Rattle.pst_base.proofs.CountLemmas.{same_counts}
 use Rattle.pst_program.specs.declared.meaning.Ended.{Ended}
 use Rattle.pst_program.specs.Sound.{CountsBelow}
 use Rattle.pst_versions.specs.declared.rows.VersionRow.{VersionRow}
-use Rattle.pst_places.specs.State.{State, ForkRow, OthersStay, WritesStay, Unchanged, IsVersioned, Forked, Published}
+use Rattle.pst_versions.specs.State.{State, ForkRow, OthersStay, WritesStay, Unchanged, IsVersioned, Forked, Published}
 use Rattle.pst_history.specs.declared.history.Run.{Run}
 use Rattle.pst_history.specs.declared.history.Descent.{Descent}
 use Rattle.pst_history.specs.Meaning.{Meaning, Work}

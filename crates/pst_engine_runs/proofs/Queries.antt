@@ -9,7 +9,7 @@ use Rattle.pst_program.specs.declared.meaning.Ended.{Ended}
 use Rattle.pst_program.specs.Outcome.{Outcome, no_counts}
 use Rattle.pst_script.specs.declared.command.Call.{Call}
 use Rattle.pst_versions.specs.declared.rows.VersionRow.{VersionRow}
-use Rattle.pst_places.specs.State.{State, IsSound, IsVersioned, WritesStay, Unchanged}
+use Rattle.pst_versions.specs.State.{State, IsSound, IsVersioned, WritesStay, Unchanged}
 use Rattle.pst_history.specs.declared.history.NamedCall.{NamedCall}
 use Rattle.pst_history.specs.Meaning.{Meaning, Work, IsLawful, CanBeDone, AllFit, fits_one}
 use Rattle.pst_history.specs.History.{History, work_of, heap_of, outcome_of, next_run, new_run, call_of, queried, queried_as}

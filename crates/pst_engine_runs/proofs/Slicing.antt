@@ -6,7 +6,7 @@ use Rattle.pst_base.specs.declared.names.RunNo.{RunNo}
 use Rattle.pst_base.specs.declared.names.Counts.{Counts}
 use Rattle.pst_base.specs.Heap.{Heap}
 use Rattle.pst_program.specs.declared.meaning.Ended.{Ended}
-use Rattle.pst_places.specs.State.{State, WritesStay, Unchanged, IsVersioned, Forked, ForkRefused}
+use Rattle.pst_versions.specs.State.{State, WritesStay, Unchanged, IsVersioned, Forked, ForkRefused}
 use Rattle.pst_history.specs.declared.history.NamedCall.{NamedCall}
 use Rattle.pst_history.specs.declared.history.Run.{Run}
 use Rattle.pst_history.specs.Meaning.{Meaning, Work, IsLawful, CanBeDone, with_calls}

@@ -14,7 +14,7 @@ use Rattle.pst_program.specs.Outcome.{Outcome, TaskCall, first_world, left, no_c
 use Rattle.pst_code.specs.declared.procedure.Parts.{Parts}
 use Rattle.pst_code.specs.Calls.{CallsEndIn}
 use Rattle.pst_code.specs.Laws.{counted, counted_end}
-use Rattle.pst_places.specs.State.{State}
+use Rattle.pst_versions.specs.State.{State}
 use Rattle.pst_history.specs.declared.history.NamedCall.{NamedCall}
 use Rattle.pst_history.specs.Meaning.{Meaning, IsLawful, CanBeDone, Work, with_calls}
 use Rattle.pst_engine_runs.specs.Coded.{code_call, IsMeaningOf}

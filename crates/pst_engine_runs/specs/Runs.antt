@@ -13,7 +13,7 @@ use Rattle.pst_program.specs.declared.meaning.Ended.TheVariants as ended
 use Rattle.pst_program.specs.Outcome.{no_counts}
 use Rattle.pst_program.specs.Sound.{CountsBelow}
 use Rattle.pst_code.specs.declared.procedure.Parts.{Parts}
-use Rattle.pst_places.specs.State.{State, IsSound, Grows, IsFresh}
+use Rattle.pst_versions.specs.State.{State, IsSound, Grows, IsFresh}
 use Rattle.pst_history.specs.declared.history.NamedCall.{NamedCall}
 use Rattle.pst_history.specs.Meaning.{Meaning, Work, CanBeDone, with_calls, fits_one}
 use Rattle.pst_engine_runs.specs.Coded.{MeantCode, code_call}

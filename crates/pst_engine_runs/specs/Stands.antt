@@ -8,7 +8,7 @@ use Rattle.pst_base.specs.Name.{root_name}
 use Rattle.pst_history.specs.declared.history.NamedCall.{NamedCall}
 use Rattle.pst_program.specs.Laws.{IsOlder}
 use Rattle.pst_versions.specs.declared.rows.VersionRow.{VersionRow}
-use Rattle.pst_places.specs.State.{State, ForkRow, IsFresh}
+use Rattle.pst_versions.specs.State.{State, ForkRow, IsFresh}
 use Rattle.pst_machine.specs.declared.activation.Activation.{Activation}
 use Rattle.pst_history.specs.declared.history.Run.{Run}
 use Rattle.pst_history.specs.declared.history.Descent.{Descent}

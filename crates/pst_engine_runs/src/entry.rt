@@ -2,7 +2,7 @@
 
 use pst_base::{RunNo, VersionNo};
 use pst_machine::Activation;
-use pst_places::VersionedHeap;
+use pst_versions::VersionedHeap;
 use std::alloc::Global;
 
 /// An open run.

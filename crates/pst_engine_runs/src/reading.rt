@@ -7,9 +7,9 @@ ghost use Rattle.pst_engine_runs.specs.Changes.{Asks, MayAskSome};
 
 use crate::{Meant, add, advance, bare, known};
 use pst_base::{NoMemory, Numbers, RunNo, VersionNo};
-use pst_places::VersionedHeap;
 use pst_program::Ended;
 use pst_script::{Call, Reply};
+use pst_versions::VersionedHeap;
 use std::alloc::Global;
 
 /// The place of a version that is there.

@@ -10,8 +10,8 @@ use crate::entry::{Activations, OpenEntry};
 use crate::{Meant, refusal_of_procedure, refusal_of_query};
 use pst_base::{RunNo, VersionNo};
 use pst_history::{CALLS, OPEN_RUNS, RUNS, first_of};
-use pst_places::VersionedHeap;
 use pst_script::{Call, Command, Refusal};
+use pst_versions::VersionedHeap;
 
 /// Whether an entry is that of a run.
 fn is_run<H: VersionedHeap>(entry: &OpenEntry<H>, run: RunNo) -> bool

@@ -1,7 +1,7 @@
 //! Runs of code whose meaning is known.
 
 ghost use Rattle.std.specs.Prelude.{◌≡◌, true, IfOk, OnOk, OnErr};
-ghost use Rattle.pst_places.specs.State.{Unchanged, WritesStay};
+ghost use Rattle.pst_versions.specs.State.{Unchanged, WritesStay};
 ghost use Rattle.pst_history.specs.Meaning.{IsLawful, kinds_refusal};
 ghost use Rattle.pst_machine.specs.declared.activation.Activation.{Activation};
 ghost use Rattle.pst_machine.specs.Advance.{HasFewCounts};
@@ -12,9 +12,9 @@ use crate::Meant;
 use crate::calls::{call_of, refusal_of_kinds};
 use pst_base::{NoMemory, Numbers, RunNo, Text};
 use pst_machine::{Activation, Progress};
-use pst_places::HeapAt;
 use pst_program::Ended;
 use pst_script::Refusal;
+use pst_versions::HeapAt;
 use std::alloc::Global;
 
 /// What is so of the runs of any code: its meaning is lawful, a run that stands waits for its next slice, and one that stands

@@ -9,9 +9,9 @@ ghost use Rattle.pst_engine_runs.specs.Changes.{Calls, MayCallSome, Steps};
 use crate::entry::OpenEntry;
 use crate::{Meant, add, advance, known};
 use pst_base::{NoMemory, Numbers, RunNo, Text};
-use pst_places::VersionedHeap;
 use pst_program::Ended;
 use pst_script::Reply;
+use pst_versions::VersionedHeap;
 
 /// The answer to a run that was executed as far as its grant reaches.
 fn stepped(run: RunNo, end: Ended) -> Reply

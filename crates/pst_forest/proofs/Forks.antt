@@ -10,8 +10,8 @@ use Rattle.std.proofs.Math.ListN.{set}
 use Rattle.std.specs.FinMap.{empty}
 use Rattle.pst_base.specs.Heap.{Heap, OrdinaryHeap, type_in}
 use Rattle.pst_base.specs.Heap as plain
-use Rattle.pst_places.specs.State.{ForkRow, Forked, IsVersioned, IsOpenFork}
-use Rattle.pst_places.specs.declared.versioned.TheConstants.{MOST_FORKS}
+use Rattle.pst_versions.specs.State.{ForkRow, Forked, IsVersioned, IsOpenFork}
+use Rattle.pst_versions.specs.declared.versioned.TheConstants.{MOST_FORKS}
 use Rattle.pst_forest.specs.declared.place.PlaceNo.{PlaceNo}
 use Rattle.pst_forest.specs.declared.place.Fork.{Fork}
 use Rattle.pst_forest.specs.Forest.{published_count, ForestOf, heap_at, IsOpen, as_fork, state_of, IsForest}

@@ -15,9 +15,9 @@ use crate::versions::versions_of;
 use pst_base::{Items, NoMemory, RunNo, Text};
 use pst_image_form::{ImageParts, write_image};
 use pst_order::Walked;
-use pst_places::VersionedHeap;
 use pst_store::StoreOf;
 use pst_store_arena::Listed;
+use pst_versions::VersionedHeap;
 use std::alloc::Global;
 
 /// A store that an engine left as the parts of an image.

@@ -11,9 +11,9 @@ use crate::positions::position;
 use pst_base::{Items, NoMemory, VersionNo};
 use pst_image_form::VersionPart;
 use pst_order::Order;
-use pst_places::VersionedHeap;
 use pst_store::StoreOf;
 use pst_store_arena::FatNodes;
+use pst_versions::VersionedHeap;
 use std::alloc::Global;
 
 /// A version of a store, with the positions of its place.

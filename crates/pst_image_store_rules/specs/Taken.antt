@@ -5,7 +5,7 @@ use Rattle.pst_base.specs.declared.names.TypeNo.{TypeNo}
 use Rattle.pst_base.specs.Name.{root_name}
 use Rattle.pst_base.specs.Shape.{type_at, root_type, IsValid}
 use Rattle.pst_order.specs.Places.{rank}
-use Rattle.pst_places.specs.declared.versioned.TheConstants.{MOST_FORKS}
+use Rattle.pst_versions.specs.declared.versioned.TheConstants.{MOST_FORKS}
 use Rattle.pst_rows.specs.declared.content.Stamp.{Stamp}
 use Rattle.pst_rows.specs.Values.{RowValue, base_in}
 use Rattle.pst_mirror.specs.Charts.{AllRows}

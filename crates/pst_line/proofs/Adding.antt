@@ -6,7 +6,7 @@ use Rattle.pst_base.specs.declared.names.Name.{Name}
 use Rattle.pst_base.specs.declared.names.TypeNo.{TypeNo}
 use Rattle.pst_base.specs.Shape.{type_at}
 use Rattle.pst_base.specs.Heap.{with_record, new_record}
-use Rattle.pst_places.specs.State.{HasRoom, IsFresh, IsNewType, Allocated}
+use Rattle.pst_versions.specs.State.{HasRoom, IsFresh, IsNewType, Allocated}
 use Rattle.pst_line_nodes.specs.Line.{IsLine, heap_at, record_at, most}
 use Rattle.pst_line_nodes.specs.Changes.{IsMade, VersionsStay}
 use Rattle.pst_line_nodes.specs.Seen.{Seen}

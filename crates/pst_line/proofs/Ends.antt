@@ -6,7 +6,7 @@ use Rattle.pst_base.specs.declared.names.Kind.TheVariants.{Int, Pointer}
 use Rattle.pst_base.specs.declared.shape.TypeShape.{TypeShape}
 use Rattle.pst_base.specs.Shape.{type_at, field_kind, element_count}
 use Rattle.pst_base.specs.Heap.{IsPointer, kind_in}
-use Rattle.pst_places.specs.State.{HasRoom, Unchanged, WritesStay, ValueStored, PointerStored}
+use Rattle.pst_versions.specs.State.{HasRoom, Unchanged, WritesStay, ValueStored, PointerStored}
 use Rattle.pst_line_nodes.specs.declared.content.Content.TheVariants.{Number}
 use Rattle.pst_line_nodes.specs.Line.{IsNewest, IsLine, heap_at}
 use Rattle.pst_line_nodes.specs.Seen.{Seen}

@@ -4,7 +4,7 @@ use Rattle.pst_base.specs.declared.names.TypeNo.{TypeNo}
 use Rattle.pst_base.specs.declared.names.Kind.{Kind}
 use Rattle.pst_base.specs.Shape.{type_at, element_count}
 use Rattle.pst_base.specs.Heap.{kind_in}
-use Rattle.pst_places.specs.State.{Unchanged}
+use Rattle.pst_versions.specs.State.{Unchanged}
 use Rattle.pst_line_nodes.specs.declared.content.Content.{Content}
 use Rattle.pst_line_nodes.specs.Line.{Covers, IsNewest, IsLine, IsQuiet, most}
 use Rattle.pst_line_nodes.specs.Seen.{Seen}

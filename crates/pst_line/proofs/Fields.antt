@@ -6,8 +6,8 @@ use Rattle.pst_base.specs.declared.names.TypeNo.{TypeNo}
 use Rattle.pst_base.specs.declared.names.Kind.TheVariants.{Int, Pointer}
 use Rattle.pst_base.specs.Shape.{type_at, field_kind}
 use Rattle.pst_base.specs.Heap.{Heap, IsPointer, IsFull, kind_in, kind_from, with_value, with_pointer}
-use Rattle.pst_places.specs.State.{HasRoom, WritesStay, ValueStored, PointerStored}
-use Rattle.pst_places.proofs.StateLemmas.{WritesStay_trans}
+use Rattle.pst_versions.specs.State.{HasRoom, WritesStay, ValueStored, PointerStored}
+use Rattle.pst_versions.proofs.StateLemmas.{WritesStay_trans}
 use Rattle.pst_line_nodes.specs.declared.content.Content.{Content}
 use Rattle.pst_line_nodes.specs.declared.content.Content.TheVariants.{Number, Null}
 use Rattle.pst_line_nodes.specs.Contents.{Target}

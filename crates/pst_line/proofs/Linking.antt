@@ -9,8 +9,8 @@ use Rattle.pst_base.specs.declared.names.Kind.TheVariants.{Pointer}
 use Rattle.pst_base.specs.declared.shape.TypeShape.{TypeShape}
 use Rattle.pst_base.specs.Shape.{type_at, field_kind}
 use Rattle.pst_base.specs.Heap.{IsFull, kind_in}
-use Rattle.pst_places.specs.State.{WritesStay, PointerStored}
-use Rattle.pst_places.specs.Store.{MayStorePointer}
+use Rattle.pst_versions.specs.State.{WritesStay, PointerStored}
+use Rattle.pst_versions.specs.Store.{MayStorePointer}
 use Rattle.pst_line_nodes.specs.Line.{Covers, IsIn, IsNewest, IsLine, heap_at}
 use Rattle.pst_line_nodes.specs.Full.{is_other_entry}
 use Rattle.pst_line_nodes.specs.declared.content.InverseNo.{InverseNo}

@@ -15,7 +15,7 @@ use Rattle.pst_base.specs.Shape.{type_at}
 use Rattle.pst_base.specs.Heap.{Rec, IsWellFormed, FitsField, kind_in, kind_from, type_in, with_value, with_pointer, with_record, new_record}
 use Rattle.pst_base.proofs.WellFormed.{IsWellFormed-with_value, IsWellFormed-with_new}
 use Rattle.pst_base.proofs.Fields.{IsWellFormed-store_pointer}
-use Rattle.pst_places.specs.State.{Keeps, OthersStay, Unchanged, WritesStay}
+use Rattle.pst_versions.specs.State.{Keeps, OthersStay, Unchanged, WritesStay}
 use Rattle.pst_line_nodes.specs.Line.{Line, IsIn, IsLive, IsLine, IsQuiet, is_over, ends_by, heap_at, record_at, load, most}
 use Rattle.pst_line_nodes.specs.Changes.{HasSameNodes, VersionsStay}
 use Rattle.pst_line_nodes.proofs.HeapLaws.{heap_has}

@@ -7,8 +7,8 @@ use Rattle.pst_base.specs.declared.names.TypeNo.{TypeNo}
 use Rattle.pst_base.specs.declared.names.Kind.{Kind}
 use Rattle.pst_base.specs.Shape.{type_at, field_kind}
 use Rattle.pst_base.specs.Heap.{Heap, IsWellFormed, IsPointer, with_value, with_pointer}
-use Rattle.pst_places.specs.State.{State, Unchanged, WritesStay, ValueStored, PointerStored}
-use Rattle.pst_places.proofs.StateLemmas.{Keeps_trans, OthersStay_trans, OthersStay_unchanged}
+use Rattle.pst_versions.specs.State.{State, Unchanged, WritesStay, ValueStored, PointerStored}
+use Rattle.pst_versions.proofs.StateLemmas.{Keeps_trans, OthersStay_trans, OthersStay_unchanged}
 use Rattle.pst_line_nodes.specs.declared.content.Content.{Content}
 use Rattle.pst_line_nodes.specs.declared.content.Content.TheVariants.{Number, Null, Target as TargetOf}
 use Rattle.pst_line_nodes.specs.Contents.{Target}

@@ -5,7 +5,7 @@ use Rattle.pst_base.specs.declared.names.NodeId.{NodeId}
 use Rattle.pst_base.specs.Shape.{type_at}
 use Rattle.pst_base.specs.declared.names.Kind.{Kind}
 use Rattle.pst_base.specs.Heap.{IsFull, kind_in}
-use Rattle.pst_places.specs.State.{ValueStored, PointerStored, WritesStay}
+use Rattle.pst_versions.specs.State.{ValueStored, PointerStored, WritesStay}
 use Rattle.pst_line_nodes.specs.Line.{Line, IsQuiet, most}
 use Rattle.pst_line_nodes.specs.Seen.{Seen}
 use Rattle.pst_line_nodes.specs.Nodes.{line_of, AreKept}

@@ -12,7 +12,7 @@ use Rattle.pst_line.specs.declared.place.Stretch.{Stretch}
 use Rattle.pst_line.specs.declared.place.Undo.{Undo}
 use Rattle.pst_line.specs.declared.place.LinePlace.{LinePlace}
 use Rattle.pst_line.specs.Store.{Stored, is_made, in_stretch, state_of, IsStored, IsRested, IsClosed}
-use Rattle.pst_places.specs.State.{State}
+use Rattle.pst_versions.specs.State.{State}
 use Rattle.pst_line.specs.Undoing.{CanUndo, plan}
 use Rattle.pst_line.specs.Noted.{IsOnce}
 

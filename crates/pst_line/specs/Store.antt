@@ -9,7 +9,7 @@ use Rattle.pst_base.specs.declared.shape.TypeShape.{TypeShape}
 use Rattle.pst_base.specs.Shape.{type_at, IsValid}
 use Rattle.pst_base.specs.Heap.{IsWellFormed, initial_heap}
 use Rattle.pst_versions.specs.declared.rows.VersionRow.{VersionRow}
-use Rattle.pst_places.specs.State.{State}
+use Rattle.pst_versions.specs.State.{State}
 use Rattle.pst_line_nodes.specs.Line.{Line, IsLive, IsLine, IsQuiet, heap_at, load, most}
 use Rattle.pst_line.specs.declared.place.LinePlace.{LinePlace}
 use Rattle.pst_line.specs.declared.place.Stretch.{Stretch}

@@ -9,7 +9,7 @@ use Rattle.pst_base.specs.declared.names.Name.{Name}
 use Rattle.pst_base.specs.declared.names.Kind.TheVariants.{Pointer}
 use Rattle.pst_base.specs.Shape.{type_at, field_kind}
 use Rattle.pst_base.specs.Heap.{IsFull}
-use Rattle.pst_places.specs.State.{IsSound, Unchanged, WritesStay, ValueStored, PointerStored, Allocated, IsFresh, IsNewType}
+use Rattle.pst_versions.specs.State.{IsSound, Unchanged, WritesStay, ValueStored, PointerStored, Allocated, IsFresh, IsNewType}
 use Rattle.pst_line_nodes.specs.Line.{Line, IsIn, IsNewest, heap_at, most}
 use Rattle.pst_line_nodes.specs.Changes.{IsNumberSet, IsNulled, IsPointed, IsRedirected, IsCopied, IsMade}
 use Rattle.pst_line_nodes.specs.Runs.{IsDropped}

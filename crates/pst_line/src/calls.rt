@@ -3,7 +3,7 @@
 ghost use Rattle.std.specs.Prelude.{◌≡◌, OnOk, OnErr, IfOk, Some, None, false, ◌<◌, length, List, slice_get, nat_lt, if◌then◌else◌};
 ghost use Rattle.std.specs.Option.{option_map};
 ghost use Rattle.pst_base.specs.Shape.{IsValid};
-ghost use Rattle.pst_places.specs.State.{Unchanged, WritesStay};
+ghost use Rattle.pst_versions.specs.State.{Unchanged, WritesStay};
 ghost use Rattle.pst_line_nodes.specs.Line.{potential};
 ghost use Rattle.pst_line.specs.declared.place.LinePlace.{LinePlace};
 ghost use Rattle.pst_line.specs.declared.place.Undo.{Undo};
@@ -12,7 +12,7 @@ ghost use Rattle.pst_line.specs.Store.{Stored, stamp, place_at, IsStored, IsRest
 
 use crate::place::LinePlace;
 use pst_base::{Counts, NoMemory, NodeId, RunNo, Shape, VersionNo};
-use pst_places::HeapAt;
+use pst_versions::HeapAt;
 use std::alloc::Global;
 
 /// A store of a linear history: only the newest version is written, by one run at a time. What the calls do is said of the heap

@@ -39,7 +39,7 @@ impl<N: LineNodes> Core<N> {
     ghost use Rattle.pst_base.specs.Heap.{kind_in, type_in, value_in, pointer_in, IsPointer};
     ghost use Rattle.pst_base.specs.Name.{root_name};
     ghost use Rattle.pst_line.specs.declared.place.LinePlace.{LinePlace};
-    ghost use Rattle.pst_places.specs.State.{Unchanged, WritesStay};
+    ghost use Rattle.pst_versions.specs.State.{Unchanged, WritesStay};
     ghost use Rattle.pst_line_nodes.specs.Line.{potential};
     ghost use Rattle.pst_base.specs.Shape.{IsValid};
     ghost use Rattle.pst_line.specs.Store.{state_of, place_at, Began, IsStarted, LinePublished};

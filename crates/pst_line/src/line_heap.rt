@@ -3,14 +3,14 @@
 use crate::line_store::LineStore;
 use crate::place::LinePlace;
 use pst_base::{Name, NoMemory, NodeId, ROOT, SlotNo, TypeNo};
-use pst_places::{HeapAt, StoreFault};
+use pst_versions::{HeapAt, StoreFault};
 
 impl HeapAt for LineStore {
     type Ref = NodeId;
 
     type Place = LinePlace;
 
-    ghost use Rattle.pst_places.specs.Store.{MayStorePointer, PointerOutcome};
+    ghost use Rattle.pst_versions.specs.Store.{MayStorePointer, PointerOutcome};
     ghost use Rattle.pst_line.specs.Held.{state_in};
 
     ghost state = { state_in };

@@ -5,14 +5,14 @@ use crate::line_nodes::LineNodes;
 use crate::place::{LinePlace, Undo};
 use pst_base::{Name, NoMemory, NodeId, SlotNo, TypeNo};
 use pst_line_nodes::content::Content;
-use pst_places::StoreFault;
+use pst_versions::StoreFault;
 
 impl<N: LineNodes> Core<N> {
     ghost use Rattle.std.specs.Prelude.{◌≡◌, ◌⊎◌, Some, None, OnOk, OnErr, IfOk, IsSome, IsTrue, true, false, ◌↔◌};
     ghost use Rattle.pst_base.specs.declared.names.Kind.TheVariants.{Int};
     ghost use Rattle.pst_base.specs.Heap.{kind_in, IsPointer};
-    ghost use Rattle.pst_places.specs.State.{HasRoom, Allocated, IsNewType, IsFresh, Unchanged};
-    ghost use Rattle.pst_places.specs.Store.{MayStorePointer, PointerOutcome};
+    ghost use Rattle.pst_versions.specs.State.{HasRoom, Allocated, IsNewType, IsFresh, Unchanged};
+    ghost use Rattle.pst_versions.specs.Store.{MayStorePointer, PointerOutcome};
     ghost use Rattle.pst_line.specs.Store.{state_of};
     ghost use Rattle.pst_line.specs.Held.{stored_of};
     ghost use Rattle.pst_line.specs.Entered.{newest_place, HasField, HasEntered, HasNoRoom, IsLinked, IsNumberStored, IsPointerStored, Stays};

@@ -15,9 +15,9 @@ use Rattle.pst_base.specs.Shape.{field_kind, root_type, type_at}
 use Rattle.pst_base.specs.Heap.{Heap, kind_in, kind_from, initial_heap, new_record}
 use Rattle.pst_base.proofs.WellFormed.{type_in-with_value, type_in-with_new}
 use Rattle.pst_versions.specs.declared.rows.VersionRow.{VersionRow}
-use Rattle.pst_places.specs.State.{State, HasRoom, ValueStored, WritesStay}
-use Rattle.pst_places.specs.Client.{HasRoomFor}
-use Rattle.pst_places.proofs.StateLemmas.{HasRoom_for, room_value}
+use Rattle.pst_versions.specs.State.{State, HasRoom, ValueStored, WritesStay}
+use Rattle.pst_versions.specs.Client.{HasRoomFor}
+use Rattle.pst_versions.proofs.StateLemmas.{HasRoom_for, room_value}
 use Rattle.pst_line.specs.declared.place.LinePlace.{LinePlace}
 use Rattle.pst_line_nodes.specs.Line.{heap_at}
 use Rattle.pst_line.specs.Store.{Stored, IsPlace, Means, Began, LinePublished, Undone, IsStarted}

@@ -4,8 +4,8 @@ use Rattle.pst_base.specs.declared.names.NodeId.{NodeId}
 use Rattle.pst_base.specs.declared.names.Kind.TheVariants.{Int}
 use Rattle.pst_base.specs.Name.{root_name}
 use Rattle.pst_base.specs.Heap.{kind_in}
-use Rattle.pst_places.specs.State.{State}
-use Rattle.pst_places.specs.Client.{HasRoomFor}
+use Rattle.pst_versions.specs.State.{State}
+use Rattle.pst_versions.specs.Client.{HasRoomFor}
 use Rattle.pst_line.specs.declared.place.LinePlace.{LinePlace}
 use Rattle.pst_line.specs.Store.{Stored}
 

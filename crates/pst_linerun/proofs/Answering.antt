@@ -11,7 +11,7 @@ use Rattle.pst_script.specs.declared.reply.Reply.TheVariants as answer
 use Rattle.pst_script.specs.declared.reply.Refusal.{Refusal}
 use Rattle.pst_versions.specs.declared.rows.VersionRow.{VersionRow}
 use Rattle.pst_versions.specs.Rows.{parent_of}
-use Rattle.pst_places.specs.State.{State}
+use Rattle.pst_versions.specs.State.{State}
 use Rattle.pst_history.specs.Meaning.{Meaning, IsLawful}
 use Rattle.pst_history.specs.History.{History, refusal}
 use Rattle.pst_history.proofs.After.{counts_of-budget, heap_of-budget}

@@ -8,7 +8,7 @@ use Rattle.pst_base.specs.declared.names.RunNo.{RunNo}
 use Rattle.pst_program.specs.declared.meaning.Ended.{Ended}
 use Rattle.pst_script.specs.declared.command.Call.{Call}
 use Rattle.pst_script.specs.declared.command.Command.TheVariants as command
-use Rattle.pst_places.specs.State.{State, IsSound, Unchanged}
+use Rattle.pst_versions.specs.State.{State, IsSound, Unchanged}
 use Rattle.pst_history.specs.Accepted.{IsAccepted}
 use Rattle.pst_history.specs.declared.history.NamedCall.{NamedCall}
 use Rattle.pst_history.specs.Meaning.{Meaning, IsLawful, Work, AllFit, fits_one}

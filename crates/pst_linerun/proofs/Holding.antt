@@ -6,7 +6,7 @@ use Rattle.pst_base.specs.declared.names.NodeId.{NodeId}
 use Rattle.pst_base.specs.Heap.{Heap, Rec}
 use Rattle.pst_program.specs.Laws.{IsOlder}
 use Rattle.pst_versions.specs.declared.rows.VersionRow.{VersionRow}
-use Rattle.pst_places.specs.State.{State, IsFresh, Unchanged}
+use Rattle.pst_versions.specs.State.{State, IsFresh, Unchanged}
 use Rattle.pst_machine.specs.Advance.{HasFewCounts}
 use Rattle.pst_history.specs.Meaning.{Meaning, IsLawful}
 use Rattle.pst_history.specs.History.{History, counts_of, heap_of, next_run, version_count}

@@ -2,7 +2,7 @@
 use Rattle.std.proofs.Common.{◌≡◌, ℕ, refl, ap, sym, ◌∙◌, Some, None}
 use Rattle.std.specs.Prelude.{nat_eq, nat_le, nat_lt, not, ◌+◌}
 use Rattle.pst_base.specs.declared.names.NodeId.{NodeId}
-use Rattle.pst_places.specs.State.{State}
+use Rattle.pst_versions.specs.State.{State}
 use Rattle.pst_script.specs.declared.command.Call.{Call}
 use Rattle.pst_script.specs.declared.command.Command.{Command}
 use Rattle.pst_script.specs.declared.command.Command.TheVariants as command

@@ -20,7 +20,7 @@ use Rattle.pst_script.specs.declared.reply.Reply.{Reply}
 use Rattle.pst_script.specs.declared.reply.Reply.TheVariants as answer
 use Rattle.pst_script.specs.declared.reply.Refusal.TheVariants as because
 use Rattle.pst_versions.specs.declared.rows.VersionRow.{VersionRow}
-use Rattle.pst_places.specs.State.{State, IsSound, IsFresh, Unchanged, WritesStay}
+use Rattle.pst_versions.specs.State.{State, IsSound, IsFresh, Unchanged, WritesStay}
 use Rattle.pst_machine_steps.specs.Fields.{KeepsOthers}
 use Rattle.pst_history.specs.declared.history.Descent.{Descent}
 use Rattle.pst_history.specs.Meaning.{Meaning, IsLawful, Work}

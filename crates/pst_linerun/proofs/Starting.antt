@@ -6,7 +6,7 @@ use Rattle.pst_base.specs.declared.shape.TypeShape.{TypeShape}
 use Rattle.pst_base.specs.Heap.{initial_heap}
 use Rattle.pst_line_nodes.specs.Line.{heap_at}
 use Rattle.pst_versions.specs.declared.rows.VersionRow.{VersionRow}
-use Rattle.pst_places.specs.State.{State}
+use Rattle.pst_versions.specs.State.{State}
 use Rattle.pst_history.specs.Meaning.{Meaning, IsLawful}
 use Rattle.pst_history.specs.History.{begun, counts_of, heap_of, heaps_of, opening}
 use Rattle.pst_history.proofs.After.{begun-sound}

@@ -15,7 +15,7 @@ use Rattle.pst_script.specs.declared.reply.Reply.{Reply}
 use Rattle.pst_script.specs.declared.reply.Reply.TheVariants as answer
 use Rattle.pst_script.specs.declared.reply.Refusal.{Refusal}
 use Rattle.pst_script.specs.declared.reply.Refusal.TheVariants as because
-use Rattle.pst_places.specs.State.{State}
+use Rattle.pst_versions.specs.State.{State}
 use Rattle.pst_machine.specs.Advance.{HasFewCounts}
 use Rattle.pst_history.specs.declared.history.NamedCall.{NamedCall}
 use Rattle.pst_history.specs.Meaning.{Meaning, Work, CanBeDone, fits_one, when, kinds_refusal}

@@ -1,7 +1,7 @@
 -- What a session and a store of a linear history stand for: a history, of which neither keeps anything but what is here.
 use Rattle.std.specs.Prelude.{◌≡◌, ℕ, None, false}
 use Rattle.pst_base.specs.declared.names.NodeId.{NodeId}
-use Rattle.pst_places.specs.State.{State}
+use Rattle.pst_versions.specs.State.{State}
 use Rattle.pst_line.specs.declared.place.LinePlace.{LinePlace}
 use Rattle.pst_line.specs.Store.{Stored}
 use Rattle.pst_history.specs.Meaning.{Meaning}

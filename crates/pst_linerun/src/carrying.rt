@@ -1,16 +1,16 @@
 //! One call at a place, carried to its end.
 
 ghost use Rattle.std.specs.Prelude.{◌≡◌, IfOk, OnOk};
-ghost use Rattle.pst_places.specs.State.{Unchanged, WritesStay};
+ghost use Rattle.pst_versions.specs.State.{Unchanged, WritesStay};
 ghost use Rattle.pst_machine_steps.specs.Fields.{KeepsOthers};
 ghost use Rattle.pst_history.specs.History.{call_of};
 ghost use Rattle.pst_linerun.specs.Carried.{CameTo, MayCarryOut, one_call};
 
 use pst_base::{NoMemory, Numbers, RunNo};
 use pst_engine_runs::{Meant, add, advance, bare, known};
-use pst_places::HeapAt;
 use pst_program::Ended;
 use pst_script::Call;
+use pst_versions::HeapAt;
 use std::alloc::Global;
 
 /// The same numbers.

@@ -1,7 +1,7 @@
 //! The commands that work on heaps: a run and a query.
 
 ghost use Rattle.std.specs.Prelude.{◌≡◌, ◌<◌, IfOk, OnOk, OnErr, None, length};
-ghost use Rattle.pst_places.specs.State.{Unchanged};
+ghost use Rattle.pst_versions.specs.State.{Unchanged};
 ghost use Rattle.pst_script.specs.declared.command.Command.TheVariants as command;
 ghost use Rattle.pst_history.specs.History.{queried};
 ghost use Rattle.pst_engine_runs.specs.Stands.{VersionsStay};

@@ -6,8 +6,8 @@ use Rattle.pst_program.specs.Outcome.{TaskCall}
 use Rattle.pst_code.specs.declared.instr.Reg.{Reg}
 use Rattle.pst_code.specs.declared.procedure.Parts.{Parts}
 use Rattle.pst_code.specs.Valid.{IsValidCode}
-use Rattle.pst_places.specs.State.{State, IsFresh, Unchanged, WritesStay}
-use Rattle.pst_places.proofs.StateLemmas.{WritesStay_trans}
+use Rattle.pst_versions.specs.State.{State, IsFresh, Unchanged, WritesStay}
+use Rattle.pst_versions.proofs.StateLemmas.{WritesStay_trans}
 use Rattle.pst_machine.specs.declared.pending.ProcCall.{ProcCall}
 use Rattle.pst_machine_steps.specs.declared.standing.Standing.{Standing}
 use Rattle.pst_machine_steps.specs.declared.standing.Step.{Step}

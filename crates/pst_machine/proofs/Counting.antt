@@ -11,7 +11,7 @@ use Rattle.pst_code.specs.declared.procedure.Parts.{Parts}
 use Rattle.pst_code.specs.Machine.{Frame, Caller, Move, Goes, Waits, Over, Stuck, first_frame, steps}
 use Rattle.pst_code.specs.Laws.{counted, counted_move}
 use Rattle.pst_code.proofs.Counting.{counts_shift}
-use Rattle.pst_places.specs.State.{State}
+use Rattle.pst_versions.specs.State.{State}
 use Rattle.pst_machine.specs.declared.stage.Stage.{Stage}
 use Rattle.pst_machine_frames.specs.Ready.{world_of, current_of, waiting_of}
 use Rattle.pst_machine.specs.Advance.{CallComes, CallsLead, ComesBetween, ComesIn, IsAt, TrapsBy, calls_of, trap_of}

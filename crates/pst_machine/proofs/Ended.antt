@@ -8,7 +8,7 @@ use Rattle.pst_base.proofs.WellFormed.{none-from_type}
 use Rattle.pst_code.specs.declared.instr.Reg.{Reg}
 use Rattle.pst_code.specs.declared.procedure.Parts.{Parts}
 use Rattle.pst_code.specs.Valid.{IsValidCode}
-use Rattle.pst_places.specs.State.{State, IsFresh}
+use Rattle.pst_versions.specs.State.{State, IsFresh}
 use Rattle.pst_machine_steps.specs.declared.standing.Standing.{Standing}
 use Rattle.pst_machine_steps.specs.declared.standing.Step.TheVariants.{Ends}
 use Rattle.pst_machine_steps.specs.Calls.{HoldsNothing, SameTally}

@@ -13,7 +13,7 @@ use Rattle.pst_code.specs.Machine.{Frame, Caller, Move, Goes, Waits, Over, Stuck
 use Rattle.pst_code.specs.SoundRuns.{IsSoundRun, outermost}
 use Rattle.pst_code.specs.Spending.{spendable}
 use Rattle.pst_code.specs.Laws.{granted, counted, counted_move}
-use Rattle.pst_places.specs.State.{State, IsFresh}
+use Rattle.pst_versions.specs.State.{State, IsFresh}
 use Rattle.pst_machine.specs.declared.pending.ProcCall.{ProcCall}
 use Rattle.pst_machine.specs.declared.stage.Stage.{Stage}
 use Rattle.pst_machine.specs.declared.stage.Progress.{Progress}

@@ -5,7 +5,7 @@ use Rattle.pst_base.specs.declared.names.Counts.{Counts}
 use Rattle.pst_base.specs.Heap.{Heap}
 use Rattle.pst_program.specs.Outcome.{TaskCall, no_counts}
 use Rattle.pst_code.specs.declared.procedure.Parts.{Parts}
-use Rattle.pst_places.specs.State.{State}
+use Rattle.pst_versions.specs.State.{State}
 use Rattle.pst_machine.specs.declared.stage.Stage.{Stage}
 use Rattle.pst_machine.specs.declared.stage.Progress.{Progress}
 use Rattle.pst_machine.specs.Advance.{Advances, trap_of}

@@ -2,7 +2,7 @@
 
 ghost use Rattle.std.specs.Prelude.{◌≡◌, ◌<◌, ◌++◌, [], map, drop, length, IfOk, IfSome, OnOk, OnErr, slice_get};
 ghost use Rattle.pst_code.specs.Valid.{IsValidCode};
-ghost use Rattle.pst_places.specs.State.{Unchanged};
+ghost use Rattle.pst_versions.specs.State.{Unchanged};
 ghost use Rattle.pst_machine_steps.specs.declared.register.Register.TheVariants as register;
 ghost use Rattle.pst_machine_steps.specs.Calls.{register_default, HoldsNothing};
 ghost use Rattle.pst_machine_frames.specs.Ready.{IsRest};
@@ -15,7 +15,7 @@ use pst_base::{Kind, NoMemory};
 use pst_code::Code;
 use pst_machine_frames::run;
 use pst_machine_steps::{Register, Standing, Step, fill, let_go};
-use pst_places::HeapAt;
+use pst_versions::HeapAt;
 
 /// Carries out the call that is under way and those that wait, until the charges are used and another is due, or to the end.
 /// What a call held is let go where it ends.

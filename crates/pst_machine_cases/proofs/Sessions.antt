@@ -16,7 +16,7 @@ use Rattle.pst_base.proofs.Degrees.{get-with_record}
 use Rattle.pst_code.specs.declared.procedure.Parts.{Parts}
 use Rattle.pst_code.specs.declared.procedure.Procedure.{Procedure}
 use Rattle.pst_code.specs.Valid.{parameters_of}
-use Rattle.pst_places.specs.State.{State, IsFresh, Forked}
+use Rattle.pst_versions.specs.State.{State, IsFresh, Forked}
 use Rattle.pst_forest.specs.Forest.{state_of, started, heap_at}
 use Rattle.pst_machine.specs.declared.stage.Stage.{Stage}
 use Rattle.pst_machine.specs.Advance.{TakesNumbers, IsBare}

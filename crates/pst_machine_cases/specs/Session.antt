@@ -2,7 +2,7 @@
 use Rattle.std.specs.Prelude.{◌≡◌, ◌<◌, false}
 use Rattle.pst_base.specs.declared.names.Name.{Name}
 use Rattle.pst_code.specs.declared.procedure.Parts.{Parts}
-use Rattle.pst_places.specs.State.{State, IsFresh}
+use Rattle.pst_versions.specs.State.{State, IsFresh}
 use Rattle.pst_machine.specs.declared.stage.Stage.{Stage}
 use Rattle.pst_machine.specs.Advance.{IsReady}
 

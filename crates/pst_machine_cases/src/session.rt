@@ -11,7 +11,7 @@ use pst_base::{Counts, Kind, NoMemory, Numbers, ProcNo, RunNo, VersionNo};
 use pst_code::Code;
 use pst_forest::{Forest, PlaceNo};
 use pst_machine::{Activation, ProcCall, Progress, a_run_begins_ready};
-use pst_places::{HeapAt, MOST_FORKS, VersionedHeap};
+use pst_versions::{HeapAt, MOST_FORKS, VersionedHeap};
 use std::alloc::Global;
 
 /// The most charges that a run of a test takes.

@@ -29,8 +29,8 @@ use Rattle.pst_code.specs.declared.instr.Instr.TheVariants.{Charge, Store, Store
 use Rattle.pst_code.specs.declared.procedure.Procedure.{Procedure}
 use Rattle.pst_code.specs.declared.procedure.Parts.{Parts}
 use Rattle.pst_code.specs.Machine.{Frame, Caller, Goes, Waits as WaitsFor, Over, held, put, behind, act, after_effect, take_charge, first_frame, enter_where, next_instr, with_result, leave_to}
-use Rattle.pst_places.specs.State.{State, Grows}
-use Rattle.pst_places.proofs.StateLemmas.{WritesStay_refl}
+use Rattle.pst_versions.specs.State.{State, Grows}
+use Rattle.pst_versions.proofs.StateLemmas.{WritesStay_refl}
 use Rattle.pst_machine_steps.specs.declared.register.Register.{Register}
 use Rattle.pst_machine_steps.specs.declared.register.Register.TheVariants.{Number, Null, Reference}
 use Rattle.pst_machine_steps.specs.declared.standing.CallFrame.{CallFrame}

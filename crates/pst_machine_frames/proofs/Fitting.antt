@@ -29,7 +29,7 @@ use Rattle.pst_code.specs.SoundRuns.{AreSoundCallers, outermost}
 use Rattle.pst_code.specs.Spending.{unspent}
 use Rattle.pst_code.proofs.Effects.{both_kinds, SlotKind, slot_kind_of, SlotsKind, slots_kind_of}
 use Rattle.pst_code.proofs.Paying.{paid_is_unspent}
-use Rattle.pst_places.specs.State.{State, HasRoom, IsFresh, IsNewType}
+use Rattle.pst_versions.specs.State.{State, HasRoom, IsFresh, IsNewType}
 use Rattle.pst_machine_steps.specs.declared.register.Register.{Register}
 use Rattle.pst_machine_steps.specs.declared.register.Register.TheVariants.{Number, Null, Reference}
 use Rattle.pst_machine_steps.specs.declared.standing.Standing.{Standing}

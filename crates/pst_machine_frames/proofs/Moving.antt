@@ -20,8 +20,8 @@ use Rattle.pst_code.proofs.Going.{steps_add}
 use Rattle.pst_code.proofs.SoundMoves.{instructions_sound}
 use Rattle.pst_code.proofs.Falling.{moves_lower_the_total}
 use Rattle.pst_code.proofs.Paying.{moves_pay}
-use Rattle.pst_places.specs.State.{State, OthersStay, WritesStay, IsFresh}
-use Rattle.pst_places.proofs.StateLemmas.{Keeps_refl, Keeps_trans, OthersStay_refl, OthersStay_trans, WritesStay_refl, WritesStay_trans}
+use Rattle.pst_versions.specs.State.{State, OthersStay, WritesStay, IsFresh}
+use Rattle.pst_versions.proofs.StateLemmas.{Keeps_refl, Keeps_trans, OthersStay_refl, OthersStay_trans, WritesStay_refl, WritesStay_trans}
 use Rattle.pst_machine_steps.specs.declared.standing.Standing.{Standing}
 use Rattle.pst_machine_steps.specs.declared.standing.Step.{Step}
 use Rattle.pst_machine_steps.specs.declared.standing.Step.TheVariants.{Next, Here, Switched, Waits, Ends, Trap}

@@ -13,8 +13,8 @@ use Rattle.pst_code.specs.SoundRuns.{outermost, KeepsWorld, MoveIsSound, Unwritt
 use Rattle.pst_code.specs.Spending.{MovePays}
 use Rattle.pst_code.proofs.SoundMoves.{steps_sound}
 use Rattle.pst_code.proofs.Paying.{steps_pay}
-use Rattle.pst_places.specs.State.{State, Unchanged, IsFresh}
-use Rattle.pst_places.proofs.StateLemmas.{Keeps_refl, Keeps_trans}
+use Rattle.pst_versions.specs.State.{State, Unchanged, IsFresh}
+use Rattle.pst_versions.proofs.StateLemmas.{Keeps_refl, Keeps_trans}
 use Rattle.pst_machine_steps.specs.declared.standing.Standing.{Standing}
 use Rattle.pst_machine_steps.specs.declared.standing.Step.{Step}
 use Rattle.pst_machine_steps.specs.declared.standing.Step.TheVariants.{Next, Here, Switched, Waits, Ends, Trap}

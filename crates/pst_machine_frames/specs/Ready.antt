@@ -13,7 +13,7 @@ use Rattle.pst_code.specs.SoundRuns.{IsSoundRun, outermost}
 use Rattle.pst_code.specs.Laws.{Reaches}
 use Rattle.pst_code.specs.Falls.{total}
 use Rattle.pst_code.specs.Spending.{spendable}
-use Rattle.pst_places.specs.State.{State, WritesStay, IsFresh}
+use Rattle.pst_versions.specs.State.{State, WritesStay, IsFresh}
 use Rattle.pst_machine_frames.specs.declared.running.Flow.{Flow}
 use Rattle.pst_machine_frames.specs.declared.running.Flow.TheVariants as flow
 use Rattle.pst_machine_frames.specs.declared.running.Rested.{Rested}

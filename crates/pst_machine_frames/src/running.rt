@@ -4,7 +4,7 @@ ghost use Rattle.std.specs.Prelude.{◌≡◌, ◌+◌, ◌<◌, ◌^◌, None, 
 ghost use Rattle.pst_code.specs.declared.instr.Instr.TheVariants as instr;
 ghost use Rattle.pst_code.specs.Valid.{IsValidCode};
 ghost use Rattle.pst_code.specs.Machine.{next_instr};
-ghost use Rattle.pst_places.specs.State.{Unchanged, IsFresh, IsNewType, HasRoom};
+ghost use Rattle.pst_versions.specs.State.{Unchanged, IsFresh, IsNewType, HasRoom};
 ghost use Rattle.pst_machine_steps.specs.View.{number_in, procedure_of, AtEachMeaning, Performs, StaysAt};
 ghost use Rattle.pst_machine_steps.specs.Live.{IsLiveSomewhere, IsRoot};
 ghost use Rattle.pst_machine_steps.specs.Calls.{held_in, HasRegister, HoldsNumber};
@@ -19,8 +19,8 @@ use pst_machine_steps::{
     jump_at_most, jump_less, leave, load, load_element, make, negate, operand, read, renew, root,
     same, set, set_root, store, store_element, take_charge,
 };
-use pst_places::HeapAt;
 use pst_program::MOST_PRINTED;
+use pst_versions::HeapAt;
 use std::mem;
 
 /// Runs until the charges are used and another is due, or to the end. The answer is where it came to rest. `NoMemory` where the

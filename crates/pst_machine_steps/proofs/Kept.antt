@@ -8,7 +8,7 @@ use Rattle.pst_base.specs.declared.names.Name.{Name}
 use Rattle.pst_program.specs.declared.meaning.Value.TheVariants.{Null as ANull}
 use Rattle.pst_base.specs.declared.names.TrapKind.TheVariants.{Null as NullTrap}
 use Rattle.pst_program.specs.Meaning.{World, Ending, Trapped, with_object}
-use Rattle.pst_places.specs.State.{State}
+use Rattle.pst_versions.specs.State.{State}
 use Rattle.pst_machine_steps.specs.declared.register.Register.{Register}
 use Rattle.pst_machine_steps.specs.declared.register.Register.TheVariants.{Number, Null, Reference}
 use Rattle.pst_machine_steps.specs.View.{value_of}

@@ -18,8 +18,8 @@ use Rattle.pst_program.specs.Meaning.{World, Normal, Trapped, choose, value_writ
 use Rattle.pst_program.specs.Sound.{IsOf}
 use Rattle.pst_program.specs.Laws.{plain_write}
 use Rattle.pst_program.proofs.Guards.{writes}
-use Rattle.pst_places.specs.State.{State, WritesStay, Unchanged, ValueStored, PointerStored}
-use Rattle.pst_places.proofs.StateLemmas.{OthersStay_unchanged}
+use Rattle.pst_versions.specs.State.{State, WritesStay, Unchanged, ValueStored, PointerStored}
+use Rattle.pst_versions.proofs.StateLemmas.{OthersStay_unchanged}
 use Rattle.pst_machine_steps.specs.declared.register.Register.TheVariants.{Number, Null, Reference}
 use Rattle.pst_machine_steps.specs.Fields.{world_in, MayWriteField, FieldWritten, PointerWritten}
 

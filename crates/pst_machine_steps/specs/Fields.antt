@@ -11,7 +11,7 @@ use Rattle.pst_base.specs.declared.names.TrapKind.TheVariants.{InDegree}
 use Rattle.pst_base.specs.declared.names.TypeNo.{TypeNo}
 use Rattle.pst_program.specs.Value.{Env}
 use Rattle.pst_program.specs.Meaning.{World, Ending, Normal, Trapped, write}
-use Rattle.pst_places.specs.State.{State, Keeps, OthersStay, WritesStay, HasRoom, PointerStored, Unchanged, Allocated}
+use Rattle.pst_versions.specs.State.{State, Keeps, OthersStay, WritesStay, HasRoom, PointerStored, Unchanged, Allocated}
 use Rattle.pst_machine_steps.specs.declared.register.Register.{Register}
 use Rattle.pst_machine_steps.specs.declared.register.Register.TheVariants.{Number, Null, Reference}
 use Rattle.pst_machine_steps.specs.declared.standing.CallFrame.{CallFrame}

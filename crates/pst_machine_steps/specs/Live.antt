@@ -1,7 +1,7 @@
 -- References in registers: where they can be used.
 use Rattle.std.specs.Prelude.{◌≡◌, ◌⊎◌, List, All, Contains}
 use Rattle.pst_base.specs.Name.{root_name}
-use Rattle.pst_places.specs.State.{State}
+use Rattle.pst_versions.specs.State.{State}
 use Rattle.pst_machine_steps.specs.declared.register.Register.{Register}
 use Rattle.pst_machine_steps.specs.declared.register.Register.TheVariants.{Number, Null, Reference}
 

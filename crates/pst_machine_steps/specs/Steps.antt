@@ -14,7 +14,7 @@ use Rattle.pst_code.specs.declared.instr.Reg.{Reg}
 use Rattle.pst_code.specs.declared.instr.Instr.{Instr}
 use Rattle.pst_code.specs.declared.procedure.Parts.{Parts}
 use Rattle.pst_code.specs.Machine.{Frame, Caller, Move, act}
-use Rattle.pst_places.specs.State.{State, HasRoom}
+use Rattle.pst_versions.specs.State.{State, HasRoom}
 use Rattle.pst_machine_steps.specs.declared.fields.Element.{Element}
 use Rattle.pst_machine_steps.specs.declared.register.Register.{Register}
 use Rattle.pst_machine_steps.specs.declared.register.Register.TheVariants.{Number, Null, Reference}

@@ -7,8 +7,8 @@ ghost use Rattle.pst_base.specs.Heap.{kind_in};
 ghost use Rattle.pst_program.specs.Value.{content};
 ghost use Rattle.pst_code.specs.declared.instr.Instr.TheVariants as instr;
 ghost use Rattle.pst_code.specs.declared.procedure.Parts.{Parts};
-ghost use Rattle.pst_places.specs.State.{IsFresh, IsNewType, HasRoom};
-ghost use Rattle.pst_places.specs.Store.{MayStorePointer};
+ghost use Rattle.pst_versions.specs.State.{IsFresh, IsNewType, HasRoom};
+ghost use Rattle.pst_versions.specs.Store.{MayStorePointer};
 ghost use Rattle.pst_machine_steps.specs.View.{value_of, frame_of, StaysAt};
 ghost use Rattle.pst_machine_steps.specs.Live.{IsLive, IsPlainRegister, IsRoot};
 ghost use Rattle.pst_machine_steps.specs.Calls.{held_in, HasRegister, HoldsNumber};
@@ -20,7 +20,7 @@ use crate::register::Register;
 use crate::standing::{CallFrame, Seen, Standing, Step, Top};
 use pst_base::{Kind, Name, NoMemory, SlotNo, TrapKind, TypeNo};
 use pst_code::Reg;
-use pst_places::{HeapAt, StoreFault};
+use pst_versions::{HeapAt, StoreFault};
 
 /// An element of an array: the slot of the first one, how many there are, and the register that holds the index.
 #[derive(Clone, Copy)]

@@ -6,7 +6,7 @@ ghost use Rattle.pst_program.specs.Value.{number_of, same_value};
 ghost use Rattle.pst_machine_steps.specs.View.{value_of};
 ghost use Rattle.pst_machine_steps.specs.Live.{IsLiveSomewhere, IsNumber};
 
-use pst_places::HeapAt;
+use pst_versions::HeapAt;
 
 /// What a register holds. A pointer to a record is a reference of the heap.
 #[derive(Clone, Copy)]

@@ -5,11 +5,11 @@ use Rattle.std.specs.Option.{option_map}
 use Rattle.std.proofs.lemmas.List.Elements.{All-push}
 use Rattle.pst_base.specs.declared.names.Name.{Name}
 use Rattle.pst_versions.specs.declared.rows.VersionRow.{VersionRow}
-use Rattle.pst_places.specs.declared.heap_at.StoreFault.{StoreFault}
-use Rattle.pst_places.specs.declared.heap_at.StoreFault.TheVariants.{InDegree, Memory}
-use Rattle.pst_places.specs.State.{State, ForkRow, Forked, Grows, IsOpenFork, Keeps, Unchanged, ValueStored}
-use Rattle.pst_places.specs.Store.{PointerOutcome}
-use Rattle.pst_places.proofs.StateLemmas.{Grows_trans}
+use Rattle.pst_versions.specs.declared.heap_at.StoreFault.{StoreFault}
+use Rattle.pst_versions.specs.declared.heap_at.StoreFault.TheVariants.{InDegree, Memory}
+use Rattle.pst_versions.specs.State.{State, ForkRow, Forked, Grows, IsOpenFork, Keeps, Unchanged, ValueStored}
+use Rattle.pst_versions.specs.Store.{PointerOutcome}
+use Rattle.pst_versions.proofs.StateLemmas.{Grows_trans}
 use Rattle.pst_store_meaning.specs.declared.place.Place.{Place}
 use Rattle.pst_store_meaning.specs.Store.{Stored, state_of}
 use Rattle.pst_store_meaning.proofs.Places.{slice_get-below, slice_get-last, store_is_versioned}

@@ -8,20 +8,20 @@ ghost use Rattle.std.specs.Prelude.{◌≡◌, [], All, IfOk, IfSome, IsTrue, On
 ghost use Rattle.std.specs.Option.{option_map};
 ghost use Rattle.pst_base.specs.Heap.{FitsField};
 ghost use Rattle.pst_base.specs.declared.names.Kind.TheVariants.{Pointer};
-ghost use Rattle.pst_places.specs.State.{Grows, IsOpenFork, Keeps};
+ghost use Rattle.pst_versions.specs.State.{Grows, IsOpenFork, Keeps};
 ghost use Rattle.pst_store_meaning.specs.declared.place.Place.{Place};
 ghost use Rattle.pst_store_meaning.specs.Store.{state_of};
 ghost use Rattle.pst_store_rings.specs.Rings.{HasRing, IsStamped};
 
 use pst_base::{Kind, NoMemory, NodeId, RunNo, Shape, VersionNo};
 use pst_order::{LabelOrder, Order};
-use pst_places::StoreFault;
 use pst_store::{Started, Store};
 use pst_store_arena::Arena;
 use pst_store_meaning::place::Place;
 use pst_store_rings::{
     FIRST, ITEM, NEXT, Reading, SECOND, Trouble, VALUE, readings, start_ring, type_of,
 };
+use pst_versions::StoreFault;
 use std::alloc::Global;
 
 /// How often a call is made at most: one growth is refused, so the second time it succeeds.

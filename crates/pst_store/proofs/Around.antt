@@ -6,9 +6,9 @@ use Rattle.pst_base.specs.declared.names.TypeNo.{TypeNo}
 use Rattle.pst_base.specs.declared.names.Name.{Name}
 use Rattle.pst_base.specs.declared.shape.TypeShape.{TypeShape}
 use Rattle.pst_base.specs.Heap.{Heap, kind_in, FitsField, IsFull}
-use Rattle.pst_places.specs.State.{Allocated, HasRoom, PointerStored, ValueStored}
-use Rattle.pst_places.specs.Store.{MayStorePointer}
-use Rattle.pst_places.proofs.StateLemmas.{WritesStay_trans}
+use Rattle.pst_versions.specs.State.{Allocated, HasRoom, PointerStored, ValueStored}
+use Rattle.pst_versions.specs.Store.{MayStorePointer}
+use Rattle.pst_versions.proofs.StateLemmas.{WritesStay_trans}
 use Rattle.pst_store_meaning.specs.declared.place.Place.{Place}
 use Rattle.pst_store_meaning.specs.Store.{Stored, state_of}
 use Rattle.pst_store_meaning.proofs.Around.{allocated_after, pointer_around, unchanged_after, value_around}

@@ -7,9 +7,9 @@ use Rattle.std.proofs.lemmas.Option.{slice_get-get_or}
 use Rattle.pst_base.specs.declared.names.RunNo.{RunNo}
 use Rattle.pst_base.specs.declared.names.VersionNo.{VersionNo}
 use Rattle.pst_versions.specs.declared.rows.VersionRow.{VersionRow}
-use Rattle.pst_places.specs.declared.versioned.TheConstants.{MOST_FORKS}
-use Rattle.pst_places.specs.State.{ForkRow, IsPublished, Forked, ForkRefused, IsOpenFork, Published, Unchanged, WritesStay}
-use Rattle.pst_places.proofs.StateLemmas.{Keeps_refl, WritesStay_refl}
+use Rattle.pst_versions.specs.declared.versioned.TheConstants.{MOST_FORKS}
+use Rattle.pst_versions.specs.State.{ForkRow, IsPublished, Forked, ForkRefused, IsOpenFork, Published, Unchanged, WritesStay}
+use Rattle.pst_versions.proofs.StateLemmas.{Keeps_refl, WritesStay_refl}
 use Rattle.pst_order.specs.Places.{IsIn, IsInsertedAfter}
 use Rattle.pst_order.proofs.RankLemmas.{ranks_law}
 use Rattle.pst_store_meaning.specs.declared.place.Place.{Place}

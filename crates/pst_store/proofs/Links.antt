@@ -13,7 +13,7 @@ use Rattle.pst_base.specs.Name.{root_name}
 use Rattle.pst_base.specs.Shape.{type_at, root_type, field_kind, element_count}
 use Rattle.pst_base.specs.Heap.{kind_in, type_in, IsPointer, FitsField, IsFull}
 use Rattle.pst_base.proofs.WellFormed.{type-from_none}
-use Rattle.pst_places.specs.State.{HasRoom, PointerStored, Allocated, WritesStay, IsNewType, IsFresh}
+use Rattle.pst_versions.specs.State.{HasRoom, PointerStored, Allocated, WritesStay, IsNewType, IsFresh}
 use Rattle.pst_order.specs.Places.{rank}
 use Rattle.pst_store_meaning.specs.declared.place.Place.{Place}
 use Rattle.pst_mirror.specs.Degree.{is_other_entry}

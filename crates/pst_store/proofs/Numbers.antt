@@ -3,7 +3,7 @@ use Rattle.std.proofs.Common.{◌≡◌, ℕ, List, ℤ, Some, sym, subst}
 use Rattle.pst_base.specs.declared.names.NodeId.{NodeId}
 use Rattle.pst_base.specs.declared.names.Name.{Name}
 use Rattle.pst_base.specs.declared.names.Kind.TheVariants.{Int}
-use Rattle.pst_places.specs.State.{HasRoom, ValueStored, WritesStay}
+use Rattle.pst_versions.specs.State.{HasRoom, ValueStored, WritesStay}
 use Rattle.pst_store_meaning.specs.declared.place.Place.{Place}
 use Rattle.pst_store_meaning.specs.Arena.{IsIn}
 use Rattle.pst_store_meaning.specs.Store.{Node, Noted, Stored, arena, begin_of, state_of, IsOpen, IsStore}

@@ -11,8 +11,8 @@ use Rattle.pst_base.specs.declared.names.Kind.TheVariants.{Int, Pointer}
 use Rattle.pst_base.specs.declared.shape.TypeShape.{TypeShape}
 use Rattle.pst_base.specs.Shape.{type_at, field_kind}
 use Rattle.pst_base.specs.Heap.{kind_in, value_in}
-use Rattle.pst_places.specs.State.{Unchanged, WritesStay}
-use Rattle.pst_places.proofs.StateLemmas.{Keeps_refl}
+use Rattle.pst_versions.specs.State.{Unchanged, WritesStay}
+use Rattle.pst_versions.proofs.StateLemmas.{Keeps_refl}
 use Rattle.pst_mirror.specs.Potential.{potential}
 use Rattle.pst_store_meaning.specs.declared.place.Place.{Place}
 use Rattle.pst_rows.specs.Contents.{number}

@@ -4,7 +4,7 @@ use Rattle.std.specs.Prelude.{Contains, IfSome, IsSome}
 use Rattle.std.proofs.lemmas.Bool.{cases_lt}
 use Rattle.pst_base.specs.Shape.{type_at}
 use Rattle.pst_mirror.specs.Potential.{capacity}
-use Rattle.pst_places.specs.State.{IsSound, IsVersioned}
+use Rattle.pst_versions.specs.State.{IsSound, IsVersioned}
 use Rattle.pst_store_meaning.specs.declared.place.Place.{Place}
 use Rattle.pst_store_meaning.specs.Store.{Stored, IsOpen, IsStore}
 use Rattle.pst_store_meaning.proofs.Places.{store_is_sound, store_is_versioned}

@@ -7,10 +7,10 @@ use Rattle.pst_base.specs.declared.names.Kind.{Kind}
 use Rattle.pst_base.specs.declared.shape.TypeShape.{TypeShape}
 use Rattle.pst_base.specs.Heap.{initial_heap, kind_in, IsFull}
 use Rattle.pst_versions.specs.Rows.{first_row}
-use Rattle.pst_places.specs.declared.heap_at.StoreFault.{StoreFault}
-use Rattle.pst_places.specs.declared.heap_at.StoreFault.TheVariants.{InDegree, Memory}
+use Rattle.pst_versions.specs.declared.heap_at.StoreFault.{StoreFault}
+use Rattle.pst_versions.specs.declared.heap_at.StoreFault.TheVariants.{InDegree, Memory}
 use Rattle.pst_order.specs.Places.{IsInsertedAfter}
-use Rattle.pst_places.specs.State.{ValueStored, PointerStored, Unchanged, WritesStay}
+use Rattle.pst_versions.specs.State.{ValueStored, PointerStored, Unchanged, WritesStay}
 use Rattle.pst_store_meaning.specs.declared.place.Place.{Place}
 use Rattle.pst_store_meaning.specs.Store.{Stored, arena, AreAllHeld, AreHeld, IsRested, IsStore, state_of}
 use Rattle.pst_store_meaning.specs.Steps.{HasGrownBy}

@@ -5,7 +5,7 @@ use Rattle.pst_base.specs.declared.names.NodeId.{NodeId}
 use Rattle.pst_base.specs.Name.{root_name}
 use Rattle.pst_base.specs.Shape.{type_at}
 use Rattle.pst_mirror.specs.Potential.{capacity, potential}
-use Rattle.pst_places.specs.State.{State}
+use Rattle.pst_versions.specs.State.{State}
 use Rattle.pst_store_meaning.specs.declared.place.Place.{Place}
 use Rattle.pst_store_meaning.specs.Store.{Node, Stored, bound, load_of, state_of}
 use Rattle.pst_store.specs.Calls.{StampsAtMost}

@@ -5,10 +5,9 @@ use crate::forking::{Near, first_roots, insert_place, note_root, reserve_one};
 use crate::types::{capacity_of, field_kind};
 use pst_base::{Counts, Kind, Name, NoMemory, NodeId, RunNo, Shape, SlotNo, TypeNo, VersionNo};
 use pst_order::Order;
-use pst_places::{MOST_FORKS, StoreFault};
 use pst_store_arena::{Arena, FatNodes};
 use pst_store_meaning::place::{Fork, Place};
-use pst_versions::Versions;
+use pst_versions::{MOST_FORKS, StoreFault, Versions};
 use std::alloc::Global;
 use std::marker::Model;
 
@@ -81,13 +80,13 @@ impl<O: Order + Drop, N: FatNodes> Started<O, N> {
     ghost use Rattle.pst_base.specs.Shape.{IsValid, type_at};
     ghost use Rattle.pst_mirror.specs.Potential.{capacity, potential};
     ghost use Rattle.pst_versions.specs.Rows.{parent_of};
-    ghost use Rattle.pst_places.specs.Store.{MayStorePointer, PointerOutcome};
-    ghost use Rattle.pst_places.specs.State.{HasRoom, Allocated, IsNewType, IsFresh, IsPublished, Forked, ForkRefused, IsOpenFork, Published};
+    ghost use Rattle.pst_versions.specs.Store.{MayStorePointer, PointerOutcome};
+    ghost use Rattle.pst_versions.specs.State.{HasRoom, Allocated, IsNewType, IsFresh, IsPublished, Forked, ForkRefused, IsOpenFork, Published};
     ghost use Rattle.pst_store_meaning.specs.declared.place.Place.{Place};
     ghost use Rattle.pst_store_meaning.specs.Arena.{IsIn};
     ghost use Rattle.pst_store_meaning.specs.Store.{arena, begin_of, loads, state_of};
     ghost use Rattle.pst_store_arena.specs.Calls.{AreOthers, IsOpenTo};
-    ghost use Rattle.pst_places.specs.declared.versioned.TheConstants.{MOST_FORKS};
+    ghost use Rattle.pst_versions.specs.declared.versioned.TheConstants.{MOST_FORKS};
     ghost use Rattle.pst_store.specs.Calls.{IsKept, IsStarted, kind_at, IsNumberStored, IsPointerStored, HoldsAfter, HoldsRoots, RestsAfter, Stays, Same, IsLinked, IsRefused, IsSplitUp, IsStamped, StampsAtMost, HasNoRoom};
 
     /// A store with version 0, which has the root record alone.

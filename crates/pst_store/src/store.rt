@@ -40,7 +40,7 @@ impl<O: Order + Drop, N: FatNodes> StoreOf<O, N> {
     ghost use Rattle.pst_store_meaning.specs.declared.place.Place.{Place};
     ghost use Rattle.pst_base.specs.Shape.{IsValid, type_at};
     ghost use Rattle.pst_mirror.specs.Potential.{capacity};
-    ghost use Rattle.pst_places.specs.State.{Unchanged, WritesStay};
+    ghost use Rattle.pst_versions.specs.State.{Unchanged, WritesStay};
     ghost use Rattle.pst_store_meaning.specs.Store.{IsStore};
     ghost use Rattle.pst_store.specs.Calls.{IsKept, IsStarted};
     ghost use Rattle.pst_store.specs.Whole.{IsBounded, IsSmall, nodes_in, potential_in, queue_in, state_in};

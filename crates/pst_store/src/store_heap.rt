@@ -6,9 +6,9 @@ use crate::Started;
 use crate::store::StoreOf;
 use pst_base::{Counts, Name, NoMemory, NodeId, RunNo, SlotNo, TypeNo, VersionNo};
 use pst_order::Order;
-use pst_places::{HeapAt, StoreFault, VersionedHeap};
 use pst_store_arena::FatNodes;
 use pst_store_meaning::place::Place;
+use pst_versions::{HeapAt, StoreFault, VersionedHeap};
 
 impl<O: Order + Drop, N: FatNodes> HeapAt for StoreOf<O, N> {
     type Ref = NodeId;
@@ -18,8 +18,8 @@ impl<O: Order + Drop, N: FatNodes> HeapAt for StoreOf<O, N> {
     ghost use Rattle.std.specs.Prelude.{◌≡◌, ◌⊎◌, [], Some, IfOk, IfSome, OnOk, OnErr};
     ghost use Rattle.pst_base.specs.declared.names.Kind.TheVariants.{Int};
     ghost use Rattle.pst_base.specs.Heap.{kind_in};
-    ghost use Rattle.pst_places.specs.State.{Allocated, HasRoom, IsFresh, IsNewType, Unchanged, ValueStored, WritesStay};
-    ghost use Rattle.pst_places.specs.Store.{MayStorePointer, PointerOutcome};
+    ghost use Rattle.pst_versions.specs.State.{Allocated, HasRoom, IsFresh, IsNewType, Unchanged, ValueStored, WritesStay};
+    ghost use Rattle.pst_versions.specs.Store.{MayStorePointer, PointerOutcome};
     ghost use Rattle.pst_store_meaning.specs.Arena.{IsIn};
     ghost use Rattle.pst_store_meaning.specs.Store.{arena, begin_of};
     ghost use Rattle.pst_store.specs.Calls.{HoldsAfter, HoldsRoots, RestsAfter};
@@ -143,8 +143,8 @@ impl<O: Order + Drop, N: FatNodes> StoreOf<O, N> {
 
 impl<O: Order + Drop, N: FatNodes> VersionedHeap for StoreOf<O, N> {
     ghost use Rattle.std.specs.Prelude.{◌≡◌, ◌<◌, IfOk, IfSome, OnErr, length, slice_get};
-    ghost use Rattle.pst_places.specs.State.{ForkRefused, Forked, IsOpenFork, IsPublished, Published, Unchanged, WritesStay};
-    ghost use Rattle.pst_places.specs.declared.versioned.TheConstants.{MOST_FORKS};
+    ghost use Rattle.pst_versions.specs.State.{ForkRefused, Forked, IsOpenFork, IsPublished, Published, Unchanged, WritesStay};
+    ghost use Rattle.pst_versions.specs.declared.versioned.TheConstants.{MOST_FORKS};
     ghost use Rattle.pst_store.specs.Whole.{queue_in, state_in};
 
     fn known_versions(&self) {

@@ -8,7 +8,7 @@ use Rattle.pst_program.specs.Syntax.{Routines}
 use Rattle.pst_history.specs.Meaning.{Meaning}
 use Rattle.pst_history.specs.Direct.{direct}
 use Rattle.pst_versions.specs.declared.rows.VersionRow.{VersionRow}
-use Rattle.pst_places.specs.State.{State, IsVersioned}
+use Rattle.pst_versions.specs.State.{State, IsVersioned}
 use Rattle.pst_engine.specs.Stands.{IsStartedHeap}
 use Rattle.pst_store_meaning.specs.Store.{Stored, as_fork}
 use Rattle.pst_store_meaning.proofs.Starting.{only_start}

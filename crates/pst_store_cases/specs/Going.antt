@@ -1,7 +1,7 @@
 -- What a session keeps from line to line.
 use Rattle.std.specs.Prelude.{◌≡◌, false}
 use Rattle.pst_program.specs.declared.program.Program.{Program}
-use Rattle.pst_places.specs.State.{State}
+use Rattle.pst_versions.specs.State.{State}
 use Rattle.pst_engine_runs.specs.Coded.{meant_by}
 use Rattle.pst_engine.specs.declared.engine.Engine.{Engine}
 use Rattle.pst_engine.specs.Stands.{MayApply}

@@ -6,7 +6,7 @@ ghost use Rattle.pst_store_cases.specs.Going.{IsGoing};
 use crate::session::Session;
 use pst_base::NoMemory;
 use pst_engine_testing::Random;
-use pst_places::VersionedHeap;
+use pst_versions::VersionedHeap;
 use std::alloc::Global;
 
 /// The program that the script is for: nodes in a list that also point across it, and procedures that write many of them in a

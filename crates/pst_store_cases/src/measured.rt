@@ -7,9 +7,9 @@ ghost use Rattle.pst_store_cases.specs.Going.{IsGoing};
 use crate::session::{Session, lines_of};
 use pst_base::{Counts, NoMemory};
 use pst_order::Order;
-use pst_places::VersionedHeap;
 use pst_store::StoreOf;
 use pst_store_arena::FatNodes;
+use pst_versions::VersionedHeap;
 use std::alloc::Global;
 
 /// The most nodes and potential that these counts pay for: one for each record that was made, six for each pointer that was

@@ -11,8 +11,8 @@ use pst_dump::dump;
 use pst_engine::{Engine, a_new_engine_stands};
 use pst_engine_runs::Compiled;
 use pst_engine_testing::Trouble;
-use pst_places::VersionedHeap;
 use pst_script::{Command, LineFault, read_line, reply_text};
+use pst_versions::VersionedHeap;
 use std::alloc::Global;
 
 /// A program's engine with its heap of versions. Both stand for a history.

@@ -12,9 +12,9 @@ use pst_base::{Counts, NoMemory};
 use pst_engine_testing::Trouble;
 use pst_forest::Forest;
 use pst_order::{LabelOrder, Order, RowOrder};
-use pst_places::VersionedHeap;
 use pst_store::StoreOf;
 use pst_store_arena::{Arena, FatNodes};
+use pst_versions::VersionedHeap;
 use std::alloc::Global;
 
 /// How many records were made and fields written: fewer than the calls of the heap, which also loads.

@@ -5,8 +5,8 @@ use Rattle.pst_base.specs.declared.names.Name.{Name}
 use Rattle.pst_base.specs.declared.names.Counts.{Counts}
 use Rattle.pst_base.specs.declared.shape.TypeShape.{TypeShape}
 use Rattle.pst_base.specs.Heap.{Heap, with_value, with_pointer, with_record, new_record}
-use Rattle.pst_places.specs.State.{State, Unchanged, ValueStored, PointerStored, Allocated, WritesStay}
-use Rattle.pst_places.proofs.StateLemmas.{Keeps_trans, OthersStay_trans, OthersStay_unchanged, WritesStay_trans, WritesStay_refl, Keeps_refl}
+use Rattle.pst_versions.specs.State.{State, Unchanged, ValueStored, PointerStored, Allocated, WritesStay}
+use Rattle.pst_versions.proofs.StateLemmas.{Keeps_trans, OthersStay_trans, OthersStay_unchanged, WritesStay_trans, WritesStay_refl, Keeps_refl}
 use Rattle.pst_mirror.specs.Potential.{potential}
 use Rattle.pst_store_meaning.specs.Store.{Stored, Noted, Node, loads, state_of, IsStore}
 use Rattle.pst_store_meaning.specs.Steps.{UnchangedLaw, ValueAroundLaw, PointerAroundLaw, AllocatedAfterLaw, with_nodes, AreSplits, RepairLaw}

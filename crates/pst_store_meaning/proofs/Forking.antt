@@ -3,8 +3,8 @@ use Rattle.std.proofs.Common.{◌≡◌, ◌≢◌, ℕ, suc, ◌+◌, ◌*◌, 
 use Rattle.std.specs.Prelude.{slice_get}
 use Rattle.std.proofs.lemmas.List.{map-append}
 use Rattle.std.proofs.lemmas.List.Edits.{length-insert}
-use Rattle.pst_places.specs.declared.versioned.TheConstants.{MOST_FORKS}
-use Rattle.pst_places.specs.State.{Forked}
+use Rattle.pst_versions.specs.declared.versioned.TheConstants.{MOST_FORKS}
+use Rattle.pst_versions.specs.State.{Forked}
 use Rattle.pst_order.specs.Places.{rank}
 use Rattle.pst_mirror.specs.Charts.{AllRows}
 use Rattle.pst_mirror.specs.Fork.{shift, back, IsInsertedAfter}

@@ -4,7 +4,7 @@ use Rattle.std.proofs.Math.ListN.{set}
 use Rattle.std.specs.Prelude.{slice_get, map}
 use Rattle.std.specs.FinMap.{get}
 use Rattle.std.proofs.lemmas.List.{length-append}
-use Rattle.pst_places.specs.State.{ForkRow, IsOpenFork}
+use Rattle.pst_versions.specs.State.{ForkRow, IsOpenFork}
 use Rattle.pst_order.specs.Places.{rank}
 use Rattle.pst_store_meaning.specs.declared.place.Place.{Place}
 use Rattle.pst_store_meaning.specs.declared.place.Fork.{Fork}

@@ -8,7 +8,7 @@ use Rattle.pst_base.specs.declared.names.RunNo.{RunNo}
 use Rattle.std.specs.Option.{option_map}
 use Rattle.pst_versions.specs.declared.rows.VersionRow.{VersionRow}
 use Rattle.pst_versions.specs.Rows.{first_row}
-use Rattle.pst_places.specs.State.{Published, published_in}
+use Rattle.pst_versions.specs.State.{Published, published_in}
 use Rattle.pst_store_meaning.specs.declared.place.Place.{Place}
 use Rattle.pst_store_meaning.specs.declared.place.Fork.{Fork}
 use Rattle.pst_store_meaning.specs.Store.{Stored, begin_of, end_of, IsForked, IsOpen, IsPlace, as_fork, state_of, AreNested, published_count, IsVersionFork, IsStore}

@@ -14,7 +14,7 @@ use Rattle.pst_base.specs.declared.shape.TypeShape.{TypeShape}
 use Rattle.pst_base.specs.Shape.{type_at, root_type}
 use Rattle.pst_base.specs.Name.{root_name}
 use Rattle.pst_base.specs.Heap.{Heap}
-use Rattle.pst_places.specs.State.{IsNewType, IsFresh, Allocated, Unchanged, WritesStay, Keeps, OthersStay}
+use Rattle.pst_versions.specs.State.{IsNewType, IsFresh, Allocated, Unchanged, WritesStay, Keeps, OthersStay}
 use Rattle.pst_rows.specs.declared.content.Content.TheVariants.{Null}
 use Rattle.pst_rows.specs.declared.content.Stamp.{Stamp}
 use Rattle.pst_rows.specs.Timeline.{in_force}

@@ -16,8 +16,8 @@ use Rattle.pst_base.specs.Heap.{type_in, kind_in, value_in, pointer_in, initial_
 use Rattle.std.specs.Option.{option_map}
 use Rattle.pst_versions.specs.declared.rows.VersionRow.{VersionRow}
 use Rattle.pst_versions.specs.Rows.{first_row}
-use Rattle.pst_places.specs.declared.versioned.TheConstants.{MOST_FORKS}
-use Rattle.pst_places.specs.State.{IsPublished, Forked, ForkRefused, Published, IsSound, IsVersioned, IsNewType, IsFresh, Allocated, ValueStored, PointerStored, Unchanged, WritesStay}
+use Rattle.pst_versions.specs.declared.versioned.TheConstants.{MOST_FORKS}
+use Rattle.pst_versions.specs.State.{IsPublished, Forked, ForkRefused, Published, IsSound, IsVersioned, IsNewType, IsFresh, Allocated, ValueStored, PointerStored, Unchanged, WritesStay}
 use Rattle.pst_order.specs.Places.{rank}
 use Rattle.pst_rows.specs.Values.{base_in, IsValue}
 use Rattle.pst_mirror.specs.Charts.{AllRows}

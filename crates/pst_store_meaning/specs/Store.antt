@@ -8,8 +8,8 @@ use Rattle.pst_base.specs.declared.shape.TypeShape.{TypeShape}
 use Rattle.pst_base.specs.Name.{root_name}
 use Rattle.pst_base.specs.Shape.{type_at, root_type, element_count, IsValid}
 use Rattle.pst_versions.specs.Rows.{IsVersionTree, first_row}
-use Rattle.pst_places.specs.declared.versioned.TheConstants.{MOST_FORKS}
-use Rattle.pst_places.specs.State.{State, ForkRow}
+use Rattle.pst_versions.specs.declared.versioned.TheConstants.{MOST_FORKS}
+use Rattle.pst_versions.specs.State.{State, ForkRow}
 use Rattle.pst_versions.specs.declared.rows.VersionRow.{VersionRow}
 use Rattle.pst_rows.specs.Values.{RowValue}
 use Rattle.pst_order.specs.Places.{rank}

@@ -3,7 +3,7 @@ use Rattle.std.proofs.Common.{◌≡◌, ℕ, ◌<◌, List, false, length, All,
 use Rattle.std.specs.Prelude.{slice_get, IfSome}
 use Rattle.std.specs.Option.{option_map}
 use Rattle.pst_versions.specs.declared.rows.VersionRow.{VersionRow}
-use Rattle.pst_places.specs.State.{State, ForkRow, Forked, Grows, IsOpenFork, IsPublished, Keeps}
+use Rattle.pst_versions.specs.State.{State, ForkRow, Forked, Grows, IsOpenFork, IsPublished, Keeps}
 use Rattle.pst_store_meaning.specs.declared.place.Place.{Place}
 use Rattle.pst_store_meaning.specs.Store.{Stored, state_of}
 use Rattle.pst_store_meaning.proofs.Places.{slice_get-below, slice_get-last, store_is_versioned}

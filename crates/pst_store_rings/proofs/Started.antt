@@ -10,7 +10,7 @@ use Rattle.pst_base.specs.Shape.{root_type}
 use Rattle.pst_base.specs.Heap.{Heap, initial_heap, new_record}
 use Rattle.pst_base.proofs.WellFormed.{none-from_type, type-from_none, type_in-with_other}
 use Rattle.pst_versions.specs.declared.rows.VersionRow.{VersionRow}
-use Rattle.pst_places.specs.State.{IsFresh, IsPublished}
+use Rattle.pst_versions.specs.State.{IsFresh, IsPublished}
 use Rattle.pst_store_meaning.specs.declared.place.Place.{Place}
 use Rattle.pst_store_meaning.specs.declared.place.Fork.{Fork}
 use Rattle.pst_store_meaning.specs.Store.{Stored}

@@ -1,5 +1,5 @@
 -- What the tests keep of their ring.
-use Rattle.pst_places.specs.State.{State, Grows}
+use Rattle.pst_versions.specs.State.{State, Grows}
 
 -- the two records of the ring are live at a place
 pub record HasRing {P R : Type 0} (s : State P R) (a b : R) (at : P) : Type 0 where

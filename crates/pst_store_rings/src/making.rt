@@ -4,18 +4,18 @@ ghost use Rattle.std.specs.Prelude.{◌≡◌, ◌<◌, IfOk, IsTrue, None, Some
 ghost use Rattle.pst_base.specs.declared.names.Kind.TheVariants.{Pointer};
 ghost use Rattle.pst_base.specs.Shape.{field_kind, type_at};
 ghost use Rattle.pst_versions.specs.declared.rows.VersionRow.{VersionRow};
-ghost use Rattle.pst_places.specs.declared.versioned.TheConstants.{MOST_FORKS};
-ghost use Rattle.pst_places.specs.State.{IsFresh, IsNewType, IsPublished};
-ghost use Rattle.pst_places.specs.Client.{HasRoomFor};
+ghost use Rattle.pst_versions.specs.declared.versioned.TheConstants.{MOST_FORKS};
+ghost use Rattle.pst_versions.specs.State.{IsFresh, IsNewType, IsPublished};
+ghost use Rattle.pst_versions.specs.Client.{HasRoomFor};
 ghost use Rattle.pst_store_rings.specs.Rings.{HasRing};
 ghost use Rattle.pst_store.specs.Whole.{state_in};
 
 use pst_base::{
     Kind, Name, NoMemory, NodeId, RunNo, Shape, SlotNo, Targets, TypeNo, TypeShape, VersionNo,
 };
-use pst_places::{StoreFault, VersionedHeap, link_two};
 use pst_store::Store;
 use pst_store_meaning::place::Place;
+use pst_versions::{StoreFault, VersionedHeap, link_two};
 use std::alloc::Global;
 
 /// The type of the items, which is that of all records but the root record.

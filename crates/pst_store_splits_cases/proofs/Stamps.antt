@@ -2,8 +2,8 @@
 use Rattle.std.proofs.Common.{◌≡◌, ℕ, List, [], ◌∷◌, ◌++◌, ℤ, All, sym, subst}
 use Rattle.std.proofs.lemmas.List.Elements.{All-cons, All-nil, All-push}
 use Rattle.pst_base.specs.declared.names.Name.{Name}
-use Rattle.pst_places.specs.State.{State, Forked, ValueStored}
-use Rattle.pst_places.proofs.StateLemmas.{Grows_trans}
+use Rattle.pst_versions.specs.State.{State, Forked, ValueStored}
+use Rattle.pst_versions.proofs.StateLemmas.{Grows_trans}
 use Rattle.pst_store_rings.specs.Rings.{HasRing, IsStamped}
 use Rattle.pst_store_rings.proofs.Rings.{rings_grow}
 

@@ -8,7 +8,7 @@ use Rattle.pst_base.specs.Name.{root_name}
 use Rattle.pst_base.specs.Shape.{field_kind, root_type, type_at}
 use Rattle.pst_base.specs.Heap.{Heap, kind_from, kind_in, new_record}
 use Rattle.pst_base.proofs.WellFormed.{type_in-with_new}
-use Rattle.pst_places.specs.Client.{HasRoomFor}
+use Rattle.pst_versions.specs.Client.{HasRoomFor}
 use Rattle.pst_store_meaning.specs.declared.place.Place.{Place}
 use Rattle.pst_store_meaning.specs.Store.{Stored}
 use Rattle.pst_store_rings.proofs.Started.{HasOnePlace}

@@ -8,10 +8,10 @@ use Rattle.pst_base.specs.declared.shape.TypeShape.{TypeShape}
 use Rattle.pst_base.specs.Name.{root_name}
 use Rattle.pst_base.specs.Heap.{Heap, kind_in, kind_from}
 use Rattle.pst_base.proofs.WellFormed.{type_in-with_value}
-use Rattle.pst_places.specs.declared.versioned.TheConstants.{MOST_FORKS}
-use Rattle.pst_places.specs.State.{State, Forked, HasRoom, ValueStored, WritesStay}
-use Rattle.pst_places.specs.Client.{HasRoomFor}
-use Rattle.pst_places.proofs.StateLemmas.{HasRoom_for, room_value}
+use Rattle.pst_versions.specs.declared.versioned.TheConstants.{MOST_FORKS}
+use Rattle.pst_versions.specs.State.{State, Forked, HasRoom, ValueStored, WritesStay}
+use Rattle.pst_versions.specs.Client.{HasRoomFor}
+use Rattle.pst_versions.proofs.StateLemmas.{HasRoom_for, room_value}
 use Rattle.pst_store_splits_cases.specs.Trials.{HoldsNumber, IsReady}
 
 module _ {P R : Type 0} where

@@ -3,9 +3,9 @@ use Rattle.std.specs.Prelude.{◌≡◌, ℕ, ◌+◌, ◌≤◌, Some}
 use Rattle.pst_base.specs.declared.names.Kind.TheVariants.{Int}
 use Rattle.pst_base.specs.Name.{root_name}
 use Rattle.pst_base.specs.Heap.{kind_in}
-use Rattle.pst_places.specs.declared.versioned.TheConstants.{MOST_FORKS}
-use Rattle.pst_places.specs.State.{State, IsPublished}
-use Rattle.pst_places.specs.Client.{HasRoomFor}
+use Rattle.pst_versions.specs.declared.versioned.TheConstants.{MOST_FORKS}
+use Rattle.pst_versions.specs.State.{State, IsPublished}
+use Rattle.pst_versions.specs.Client.{HasRoomFor}
 
 -- a field of the root record holds a number at a place
 pub record HoldsNumber {P R : Type 0} (s : State P R) (slot : ℕ) (p : P) : Type 0 where

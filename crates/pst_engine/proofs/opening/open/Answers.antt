@@ -3,7 +3,7 @@ use Rattle.pst_history.proofs.Lists.{slice_get-last}
 use Rattle.pst_engine_runs.proofs.Entries.{if-some}
 use Rattle.std.specs.Prelude.{length}
 use Rattle.pst_history.specs.History.{opened}
-use Rattle.pst_places.specs.State.{Forked, IsPublished}
+use Rattle.pst_versions.specs.State.{Forked, IsPublished}
 use Rattle.pst_engine_runs.specs.declared.entry.OpenEntry.{OpenEntry}
 use Rattle.pst_engine_runs.specs.Stands.{StandsFor}
 use Rattle.pst_engine_runs.specs.Runs.{machine_runs}

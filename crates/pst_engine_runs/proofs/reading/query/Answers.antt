@@ -1,6 +1,6 @@
 use Rattle.std.proofs.Common.{◌≡◌, ◌∙◌, arith, List, []}
 use Rattle.pst_program.specs.Outcome.{no_counts}
-use Rattle.pst_places.specs.State.{Unchanged}
+use Rattle.pst_versions.specs.State.{Unchanged}
 use Rattle.pst_history.specs.History.{History, call_of}
 use Rattle.pst_history.specs.Accepted.{IsAccepted}
 use Rattle.pst_engine_runs.specs.Runs.{MayAdd, machine_runs}

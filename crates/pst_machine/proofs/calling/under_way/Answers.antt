@@ -3,7 +3,7 @@ use Rattle.std.specs.Prelude.{slice_get}
 use Rattle.std.proofs.lemmas.Option.{slice_get_within}
 use Rattle.std.proofs.lemmas.Result.{IfOk-weaker}
 use Rattle.pst_code.specs.declared.procedure.Parts.{Parts}
-use Rattle.pst_places.specs.State.{State}
+use Rattle.pst_versions.specs.State.{State}
 use Rattle.pst_machine.specs.declared.pending.ProcCall.{ProcCall}
 use Rattle.pst_machine.specs.Advance.{AllMayCall, CanGoOn}
 use Rattle.pst_machine.proofs.Beginning.{first_there, goes_next}

@@ -10,7 +10,7 @@ use Rattle.pst_code.specs.declared.procedure.Procedure.{Procedure}
 use Rattle.pst_code.specs.declared.procedure.Parts.{Parts}
 use Rattle.pst_code.specs.Valid.{IsValidCode}
 use Rattle.pst_code.specs.Machine.{next_instr}
-use Rattle.pst_places.specs.State.{State}
+use Rattle.pst_versions.specs.State.{State}
 use Rattle.pst_machine_steps.specs.declared.standing.CallFrame.{CallFrame}
 use Rattle.pst_machine_steps.specs.declared.standing.Standing.{Standing}
 use Rattle.pst_machine_steps.specs.declared.standing.Step.{Step}

@@ -1,5 +1,5 @@
 use Rattle.std.proofs.Common.{rules}
-use Rattle.pst_places.proofs.StateLemmas.{Grows_trans}
+use Rattle.pst_versions.proofs.StateLemmas.{Grows_trans}
 use Rattle.pst_repair_cases.proofs.Repeats.{fork_is_open, fork_stamped}
 use Rattle.pst_store_rings.proofs.Rings.{version_published}
 use Rattle.pst_repair_cases.proofs.repeated.fork_again.Goals as goal

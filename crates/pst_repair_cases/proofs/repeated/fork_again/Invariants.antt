@@ -1,4 +1,4 @@
-use Rattle.pst_places.specs.State.{Grows}
+use Rattle.pst_versions.specs.State.{Grows}
 use Rattle.pst_store_meaning.specs.Store.{state_of}
 use Rattle.pst_repair_cases.proofs.repeated.fork_again.Given as goal
 

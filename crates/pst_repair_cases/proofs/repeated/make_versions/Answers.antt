@@ -1,5 +1,5 @@
 use Rattle.std.proofs.Common.{◌∙◌}
-use Rattle.pst_places.proofs.StateLemmas.{Grows_refl}
+use Rattle.pst_versions.proofs.StateLemmas.{Grows_refl}
 use Rattle.pst_repair_cases.proofs.Repeats.{ring_stamped, rings_pushed}
 use Rattle.pst_repair_cases.proofs.repeated.make_versions.Goals as goal
 

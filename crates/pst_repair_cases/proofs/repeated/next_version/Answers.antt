@@ -1,4 +1,4 @@
-use Rattle.pst_places.proofs.StateLemmas.{Grows_trans}
+use Rattle.pst_versions.proofs.StateLemmas.{Grows_trans}
 use Rattle.pst_repair_cases.proofs.Repeats.{open_kept, stamped_grows}
 use Rattle.pst_repair_cases.proofs.repeated.next_version.Goals as goal
 use Rattle.pst_repair_cases.proofs.repeated.next_version.Goals.{then-n-eq0, else-n-eq0}

@@ -1,4 +1,4 @@
-use Rattle.pst_places.proofs.StateLemmas.{Keeps_trans}
+use Rattle.pst_versions.proofs.StateLemmas.{Keeps_trans}
 use Rattle.pst_repair_cases.proofs.Repeats.{number_keeps, open_kept, open_writable}
 use Rattle.pst_repair_cases.proofs.repeated.number_again.Goals as goal
 

@@ -2,7 +2,7 @@ use Rattle.std.proofs.Common.{rules, ◌≡◌, Some, Ok, Err, sym, subst}
 use Rattle.std.specs.Option.{option_map}
 use Rattle.pst_base.specs.declared.names.Kind.TheVariants.{Pointer}
 use Rattle.pst_base.specs.Heap.{FitsField}
-use Rattle.pst_places.proofs.StateLemmas.{Keeps_trans}
+use Rattle.pst_versions.proofs.StateLemmas.{Keeps_trans}
 use Rattle.pst_store_meaning.specs.Store.{state_of}
 use Rattle.pst_store.specs.Calls.{kind_at}
 use Rattle.pst_repair_cases.proofs.Repeats.{open_kept, open_writable, pointer_keeps, target_kept}

@@ -1,4 +1,4 @@
-use Rattle.pst_places.proofs.StateLemmas.{Grows_trans, Keeps_trans}
+use Rattle.pst_versions.proofs.StateLemmas.{Grows_trans, Keeps_trans}
 use Rattle.pst_repair_cases.proofs.repeated.publish_again.Goals as goal
 
 pub returns-in-Ok : goal.returns-in-Ok

@@ -1,6 +1,6 @@
 use Rattle.std.specs.Prelude.{IfOk}
 use Rattle.std.proofs.Common.{ap}
-use Rattle.pst_places.specs.State.{IsFresh, Allocated}
+use Rattle.pst_versions.specs.State.{IsFresh, Allocated}
 use Rattle.pst_line.specs.Held.{state_in}
 use Rattle.pst_line.proofs.Wholes.{inside, none_open, changed}
 use Rattle.pst_line.proofs.line_heap.LineStoreHeapAt.allocate.Goals as goal

@@ -1,5 +1,5 @@
 use Rattle.std.proofs.Common.{ap}
-use Rattle.pst_places.specs.Store.{MayStorePointer, PointerOutcome}
+use Rattle.pst_versions.specs.Store.{MayStorePointer, PointerOutcome}
 use Rattle.pst_line.specs.Held.{state_in}
 use Rattle.pst_line.proofs.Wholes.{inside, none_open, changed}
 use Rattle.pst_line.proofs.line_heap.LineStoreHeapAt.store_pointer.Goals as goal

@@ -1,7 +1,7 @@
 use Rattle.std.specs.Prelude.{OnOk, OnErr}
 use Rattle.std.proofs.Common.{ap, ◌⊎◌, inl}
 use Rattle.std.proofs.lemmas.Int.{to_z-of_z}
-use Rattle.pst_places.specs.State.{Unchanged, WritesStay, ValueStored}
+use Rattle.pst_versions.specs.State.{Unchanged, WritesStay, ValueStored}
 use Rattle.pst_line_nodes.proofs.Results.{on_err_map}
 use Rattle.pst_line.specs.Held.{state_in}
 use Rattle.pst_line.proofs.Wholes.{inside, none_open, changed}

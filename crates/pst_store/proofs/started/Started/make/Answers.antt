@@ -1,5 +1,5 @@
 use Rattle.std.proofs.Common.{ap, ◌∙◌}
-use Rattle.pst_places.proofs.StateLemmas.{IsFresh_unchanged, IsNewType_kept}
+use Rattle.pst_versions.proofs.StateLemmas.{IsFresh_unchanged, IsNewType_kept}
 use Rattle.pst_store_meaning.specs.Store.{Noted, state_of}
 use Rattle.pst_store.proofs.Around.{made_after, refused_after, room_kept}
 use Rattle.pst_store.proofs.Stores.{if_ok, on_err}
