@@ -1,4 +1,6 @@
-pub mod Ready
 pub mod Blocks
-pub mod Loops
 pub mod Elements
+pub mod Loops
+pub mod Ready
+pub mod ReadyValues
+pub mod Values

@@ -10,9 +10,9 @@ use Rattle.pst_program.specs.Syntax.{Expr, Routines}
 use Rattle.pst_program.specs.Value.{Env, value, truth_of}
 use Rattle.pst_program.specs.Meaning.{World, Ending, Normal, Trapped, Spent, Does, Calls, charged, with_answer, choose, then_do, turns, if_else, leave, call, run_body, exec, first_env}
 use Rattle.pst_program.specs.View.{procedure_of, actions_of}
-use Rattle.pst_eval_values.specs.declared.tally.End.{End}
-use Rattle.pst_eval_values.specs.declared.tally.End.TheVariants.{Normal as EndNormal, Return, Trap, Spent as EndSpent}
-use Rattle.pst_eval_values.specs.Work.{ending_of}
+use Rattle.pst_eval.specs.declared.tally.End.{End}
+use Rattle.pst_eval.specs.declared.tally.End.TheVariants.{Normal as EndNormal, Return, Trap, Spent as EndSpent}
+use Rattle.pst_eval.specs.Work.{ending_of}
 use Rattle.pst_eval.specs.Ends.{goes_on, deepest}
 
 -- a loop is its condition, and then one turn and the others

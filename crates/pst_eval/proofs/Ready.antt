@@ -5,8 +5,8 @@ use Rattle.pst_base.specs.declared.names.TypeNo.{TypeNo}
 use Rattle.pst_base.specs.declared.shape.TypeShape.{TypeShape}
 use Rattle.pst_base.specs.Heap.{OrdinaryHeap, type_in, with_record, new_record}
 use Rattle.pst_base.proofs.WellFormed.{type_in-with_other}
-use Rattle.pst_eval_values.specs.declared.tally.Tally.{Tally}
-use Rattle.pst_eval_values.specs.Work.{IsAtWork, IsCharged}
+use Rattle.pst_eval.specs.declared.tally.Tally.{Tally}
+use Rattle.pst_eval.specs.Work.{IsAtWork, IsCharged}
 
 pub record-ready : (shape : List TypeShape) (h h' : OrdinaryHeap) (t : Tally) (r : List TypeShape) (ty : TypeNo) → IsCharged shape h t
     → h' ≡ record h { heap = with_record h.heap (record { run = t.run; ordinal = t.made }) (new_record r ty) }

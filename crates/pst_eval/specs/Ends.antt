@@ -18,10 +18,10 @@ use Rattle.pst_program.specs.Value.{Env, number_of, index_of}
 use Rattle.pst_program.specs.Meaning.{World, Ending, Calls, call, call_with, exec, exec_action, turns, run_body, if_else, with_index, with_answer, set_local, set_root, store_field, store_element, make, print_value, return_value}
 use Rattle.pst_program.specs.Outcome.{calls_of, in_order, one_call, task_call}
 use Rattle.pst_program.specs.View.{expr_of, action_of, actions_of, routines_of}
-use Rattle.pst_eval_values.specs.declared.tally.Tally.{Tally}
-use Rattle.pst_eval_values.specs.declared.tally.End.{End}
-use Rattle.pst_eval_values.specs.Answers.{evaluated}
-use Rattle.pst_eval_values.specs.Work.{world_of, ending_of, write_end}
+use Rattle.pst_eval.specs.declared.tally.Tally.{Tally}
+use Rattle.pst_eval.specs.declared.tally.End.{End}
+use Rattle.pst_eval.specs.Answers.{evaluated}
+use Rattle.pst_eval.specs.Work.{world_of, ending_of, write_end}
 use Rattle.pst_eval.specs.declared.work.Work.{Work}
 use Rattle.pst_eval.specs.Flows.{choice_of}
 

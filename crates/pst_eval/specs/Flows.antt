@@ -3,9 +3,9 @@ use Rattle.std.specs.Prelude.{◌≡◌, Bool, [], Option, Some, None, Result, O
 use Rattle.pst_base.specs.Heap.{OrdinaryHeap}
 use Rattle.pst_program.specs.Value.{Env}
 use Rattle.pst_program.specs.Meaning.{Ending}
-use Rattle.pst_eval_values.specs.declared.tally.End.{End}
-use Rattle.pst_eval_values.specs.declared.tally.End.TheVariants.{Normal}
-use Rattle.pst_eval_values.specs.Work.{ending_with}
+use Rattle.pst_eval.specs.declared.tally.End.{End}
+use Rattle.pst_eval.specs.declared.tally.End.TheVariants.{Normal}
+use Rattle.pst_eval.specs.Work.{ending_with}
 use Rattle.pst_eval.specs.declared.work.Flow.{Flow}
 use Rattle.pst_eval.specs.declared.work.Flow.TheVariants.{On, Over}
 use Rattle.pst_eval.specs.declared.work.Work.{Work}

@@ -1,3 +1,5 @@
-pub mod Flows
+pub mod Answers
 pub mod Ends
+pub mod Flows
 pub mod Runs
+pub mod Work

@@ -2,11 +2,11 @@
 
 ghost use Rattle.std.specs.Prelude.{◌≡◌, MatchOption, None, Some};
 ghost use Rattle.pst_program.specs.Meaning.{World, after_call};
-ghost use Rattle.pst_eval_values.specs.Work.{ending_of};
+ghost use Rattle.pst_eval.specs.Work.{ending_of};
 ghost use Rattle.pst_eval.specs.Ends.{procedure_in};
 
 use crate::steps::set_at;
-use pst_eval_values::End;
+use crate::tally::End;
 use pst_program::{Program, TypedProc, Value};
 
 /// The procedure with a number.

@@ -3,13 +3,13 @@
 ghost use Rattle.std.specs.Prelude.{◌≡◌, [], map, IfOk, OnOk};
 ghost use Rattle.pst_program.specs.Meaning.{World, Ending};
 ghost use Rattle.pst_program.specs.Outcome.{next_call};
-ghost use Rattle.pst_eval_values.specs.Work.{ending_of, ending_with, IsAtWork};
+ghost use Rattle.pst_eval.specs.Work.{ending_of, ending_with, IsAtWork};
 ghost use Rattle.pst_eval.specs.Ends.{last_or, all_calls_end, one_call_end};
 
 use crate::run::run_body;
+use crate::tally::End;
 use crate::work::Work;
 use pst_base::NoMemory;
-use pst_eval_values::End;
 use pst_heap::PlainHeap;
 use pst_program::{ProcCall, Program, Value};
 use std::alloc::Global;

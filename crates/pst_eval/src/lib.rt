@@ -6,16 +6,35 @@
 //! run's number. It asks for no typing. The list of calls goes on under one budget, one list of printed numbers and one
 //! numbering of records.
 //!
-//! What an expression gives and what a write does stands below, in `pst_eval_values`; here are statements, blocks and calls.
+//! What an expression gives and what a write does stands below, in `pst_eval`; here are statements, blocks and calls.
 //!
 //!     let outcome = evaluate(alloc, &program, &mut heap, &spec)?;
+//!
+//! MERGE: one head is wanted; the above is that of `pst_eval`, and the below of `pst_eval_values`.
+//!
+//! What the expressions of a typed program give on an ordinary heap, and single writes: the parts of its direct meaning that run
+//! no statement.
+//!
+//! Model: values and answers of the direct meaning (`pst_program`). Beside the heap a run keeps a [`Tally`]; the two together are
+//! the world of the definitions, and an [`End`] with them is an ending.
+//!
+//! Contract: [`value`] gives what an expression gives, or the kind of its first trap from left to right; [`arguments`] and
+//! [`first_env`] the values that a call begins with. [`write`] does what a write of a field does, and takes no charge: it asks for
+//! a tally of which one charge was taken that nothing was done for, and leaves one from which the run may go on.
+//!
+//!     let v = value(&expression, &env, &heap)?;
+//!     let end = write(name, slot, v, line, &mut heap, &mut tally);
 #![tactic(auto)]
 
 mod call;
 mod calls;
+mod locals;
 mod run;
 mod steps;
+mod tally;
+mod values;
 mod whole;
 mod work;
+mod writes;
 
 pub use whole::{Outcome, RunSpec, evaluate};

@@ -7,14 +7,15 @@ ghost use Rattle.std.specs.Prelude.{◌≡◌, ◌≢◌, ◌≤◌, ℕ, [], If
 ghost use Rattle.pst_program.specs.declared.block.TypedBlock.{size-TypedBlock};
 ghost use Rattle.pst_program.specs.declared.block.TypedStatement.{size-TypedStatement};
 ghost use Rattle.pst_program.specs.Meaning.{after_call};
-ghost use Rattle.pst_eval_values.specs.Work.{IsAtWork};
+ghost use Rattle.pst_eval.specs.Work.{IsAtWork};
 ghost use Rattle.pst_eval.specs.Ends.{deepest, block_end, statement_end, called_end, loop_end, call_end, body_end};
 ghost use Rattle.pst_eval.specs.Flows.{Leaves, noted_end};
 
 use crate::call::{after, procedure_at};
+use crate::locals::{arguments, default_result, first_env};
+use crate::tally::End;
 use crate::work::{Flow, Work, carry_out, choose};
 use pst_base::{NoMemory, TrapKind};
-use pst_eval_values::{End, arguments, default_result, first_env};
 use pst_heap::PlainHeap;
 use pst_program::{Program, Typed, TypedBlock, TypedForm, TypedList, TypedStatement, Value};
 use std::alloc::Global;

@@ -3,11 +3,13 @@
 ghost use Rattle.std.specs.Prelude.{◌≡◌, ◌+◌, ◌≤◌, ◌<◌, IfOk, OnOk, slice_set};
 ghost use Rattle.pst_program.specs.Meaning.{is_target};
 ghost use Rattle.pst_program.specs.View.{action_of};
-ghost use Rattle.pst_eval_values.specs.Work.{ending_with, IsAtWork, IsCharged};
+ghost use Rattle.pst_eval.specs.Work.{ending_with, IsAtWork, IsCharged};
 ghost use Rattle.pst_eval.specs.Ends.{IsSimple, IsStepEnd, local_end, root_end, store_end, element_store_end, element_write_end, indexed_write_end, make_end, print_end, return_end};
 
+use crate::tally::{End, Tally};
+use crate::values::{element_slot, index_of, number, value};
+use crate::writes::write;
 use pst_base::{Name, NoMemory, ROOT, SlotNo, TrapKind, TypeNo, TypeShape};
-use pst_eval_values::{End, Tally, element_slot, index_of, number, value, write};
 use pst_heap::PlainHeap;
 use pst_program::{MOST_PRINTED, Typed, TypedForm, Value};
 

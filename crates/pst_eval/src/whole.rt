@@ -5,13 +5,13 @@ ghost use Rattle.pst_program.specs.Meaning.{World};
 ghost use Rattle.pst_program.specs.Outcome.{outcome, outcome_of, left};
 ghost use Rattle.pst_program.specs.View.{routines_of};
 ghost use Rattle.pst_program.specs.Sound.{NamesAreFree};
-ghost use Rattle.pst_eval_values.specs.Work.{ending_of};
+ghost use Rattle.pst_eval.specs.Work.{ending_of};
 ghost use Rattle.pst_eval.specs.Runs.{task_of, IsOutcome};
 
 use crate::calls::run_calls;
+use crate::tally::{End, Tally};
 use crate::work::Work;
 use pst_base::{Counts, NoMemory, Numbers, RunNo, Trap, TrapKind};
-use pst_eval_values::{End, Tally};
 use pst_heap::PlainHeap;
 use pst_program::{Ended, ProcCall, Program};
 use std::alloc::Global;

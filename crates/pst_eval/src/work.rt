@@ -5,13 +5,14 @@
 
 ghost use Rattle.std.specs.Prelude.{◌≡◌, ◌≢◌, ◌<◌, ◌≤◌, IfOk, IfSome, OnOk};
 ghost use Rattle.pst_program.specs.View.{action_of};
-ghost use Rattle.pst_eval_values.specs.Work.{IsAtWork};
+ghost use Rattle.pst_eval.specs.Work.{IsAtWork};
 ghost use Rattle.pst_eval.specs.Ends.{Chooses, IsStepEnd, IsSimple};
 ghost use Rattle.pst_eval.specs.Flows.{end_of, flow_end};
 
 use crate::steps::step;
+use crate::tally::{End, Tally};
+use crate::values::{truth, value};
 use pst_base::NoMemory;
-use pst_eval_values::{End, Tally, truth, value};
 use pst_heap::PlainHeap;
 use pst_program::{Typed, TypedForm, Value};
 

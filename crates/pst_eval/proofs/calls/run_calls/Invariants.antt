@@ -1,7 +1,7 @@
 use Rattle.std.proofs.Common.{◌≡◌, drop}
 use Rattle.pst_program.specs.Outcome.{calls_of, in_order, one_call}
 use Rattle.pst_program.specs.View.{routines_of}
-use Rattle.pst_eval_values.specs.Work.{world_of, IsAtWork}
+use Rattle.pst_eval.specs.Work.{world_of, IsAtWork}
 use Rattle.pst_eval.proofs.calls.run_calls.Given as goal
 
 -- what is left to do comes to what all comes to

@@ -3,7 +3,7 @@ use Rattle.pst_program.specs.Syntax.{Actions}
 use Rattle.pst_program.specs.Meaning.{Returned, leave, exec, call}
 use Rattle.pst_program.specs.View.{expr_of, statements_of, routines_of}
 use Rattle.pst_program.specs.declared.block.TypedBlock.{size-TypedBlock}
-use Rattle.pst_eval_values.specs.Work.{world_of, ending_of}
+use Rattle.pst_eval.specs.Work.{world_of, ending_of}
 use Rattle.pst_eval.specs.Ends.{deepest}
 use Rattle.pst_eval.specs.Flows.{end_of}
 use Rattle.pst_eval.proofs.Blocks.{block_is_list}

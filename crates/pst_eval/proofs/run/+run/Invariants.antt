@@ -3,7 +3,7 @@ use Rattle.pst_program.specs.Meaning.{exec, turns, call}
 use Rattle.pst_program.specs.View.{expr_of, actions_of, statements_of, routines_of}
 use Rattle.pst_program.specs.declared.block.TypedBlock.{size-TypedBlock}
 use Rattle.pst_program.specs.declared.block.TypedStatement.{size-TypedStatement}
-use Rattle.pst_eval_values.specs.Work.{world_of, IsAtWork}
+use Rattle.pst_eval.specs.Work.{world_of, IsAtWork}
 use Rattle.pst_eval.specs.Ends.{deepest}
 use Rattle.pst_eval.proofs.run.+run.Given as goal
 

@@ -2,8 +2,8 @@ use Rattle.std.proofs.Common.{◌+◌, ◌-◌, arith, ap, ◌∙◌, sym, subst
 use Rattle.pst_base.proofs.WellFormed.{none-from_type}
 use Rattle.pst_base.specs.declared.names.Name.{Name}
 use Rattle.pst_base.specs.Heap.{OrdinaryHeap, type_in, with_record, new_record}
-use Rattle.pst_eval_values.specs.declared.tally.Tally.{Tally}
-use Rattle.pst_eval_values.specs.Work.{IsAtWork}
+use Rattle.pst_eval.specs.declared.tally.Tally.{Tally}
+use Rattle.pst_eval.specs.Work.{IsAtWork}
 use Rattle.pst_eval.proofs.Ready.{record-ready, ready-charged}
 use Rattle.pst_eval.proofs.steps.make.Goals as goal
 

@@ -1,7 +1,7 @@
 use Rattle.std.proofs.Common.{◌+◌, ℕ, Option, ap, sym, ◌∙◌}
 use Rattle.pst_program.specs.Value.{Answer}
 use Rattle.pst_program.specs.Meaning.{World, with_answer, write}
-use Rattle.pst_eval_values.specs.Work.{world_of}
+use Rattle.pst_eval.specs.Work.{world_of}
 use Rattle.pst_eval.specs.Ends.{element_write_end}
 use Rattle.pst_eval.proofs.Elements.{write_kept}
 use Rattle.pst_eval.proofs.steps.write_element.Goals as goal

@@ -1,7 +1,7 @@
 use Rattle.std.proofs.Common.{◌+◌, ℕ, Option, ap, sym, ◌∙◌}
 use Rattle.pst_program.specs.Value.{load_element}
-use Rattle.pst_eval_values.proofs.Elements.{load_kept}
-use Rattle.pst_eval_values.proofs.values.load_element.Goals as goal
+use Rattle.pst_eval.proofs.Values.{load_kept}
+use Rattle.pst_eval.proofs.values.load_element.Goals as goal
 
 pub returns-in-Some : goal.returns-in-Some
 returns-in-Some c =

@@ -5,7 +5,7 @@ ghost use Rattle.pst_base.specs.declared.names.Kind.TheVariants.{Pointer};
 ghost use Rattle.pst_base.specs.declared.names.TypeNo.{TypeNo};
 ghost use Rattle.pst_base.specs.Heap.{kind_in};
 ghost use Rattle.pst_program.specs.Value.{Env};
-ghost use Rattle.pst_eval_values.specs.Work.{ending_with, write_end, pointer_write_end, IsAtWork, IsCharged};
+ghost use Rattle.pst_eval.specs.Work.{ending_with, write_end, pointer_write_end, IsAtWork, IsCharged};
 
 use crate::tally::{End, Tally};
 use crate::values::number;

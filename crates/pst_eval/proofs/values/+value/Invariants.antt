@@ -1,6 +1,6 @@
 use Rattle.std.proofs.Common.{◌+◌, ◌*◌, max}
 use Rattle.pst_program.specs.declared.typed.Typed.{size-Typed}
-use Rattle.pst_eval_values.proofs.values.+value.Given as goal
+use Rattle.pst_eval.proofs.values.+value.Given as goal
 
 abbrev pub decreases-value : goal.decreases-value
 decreases-value l = 3 * size-Typed l.e.now + 1

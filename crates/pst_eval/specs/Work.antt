@@ -8,9 +8,9 @@ use Rattle.pst_program.specs.declared.meaning.Value.{Value}
 use Rattle.pst_program.specs.Value.{Env}
 use Rattle.pst_program.specs.Sound.{NamesAreFree}
 use Rattle.pst_program.specs.Meaning.{World, Ending, Normal, Returned, Trapped, Spent, write, write_pointer}
-use Rattle.pst_eval_values.specs.declared.tally.Tally.{Tally}
-use Rattle.pst_eval_values.specs.declared.tally.End.{End}
-use Rattle.pst_eval_values.specs.declared.tally.End.TheVariants.{Normal as EndNormal, Return, Trap, Spent as EndSpent}
+use Rattle.pst_eval.specs.declared.tally.Tally.{Tally}
+use Rattle.pst_eval.specs.declared.tally.End.{End}
+use Rattle.pst_eval.specs.declared.tally.End.TheVariants.{Normal as EndNormal, Return, Trap, Spent as EndSpent}
 
 -- what the heap and the tally of a run are together
 abbrev pub world_of : OrdinaryHeap → Tally → World

@@ -4,8 +4,8 @@ use Rattle.pst_base.specs.declared.names.Name.{Name}
 use Rattle.pst_base.specs.declared.shape.TypeShape.{TypeShape}
 use Rattle.pst_base.specs.Heap.{OrdinaryHeap, type_in, with_value, with_pointer}
 use Rattle.pst_base.proofs.WellFormed.{type_in-with_value, type_in-with_pointer}
-use Rattle.pst_eval_values.specs.declared.tally.Tally.{Tally}
-use Rattle.pst_eval_values.specs.Work.{IsAtWork, IsCharged}
+use Rattle.pst_eval.specs.declared.tally.Tally.{Tally}
+use Rattle.pst_eval.specs.Work.{IsAtWork, IsCharged}
 
 pub value-ready : (shape : List TypeShape) (h h' : OrdinaryHeap) (t : Tally) (n : Name) (slot : ℕ) (x : ℤ) → IsCharged shape h t
     → h' ≡ record h { heap = with_value h.heap n slot x } → IsAtWork shape h' record t { counts = record t.counts { value_writes = t.counts.value_writes + 1 } }

@@ -1,7 +1,7 @@
 use Rattle.std.proofs.Common.{arith}
 use Rattle.std.proofs.Math.Nat.{le-max_right}
 use Rattle.pst_program.specs.declared.typed.Typed.{size-Typed}
-use Rattle.pst_eval_values.proofs.values.+value.Goals as goal
+use Rattle.pst_eval.proofs.values.+value.Goals as goal
 
 -- the second part is no deeper than the deeper one of both
 pub combined-value-requires-2 : goal.combined-value-requires-2

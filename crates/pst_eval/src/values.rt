@@ -3,7 +3,7 @@
 ghost use Rattle.std.specs.Prelude.{◌≡◌, ◌+◌, ◌-◌, ◌^◌, neg_ℤ, not, min, slice_index_or};
 ghost use Rattle.pst_base.specs.Heap.{kind_in};
 ghost use Rattle.pst_program.specs.Value.{Gives, number_of, truth_of, same_value, operate, decides, binary, and_then, content, load, limited as limited_to, object_of, index_of, load_element};
-ghost use Rattle.pst_eval_values.specs.Answers.{answer_of, evaluated, given_of, element_answer};
+ghost use Rattle.pst_eval.specs.Answers.{answer_of, evaluated, given_of, element_answer};
 
 use pst_base::{Kind, Name, Op, ROOT, SlotNo, TrapKind};
 use pst_heap::PlainHeap;

@@ -4,7 +4,7 @@ ghost use Rattle.std.specs.Prelude.{◌≡◌, IfOk, map};
 ghost use Rattle.std.specs.Option.{option_map};
 ghost use Rattle.pst_program.specs.Meaning.{values, default_of, first_env};
 ghost use Rattle.pst_program.specs.View.{expr_of};
-ghost use Rattle.pst_eval_values.specs.Answers.{values_of};
+ghost use Rattle.pst_eval.specs.Answers.{values_of};
 
 use crate::values::value;
 use pst_base::{Kind, NoMemory, TrapKind};
