@@ -18,11 +18,11 @@ use Rattle.pst_nodes.specs.declared.node.Node.{Node}
 use Rattle.pst_base.specs.declared.shape.TypeShape.{TypeShape}
 use Rattle.pst_nodes.specs.Arena.{no_frame, rows_of, row_at, Frame, frames_of, frame_at, AreRows, chart, lives, IsTyped, type_no, type_of}
 use Rattle.pst_nodes.specs.Changes.{AreSameNodes}
-use Rattle.pst_split.specs.Load.{IsSound, IsOver, half_at, stamped_at, potential_of}
-use Rattle.pst_split.specs.Steps.{Queues, KeepsQueue}
-use Rattle.pst_split.proofs.LoadLemmas.{rows_kept, chart_same, over_same, lo_same, hi_same, half_same, waits-append, grown_same}
-use Rattle.pst_split.proofs.CutLemmas.{queues_links, same_count}
-use Rattle.pst_split.proofs.RoomLemmas.{same_chart, same_rows, same_lo, same_hi, same_stamped, same_lives}
+use Rattle.pst_repair.specs.Load.{IsSound, IsOver, half_at, stamped_at, potential_of}
+use Rattle.pst_repair.specs.Steps.{Queues, KeepsQueue}
+use Rattle.pst_repair.proofs.LoadLemmas.{rows_kept, chart_same, over_same, lo_same, hi_same, half_same, waits-append, grown_same}
+use Rattle.pst_repair.proofs.CutLemmas.{queues_links, same_count}
+use Rattle.pst_repair.proofs.RoomLemmas.{same_chart, same_rows, same_lo, same_hi, same_stamped, same_lives}
 use Rattle.pst_repair.specs.Repair.{IsQueued}
 
 sound_by : (types : List TypeShape) (qs : List ℕ) (old new : List Node) → length new ≡ length old → AreRows qs new → chart qs new ≡ chart qs old → lives qs new ≡ lives qs old → frames_of new ≡ frames_of old → ((i : ℕ) (d : Row) → width_of (row_at new i d) ≡ width_of (row_at old i d)) →

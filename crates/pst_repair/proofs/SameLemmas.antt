@@ -7,8 +7,8 @@ use Rattle.pst_rows.specs.Rows.{shown}
 use Rattle.pst_nodes.specs.declared.node.Node.{Node}
 use Rattle.pst_nodes.specs.Arena.{Frame, frames_of, rows_of, values_of}
 use Rattle.pst_nodes.specs.Changes.{AreSameNodes}
-use Rattle.pst_split.proofs.LoadLemmas.{values_same}
-use Rattle.pst_split.proofs.RoomLemmas.{same_values}
+use Rattle.pst_repair.proofs.LoadLemmas.{values_same}
+use Rattle.pst_repair.proofs.RoomLemmas.{same_values}
 use Rattle.pst_store_meaning.specs.Store.{Node as Seen}
 use Rattle.pst_store_meaning.specs.Steps.{IsSplitStep, AreSplits}
 use Rattle.pst_repair.specs.Seen.{seen}

@@ -14,7 +14,7 @@ use Rattle.pst_nodes.specs.declared.node.Node.{Node}
 use Rattle.pst_nodes.specs.Arena.{values_of, frame_at, lo_at, hi_at, row_at, AreRows, type_of, IsTyped}
 use Rattle.pst_base.specs.declared.names.TypeNo.{TypeNo}
 use Rattle.pst_rows.specs.Changes.{slot_count}
-use Rattle.pst_split.specs.Load.{excess, potential_of}
+use Rattle.pst_repair.specs.Load.{excess, potential_of}
 use Rattle.pst_mirror.specs.Potential.{potential, excess as load_excess}
 use Rattle.pst_store_meaning.specs.Store.{Node as Seen, of_node, load_of, width, AreWide}
 use Rattle.pst_repair.specs.Seen.{seen_node, seen, SeenChartLaw}

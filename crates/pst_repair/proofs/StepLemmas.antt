@@ -5,7 +5,7 @@ use Rattle.pst_order.specs.Places.{rank}
 use Rattle.pst_mirror.specs.Mirror.{Chart, IsSplitWhole}
 use Rattle.pst_nodes.specs.declared.node.Node.{Node}
 use Rattle.pst_nodes.specs.Arena.{frame_at, chart}
-use Rattle.pst_split.specs.Split.{IsSplit}
+use Rattle.pst_repair.specs.Split.{IsSplit}
 use Rattle.pst_store_meaning.specs.Arena.{Arena}
 use Rattle.pst_store_meaning.specs.Changes.{IsSplit as IsSplitSeen}
 use Rattle.pst_store_meaning.specs.Store.{arena_of}

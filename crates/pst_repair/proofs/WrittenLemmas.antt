@@ -15,7 +15,7 @@ use Rattle.pst_nodes.specs.Arena.{Frame, no_frame, frame_at, lo_at, hi_at, row_a
 use Rattle.pst_base.specs.Shape.{type_at}
 use Rattle.pst_rows.specs.Changes.{slot_count}
 use Rattle.pst_nodes.specs.Changes.{IsTouched}
-use Rattle.pst_split.specs.Load.{half_in}
+use Rattle.pst_repair.specs.Load.{half_in}
 use Rattle.pst_store_meaning.specs.Store.{Node as Seen, of_node, load_of, arena_of}
 use Rattle.pst_store_meaning.specs.Changes.{HasSameNodes}
 use Rattle.pst_repair.specs.Seen.{seen}

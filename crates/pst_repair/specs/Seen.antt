@@ -7,8 +7,8 @@ use Rattle.pst_mirror.specs.Charts.{chart_of}
 use Rattle.pst_nodes.specs.declared.node.Node.{Node}
 use Rattle.pst_nodes.specs.declared.node.Nodes.{Nodes}
 use Rattle.pst_nodes.specs.Arena.{chart}
-use Rattle.pst_split.specs.Load.{IsSound}
-use Rattle.pst_split.specs.Split.{IsSplit}
+use Rattle.pst_repair.specs.Load.{IsSound}
+use Rattle.pst_repair.specs.Split.{IsSplit}
 use Rattle.pst_store_meaning.specs.Store.{Node as Seen}
 use Rattle.pst_store_meaning.specs.Steps.{IsSplitStep}
 

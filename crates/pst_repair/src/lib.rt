@@ -10,9 +10,26 @@
 //! and Tarjan.)
 //!
 //!     let splits = repair(&order, &shape, &mut nodes, &mut queue)?;
+//!
+//! MERGE: one head is wanted; the above is that of `pst_repair`, and the below of `pst_split`.
+//!
+//! One split of a node with its partner segments.
+//!
+//! Model: the chart of the nodes, their lives, and the list of the queue.
+//!
+//! Contract: no record's content changes at any place, the mirror rule is kept, there is one node more, and the potential falls
+//! by at least 1. All memory is taken before the first change, and a refusal changes nothing. (The node splitting of Driscoll,
+//! Sarnak, Sleator and Tarjan; the rule for the stamp is this project's own.)
+//!
+//!     let right = split(&order, &shape, &mut nodes, &mut queue, id)?;
 #![tactic(auto)]
 
+mod cuts;
 mod joint;
+pub mod load;
+mod renames;
 pub mod repair;
+mod room;
+mod split;
 
 pub use joint::{numbers_are_set, pairs_are_seen, seen_charts, splits_are_steps};

@@ -1,18 +1,18 @@
 //! The cascade.
 
 ghost use Rattle.std.specs.Prelude.{◌≡◌, ℕ, ◌+◌, ◌≤◌, List, [], length, false, IfOk, OnOk, OnErr};
-ghost use Rattle.pst_split.specs.Load.{IsSound, IsOver, potential_of};
-ghost use Rattle.pst_split.specs.Steps.{Queues};
-ghost use Rattle.pst_split.specs.Shown.{ShowsAll, KeepsLive};
+ghost use Rattle.pst_repair.specs.Load.{IsSound, IsOver, potential_of};
+ghost use Rattle.pst_repair.specs.Steps.{Queues};
+ghost use Rattle.pst_repair.specs.Shown.{ShowsAll, KeepsLive};
 ghost use Rattle.pst_store_meaning.specs.Steps.{AreSplits};
 ghost use Rattle.pst_repair.specs.Seen.{seen_in};
 ghost use Rattle.pst_repair.specs.Repair.{IsQueued, IsDone, splits_in};
 
+use crate::split::split;
 use pst_base::{NoMemory, Shape};
 use pst_nodes::node::Nodes;
 use pst_nodes::queue::Queue;
 use pst_order::Order;
-use pst_split::split::split;
 
 /// Splits the node that waits first, and gives whether one waited: then there is one node more, and the potential is lower
 /// by at least 1. Where none waits nothing changes. No heap changes. After `NoMemory` no node was split, one that is over

@@ -22,8 +22,8 @@ use Rattle.pst_mirror.specs.Charts.{AllRows}
 use Rattle.pst_mirror.specs.Lives.{AreChained as AreChainedLives, IsIn as IsInLives, IsLive as IsLiveLives}
 use Rattle.pst_nodes.specs.declared.node.Node.{Node}
 use Rattle.pst_nodes.proofs.NodeLemmas.{alive_of, typed_slot}
-use Rattle.pst_split.specs.Load.{IsSound, IsOver, half_at, stamped_at}
-use Rattle.pst_split.proofs.LoadLemmas.{stamped_is, stamped_past}
+use Rattle.pst_repair.specs.Load.{IsSound, IsOver, half_at, stamped_at}
+use Rattle.pst_repair.proofs.LoadLemmas.{stamped_is, stamped_past}
 use Rattle.pst_store_meaning.specs.Arena.{Arena, IsIn, IsLive, AreChained}
 use Rattle.pst_store_meaning.specs.Store.{Node as Seen, arena_of, AreWide, width}
 use Rattle.pst_repair.specs.Seen.{seen, seen_node}

@@ -6,7 +6,7 @@ use Rattle.pst_base.specs.declared.names.SlotNo.{SlotNo}
 use Rattle.pst_repair.proofs.SeenLemmas.{seen_name}
 use Rattle.pst_nodes.specs.Arena.{AreFullApart, chart, frame_at, lives, type_of, type_no, IsOpenSlot, IsSlot}
 use Rattle.std.proofs.Common.{IfNone, IfSome, Option, false, ◌<◌, ◌≡◌, ℕ, List, length, map, Some, Result, Ok, Err, OnOk, OnErr, sym, ap, ◌∙◌, subst}
-use Rattle.pst_split.proofs.RoomLemmas.{on_err_on}
+use Rattle.pst_repair.proofs.RoomLemmas.{on_err_on}
 use Rattle.pst_base.specs.declared.names.TypeNo.{TypeNo}
 use Rattle.pst_base.specs.declared.names.Kind.TheVariants.{Pointer}
 use Rattle.pst_base.specs.declared.shape.TypeShape.{TypeShape}
@@ -21,7 +21,7 @@ use Rattle.pst_rows.specs.declared.content.Content.{Content}
 use Rattle.pst_nodes.specs.declared.queue.Queue.{Queue}
 use Rattle.pst_nodes.specs.declared.node.Node.{Node}
 use Rattle.pst_nodes.specs.Changes.{AreSameNodes}
-use Rattle.pst_split.specs.Load.{IsSound}
+use Rattle.pst_repair.specs.Load.{IsSound}
 use Rattle.pst_repair.specs.Repair.{IsQueued}
 use Rattle.pst_roots.specs.declared.roots.RootIndex.{RootIndex}
 use Rattle.pst_roots.specs.Roots.{held_of}

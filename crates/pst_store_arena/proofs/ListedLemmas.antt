@@ -5,7 +5,7 @@ use Rattle.pst_nodes.specs.declared.links.Link.TheVariants.{Out}
 use Rattle.pst_nodes.specs.declared.queue.Queue.{Queue}
 use Rattle.pst_nodes.specs.declared.node.Node.{Node}
 use Rattle.pst_nodes.specs.Arena.{link_at}
-use Rattle.pst_split.specs.Steps.{Queues}
+use Rattle.pst_repair.specs.Steps.{Queues}
 use Rattle.pst_store_meaning.specs.Store.{Node as Seen}
 use Rattle.pst_store_arena.specs.Calls.{AreWaiting, IsOverFull}
 use Rattle.pst_store_arena.specs.Kept.{waiting_of}

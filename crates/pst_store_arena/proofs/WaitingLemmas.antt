@@ -11,7 +11,7 @@ use Rattle.pst_nodes.specs.declared.links.Link.TheVariants.{Out, Last, Before}
 use Rattle.pst_nodes.specs.declared.queue.Queue.{Queue}
 use Rattle.pst_nodes.specs.declared.node.Node.{Node}
 use Rattle.pst_nodes.specs.Arena.{link_at}
-use Rattle.pst_split.specs.Steps.{Queues}
+use Rattle.pst_repair.specs.Steps.{Queues}
 use Rattle.pst_repair.specs.Repair.{IsQueued}
 use Rattle.pst_repair.specs.Seen.{seen}
 use Rattle.pst_store_arena.specs.Calls.{AreWaiting}

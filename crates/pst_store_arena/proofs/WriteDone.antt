@@ -18,11 +18,11 @@ use Rattle.pst_nodes.specs.declared.node.Node.{Node}
 use Rattle.pst_nodes.specs.Arena.{HasRoom, rows_of, frames_of, row_at, link_at, chart, lives, type_no, type_of, IsOpenSlot, IsSlot, IsTyped, AreRows}
 use Rattle.pst_nodes.specs.Changes.{AreSameNodes, IsTouched, AreTouched, added}
 use Rattle.pst_nodes.specs.declared.queue.Queue.{Queue}
-use Rattle.pst_split.specs.Load.{IsSound, stamped_at}
-use Rattle.pst_split.specs.Steps.{AreGrown, Queues, KeepsQueue}
-use Rattle.pst_split.proofs.LoadLemmas.{grown_on, grown_more, rows_kept, queue_on}
-use Rattle.pst_split.proofs.CutLemmas.{all_typed, queues_links, slot_grown}
-use Rattle.pst_split.proofs.RoomLemmas.{same_chart, same_holds, same_slot}
+use Rattle.pst_repair.specs.Load.{IsSound, stamped_at}
+use Rattle.pst_repair.specs.Steps.{AreGrown, Queues, KeepsQueue}
+use Rattle.pst_repair.proofs.LoadLemmas.{grown_on, grown_more, rows_kept, queue_on}
+use Rattle.pst_repair.proofs.CutLemmas.{all_typed, queues_links, slot_grown}
+use Rattle.pst_repair.proofs.RoomLemmas.{same_chart, same_holds, same_slot}
 use Rattle.pst_repair.specs.Repair.{IsQueued}
 use Rattle.pst_repair.proofs.RepairLemmas.{sound_same}
 use Rattle.pst_store_meaning.specs.declared.place.Place.{Place}

@@ -30,9 +30,9 @@ use Rattle.pst_nodes.specs.Arena.{HasRoom, row_at, chart, lives, type_no, type_o
 use Rattle.pst_nodes.specs.Changes.{IsTouched, AreTouched, IsFieldUnlinked, added}
 use Rattle.pst_nodes.proofs.NodeLemmas.{some_row, alive_of, typed_slot}
 use Rattle.pst_nodes.proofs.PairLemmas.{entry_at}
-use Rattle.pst_split.specs.Load.{IsSound, half_at, stamped_at, stamped_in_all}
-use Rattle.pst_split.specs.Steps.{AreGrown}
-use Rattle.pst_split.proofs.LoadLemmas.{stamped_is, stamped_past, half_same, grown_on, grown_same, grown_touched}
+use Rattle.pst_repair.specs.Load.{IsSound, half_at, stamped_at, stamped_in_all}
+use Rattle.pst_repair.specs.Steps.{AreGrown}
+use Rattle.pst_repair.proofs.LoadLemmas.{stamped_is, stamped_past, half_same, grown_on, grown_same, grown_touched}
 use Rattle.pst_store_meaning.specs.Steps.{HasGrownBy}
 use Rattle.pst_store_meaning.specs.Store.{arena_of, load_of}
 use Rattle.pst_repair.specs.Seen.{seen, seen_node}

@@ -8,10 +8,10 @@ use Rattle.pst_nodes.specs.declared.queue.Queue.{Queue}
 use Rattle.pst_nodes.specs.declared.node.Node.{Node}
 use Rattle.pst_nodes.specs.Arena.{rows_of, frames_of, link_at, IsTyped}
 use Rattle.pst_nodes.specs.Changes.{AreSameNodes}
-use Rattle.pst_split.specs.Load.{IsOver, stamped_at, half_at}
-use Rattle.pst_split.specs.Steps.{AreGrown, KeepsQueue, WaitsIfOver}
-use Rattle.pst_split.proofs.LoadLemmas.{grown_same, half_same, over_grown, over_same, queue_on, waits-append}
-use Rattle.pst_split.proofs.CutLemmas.{all_typed, queues_links, same_count}
+use Rattle.pst_repair.specs.Load.{IsOver, stamped_at, half_at}
+use Rattle.pst_repair.specs.Steps.{AreGrown, KeepsQueue, WaitsIfOver}
+use Rattle.pst_repair.proofs.LoadLemmas.{grown_same, half_same, over_grown, over_same, queue_on, waits-append}
+use Rattle.pst_repair.proofs.CutLemmas.{all_typed, queues_links, same_count}
 use Rattle.pst_repair.specs.Repair.{IsQueued}
 use Rattle.pst_repair.proofs.RepairLemmas.{over_nodes, over_nodes'}
 use Rattle.pst_store_arena.specs.Writes.{IsNode, IsOneOf}

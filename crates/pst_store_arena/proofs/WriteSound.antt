@@ -20,10 +20,10 @@ use Rattle.pst_nodes.specs.declared.node.Node.{Node}
 use Rattle.pst_nodes.specs.Arena.{Frame, no_frame, frames_of, chart, lives, type_no, type_of, IsSlot, AreRows}
 use Rattle.pst_nodes.proofs.NodeLemmas.{in_of}
 use Rattle.pst_nodes.proofs.PairLemmas.{held_slot}
-use Rattle.pst_split.specs.Load.{IsSound, is_link}
-use Rattle.pst_split.specs.Steps.{AreGrown}
-use Rattle.pst_split.proofs.CutLemmas.{all_typed}
-use Rattle.pst_split.proofs.RoomLemmas.{same_lives}
+use Rattle.pst_repair.specs.Load.{IsSound, is_link}
+use Rattle.pst_repair.specs.Steps.{AreGrown}
+use Rattle.pst_repair.proofs.CutLemmas.{all_typed}
+use Rattle.pst_repair.proofs.RoomLemmas.{same_lives}
 use Rattle.pst_store_meaning.specs.Arena.{Arena}
 use Rattle.pst_store_meaning.specs.Changes.{IsPointerTaken}
 use Rattle.pst_store_meaning.specs.Store.{arena_of}

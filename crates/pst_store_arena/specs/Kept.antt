@@ -14,7 +14,7 @@ use Rattle.pst_order.specs.Places.{rank}
 use Rattle.pst_nodes.specs.Arena.{new_node, lives, frame_at, lo_at}
 use Rattle.pst_mirror.specs.Lives.{IsIn as IsInLives}
 use Rattle.pst_base.specs.Name.{root_name}
-use Rattle.pst_split.specs.Steps.{Queues}
+use Rattle.pst_repair.specs.Steps.{Queues}
 use Rattle.pst_roots.specs.declared.roots.RootIndex.{RootIndex}
 use Rattle.pst_roots.specs.Roots.{held_of}
 use Rattle.pst_store_meaning.specs.declared.place.Place.{Place}

@@ -10,8 +10,8 @@ use Rattle.pst_mirror.specs.Mirror.{Chart, IsMirrored}
 use Rattle.pst_nodes.specs.declared.node.Node.{Node}
 use Rattle.pst_nodes.specs.Arena.{HasRoom, row_at, link_at, AreRows, chart}
 use Rattle.pst_nodes.specs.Changes.{added}
-use Rattle.pst_split.specs.Load.{stamped_at}
-use Rattle.pst_split.specs.Steps.{AreGrown}
+use Rattle.pst_repair.specs.Load.{stamped_at}
+use Rattle.pst_repair.specs.Steps.{AreGrown}
 use Rattle.pst_store_meaning.specs.Store.{arena_of}
 use Rattle.pst_store_meaning.specs.Changes.{IsCleared}
 use Rattle.pst_repair.specs.Seen.{seen}

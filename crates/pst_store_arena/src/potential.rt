@@ -1,11 +1,11 @@
 //! The potential of the nodes.
 
 ghost use Rattle.std.specs.Prelude.{◌≡◌, ◌<◌, ◌^◌};
-ghost use Rattle.pst_split.specs.Load.{excess, potential_of};
+ghost use Rattle.pst_repair.specs.Load.{excess, potential_of};
 
 use pst_base::Shape;
 use pst_nodes::node::{Node, Nodes};
-use pst_split::load::half;
+use pst_repair::load::half;
 
 /// By how many stamped values in all the nodes exceed half of what their type's capacity is.
 pub fn potential_of(shape: &Shape, nodes: &Nodes) -> u64

@@ -4,7 +4,7 @@ ghost use Rattle.std.specs.Prelude.{◌≡◌, ◌<◌, suc, ℕ, List, [], leng
 ghost use Rattle.pst_order.specs.Places.{rank};
 ghost use Rattle.pst_mirror.specs.Lives.{AreChained};
 ghost use Rattle.pst_nodes.specs.Arena.{AreRows, lives};
-ghost use Rattle.pst_split.specs.Load.{IsSound};
+ghost use Rattle.pst_repair.specs.Load.{IsSound};
 ghost use Rattle.pst_repair.specs.Repair.{IsQueued};
 ghost use Rattle.pst_repair.specs.Seen.{seen_in};
 ghost use Rattle.pst_store_meaning.specs.Store.{AreHeld, AreAllHeld};

@@ -10,8 +10,8 @@ ghost use Rattle.pst_mirror.specs.Lives.{IsIn};
 ghost use Rattle.pst_mirror.specs.Mirror.{IsMirrored};
 ghost use Rattle.pst_nodes.specs.Arena.{rows_of, frames_of, AreRows, chart, lives, type_no, type_of, IsSlot, IsTyped, IsOpenSlot};
 ghost use Rattle.pst_nodes.specs.Changes.{AreSameNodes};
-ghost use Rattle.pst_split.specs.Load.{IsSound};
-ghost use Rattle.pst_split.specs.Steps.{Queues, KeepsQueue};
+ghost use Rattle.pst_repair.specs.Load.{IsSound};
+ghost use Rattle.pst_repair.specs.Steps.{Queues, KeepsQueue};
 ghost use Rattle.pst_store_meaning.specs.Store.{AreWide};
 ghost use Rattle.pst_repair.specs.Seen.{seen_in};
 ghost use Rattle.pst_repair.specs.Repair.{IsQueued};
@@ -22,8 +22,8 @@ use pst_base::{NoMemory, NodeId, Shape, SlotNo};
 use pst_nodes::node::Nodes;
 use pst_nodes::queue::Queue;
 use pst_order::{Order, Pos};
+use pst_repair::load::queue_if_over;
 use pst_rows::Content;
-use pst_split::load::queue_if_over;
 use pst_store_meaning::place::Place;
 
 /// Writes a number over a place, in a node that lives there. All memory is taken first; the node waits where it is above its

@@ -4,7 +4,7 @@ use Rattle.pst_store_meaning.specs.Store.{Node as Seen}
 use Rattle.pst_store_meaning.specs.Steps.{IsSplitStep, AreSplits}
 use Rattle.pst_repair.specs.Seen.{seen}
 use Rattle.pst_repair.proofs.SameLemmas.{one_split_more}
-use Rattle.pst_split.proofs.ShownLemmas.{shows_on, live_on}
+use Rattle.pst_repair.proofs.ShownLemmas.{shows_on, live_on}
 use Rattle.pst_repair.specs.Repair.{splits_in}
 use Rattle.pst_repair.proofs.repair.repair.Goals as goal
 

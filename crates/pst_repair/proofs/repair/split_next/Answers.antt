@@ -1,7 +1,7 @@
 use Rattle.std.proofs.Common.{ℕ, List, [], ◌∷◌, ◌++◌, sym, ◌∙◌, arith}
 use Rattle.pst_nodes.specs.Queue.{tail_of}
-use Rattle.pst_split.specs.Steps.{Queues}
-use Rattle.pst_split.proofs.ShownLemmas.{shows_rows, shows_on, live_rows, live_on}
+use Rattle.pst_repair.specs.Steps.{Queues}
+use Rattle.pst_repair.proofs.ShownLemmas.{shows_rows, shows_on, live_rows, live_on}
 use Rattle.pst_repair.specs.Seen.{seen}
 use Rattle.pst_repair.proofs.SameLemmas.{seen_links, seen_same, one_split_more}
 use Rattle.pst_repair.proofs.StepLemmas.{splits_are_steps}

@@ -1,4 +1,4 @@
-use Rattle.pst_split.specs.Load.{excess}
+use Rattle.pst_repair.specs.Load.{excess}
 use Rattle.pst_nodes.specs.declared.node.Node.{Node}
 use Rattle.std.proofs.Common.{◌≡◌, ℕ, List, sum_by, get_or, ap, ◌∙◌, arith}
 use Rattle.std.proofs.lemmas.List.Sums.{sum_by_more, sum_by_more_le}

@@ -1,5 +1,5 @@
 use Rattle.std.proofs.Common.{◌≡◌, sum_by, take}
-use Rattle.pst_split.specs.Load.{excess}
+use Rattle.pst_repair.specs.Load.{excess}
 use Rattle.pst_store_arena.proofs.potential.potential_of.Given as goal
 
 abbrev pub invariant-loop-node : goal.invariant-loop-node

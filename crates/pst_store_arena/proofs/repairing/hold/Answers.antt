@@ -1,4 +1,4 @@
-use Rattle.pst_split.proofs.RoomLemmas.{on_err_of}
+use Rattle.pst_repair.proofs.RoomLemmas.{on_err_of}
 use Rattle.pst_store_arena.proofs.HeldLemmas.{held_with, lo_in, not_root, root_held, roots_are}
 use Rattle.pst_store_arena.proofs.JointLemmas.{there}
 use Rattle.pst_store_arena.specs.Calls.{arena_at}

@@ -6,7 +6,7 @@ use Rattle.pst_repair.proofs.SeenLemmas.{seen_count}
 use Rattle.pst_repair.specs.Seen.{seen}
 use Rattle.pst_store_meaning.specs.Store.{AreAllHeld, Noted}
 use Rattle.pst_nodes.specs.declared.node.Node.{Node}
-use Rattle.pst_split.proofs.RoomLemmas.{if_ok_on, on_ok_of}
+use Rattle.pst_repair.proofs.RoomLemmas.{if_ok_on, on_ok_of}
 use Rattle.std.proofs.Common.{List, length, sym, ℕ, ◌∙◌, ◌≡◌}
 use Rattle.pst_store_arena.proofs.repairing.repair_and_hold.Goals as goal
 

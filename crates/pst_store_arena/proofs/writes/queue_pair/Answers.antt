@@ -1,5 +1,5 @@
 use Rattle.std.proofs.Common.{refl, inl, inr, arith}
-use Rattle.pst_split.proofs.CutLemmas.{same_count}
+use Rattle.pst_repair.proofs.CutLemmas.{same_count}
 use Rattle.pst_store_arena.proofs.WriteQueue.{is_node, queue_first, queue_both, typed_rows}
 use Rattle.pst_store_arena.proofs.writes.queue_pair.Goals as goal
 

@@ -7,8 +7,8 @@ use Rattle.pst_base.specs.Shape.{type_at}
 use Rattle.pst_order.specs.Places.{rank}
 use Rattle.pst_rows.specs.declared.content.Content.TheVariants.{Number}
 use Rattle.pst_mirror.specs.Charts.{IsSlotSet}
-use Rattle.pst_split.specs.Load.{IsSound}
-use Rattle.pst_split.proofs.RoomLemmas.{same_rows, same_slot}
+use Rattle.pst_repair.specs.Load.{IsSound}
+use Rattle.pst_repair.proofs.RoomLemmas.{same_rows, same_slot}
 use Rattle.pst_repair.proofs.RepairLemmas.{sound_same, sound_rows}
 use Rattle.pst_repair.specs.Seen.{seen}
 use Rattle.pst_repair.specs.Written.{IsNumberSeen}

@@ -1,8 +1,8 @@
 use Rattle.std.proofs.Common.{◌≡◌, ◌∙◌, ℕ, ◌<◌, List, length, Some, refl, arith}
 use Rattle.pst_nodes.specs.Arena.{type_no}
 use Rattle.pst_order.specs.Places.{rank}
-use Rattle.pst_split.proofs.CutLemmas.{held_after, same_count}
-use Rattle.pst_split.proofs.RoomLemmas.{same_on}
+use Rattle.pst_repair.proofs.CutLemmas.{held_after, same_count}
+use Rattle.pst_repair.proofs.RoomLemmas.{same_on}
 use Rattle.pst_repair.proofs.RepairLemmas.{sound_rows}
 use Rattle.pst_repair.proofs.SameLemmas.{seen_links}
 use Rattle.pst_store_arena.specs.Writes.{HasRoomFor}

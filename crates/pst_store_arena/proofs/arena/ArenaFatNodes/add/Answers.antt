@@ -5,7 +5,7 @@ use Rattle.pst_base.specs.declared.names.NodeId.{NodeId}
 use Rattle.pst_repair.specs.Seen.{seen}
 use Rattle.pst_store_meaning.specs.Store.{Noted}
 use Rattle.pst_roots.specs.Roots.{held_of}
-use Rattle.pst_split.proofs.RoomLemmas.{if_ok_on}
+use Rattle.pst_repair.proofs.RoomLemmas.{if_ok_on}
 use Rattle.std.proofs.Common.{IfOk, List, ap, subst, ℕ, ◌∙◌, ◌≡◌}
 use Rattle.pst_store_arena.proofs.arena.ArenaFatNodes.add.Goals as goal
 

@@ -2,7 +2,7 @@ use Rattle.pst_store_arena.specs.Kept.{Kept}
 use Rattle.pst_repair.proofs.SeenLemmas.{seen_potential}
 use Rattle.pst_repair.specs.Seen.{seen}
 use Rattle.pst_store_meaning.specs.Store.{load_of}
-use Rattle.pst_split.specs.Load.{potential_of}
+use Rattle.pst_repair.specs.Load.{potential_of}
 use Rattle.std.proofs.Common.{ap, arith, map, sym, ◌∙◌, ◌≡◌}
 use Rattle.pst_mirror.specs.Potential.{potential}
 use Rattle.pst_store_arena.proofs.arena.ArenaFatNodes.potential.Goals as goal

@@ -9,7 +9,7 @@ use Rattle.pst_store_meaning.specs.Arena.{IsLive}
 use Rattle.pst_store_meaning.specs.Store.{AreHeld}
 use Rattle.pst_nodes.proofs.NodeLemmas.{live_in}
 use Rattle.pst_order.specs.Places.{rank}
-use Rattle.pst_split.specs.Load.{IsSound}
+use Rattle.pst_repair.specs.Load.{IsSound}
 use Rattle.std.proofs.Common.{sym, ◌∙◌}
 use Rattle.pst_store_arena.proofs.arena.ArenaFatNodes.root.Goals as goal
 

@@ -1,7 +1,7 @@
 use Rattle.std.proofs.Common.{◌∙◌}
 use Rattle.pst_order.specs.Places.{rank}
 use Rattle.pst_nodes.proofs.NodeLemmas.{live_in}
-use Rattle.pst_split.specs.Load.{IsSound}
+use Rattle.pst_repair.specs.Load.{IsSound}
 use Rattle.pst_repair.specs.Seen.{seen}
 use Rattle.pst_store_meaning.specs.Arena.{IsLive}
 use Rattle.pst_store_arena.specs.Calls.{arena_at}
