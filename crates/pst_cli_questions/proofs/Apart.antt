@@ -13,8 +13,8 @@ use Rattle.pst_tree.specs.Syntax as tree
 use Rattle.pst_program.specs.declared.program.TypeEntry.{TypeEntry}
 use Rattle.pst_program.specs.Names.{entry_name}
 use Rattle.pst_typing.specs.Declarations.{NamedProgram, root_type_name}
-use Rattle.pst_dump.specs.Laws.{DumpsTellHeaps}
-use Rattle.pst_dump.specs.Renaming.{colon, AreNamedApart}
+use Rattle.pst_questions.specs.LawsDump.{DumpsTellHeaps}
+use Rattle.pst_questions.specs.Renaming.{colon, AreNamedApart}
 use Rattle.pst_cli_questions.specs.Accepted.{declared_name, record_names, HasDeclaredTypes}
 use Rattle.pst_cli_questions.specs.Laws.{AcceptedAreNamedApart, DumpsOfAcceptedTellHeaps}
 use Rattle.pst_cli_questions.proofs.Names.{declared_names}

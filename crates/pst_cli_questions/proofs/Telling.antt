@@ -15,14 +15,14 @@ use Rattle.pst_history.specs.Sound.{IsSoundHistory}
 use Rattle.pst_engine_runs.specs.Stands.{HoldsVersions}
 use Rattle.pst_engine_runs.proofs.Parts.{version-row}
 use Rattle.pst_engine.proofs.Commands.{parents-are}
-use Rattle.pst_dump.specs.Dump.{IsDump}
-use Rattle.pst_changed.specs.declared.slots.PathStep.{PathStep}
-use Rattle.pst_changed.specs.Reading.{reading}
-use Rattle.pst_changed.specs.Change.{Readings, IsFirstChange, NeverChanged, heap_from, readings_of}
-use Rattle.pst_changed.specs.Laws.{AgreeBelow, VersionsThereDecide}
+use Rattle.pst_questions.specs.Dump.{IsDump}
+use Rattle.pst_questions.specs.declared.slots.PathStep.{PathStep}
+use Rattle.pst_questions.specs.Reading.{reading}
+use Rattle.pst_questions.specs.Change.{Readings, IsFirstChange, NeverChanged, heap_from, readings_of}
+use Rattle.pst_questions.specs.Changed.{AgreeBelow, VersionsThereDecide}
 use Rattle.pst_cli_questions.specs.Telling.{parent_in, readings_in, TellsOf, TellsChange, WhereThere, Tells, TellsPath}
 use Rattle.pst_program.specs.declared.program.Program.{Program}
-use Rattle.pst_changed.specs.Path.{resolved}
+use Rattle.pst_questions.specs.Path.{resolved}
 use Rattle.pst_cli_words.specs.declared.job.Question.TheVariants.{Changed}
 
 -- ---- rows

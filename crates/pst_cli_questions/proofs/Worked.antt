@@ -15,7 +15,7 @@ use Rattle.pst_tree.specs.Syntax as tree
 use Rattle.pst_grammar.specs.Forms.{IsShallow}
 use Rattle.pst_grammar.specs.Spelling.{First, Second, Record, Ptr}
 use Rattle.pst_grammar.specs.Grammar.{HasTree}
-use Rattle.pst_dump.specs.Renaming.{AreNamedApart}
+use Rattle.pst_questions.specs.Renaming.{AreNamedApart}
 use Rattle.pst_cli_questions.specs.Accepted.{declared_name}
 use Rattle.pst_cli_questions.specs.Worked.{called, called_typed, paired, WorkedNames}
 use Rattle.pst_cli_questions.proofs.Names.{declared_names}

@@ -6,8 +6,8 @@ use Rattle.pst_lex.specs.Lexing.{IsName}
 use Rattle.pst_tree.specs.Syntax as tree
 use Rattle.pst_grammar.specs.Grammar.{HasTree}
 use Rattle.pst_typing.specs.Declarations.{NamedProgram, checked}
-use Rattle.pst_dump.specs.Dump.{IsDump}
-use Rattle.pst_dump.specs.Renaming.{IsRenaming, IsHeapOf, AreNamedApart}
+use Rattle.pst_questions.specs.Dump.{IsDump}
+use Rattle.pst_questions.specs.Renaming.{IsRenaming, IsHeapOf, AreNamedApart}
 use Rattle.pst_cli_questions.specs.Accepted.{IsAcceptedAs, declared_name, HasDeclaredTypes}
 
 -- what a text declares has a name: letters, digits and `_`, and no keyword

@@ -7,11 +7,11 @@ use Rattle.pst_program.specs.declared.program.Program.{Program}
 use Rattle.pst_versions.specs.State.{State}
 use Rattle.pst_history.specs.Meaning.{Meaning}
 use Rattle.pst_history.specs.History.{History, heap_of, version_count}
-use Rattle.pst_dump.specs.Dump.{IsDump}
-use Rattle.pst_changed.specs.declared.slots.PathStep.{PathStep}
-use Rattle.pst_changed.specs.Path.{resolved}
-use Rattle.pst_changed.specs.Reading.{reading}
-use Rattle.pst_changed.specs.Change.{Readings, IsFirstChange, NeverChanged}
+use Rattle.pst_questions.specs.Dump.{IsDump}
+use Rattle.pst_questions.specs.declared.slots.PathStep.{PathStep}
+use Rattle.pst_questions.specs.Path.{resolved}
+use Rattle.pst_questions.specs.Reading.{reading}
+use Rattle.pst_questions.specs.Change.{Readings, IsFirstChange, NeverChanged}
 use Rattle.pst_cli_words.specs.declared.job.Question.{Question}
 use Rattle.pst_cli_words.specs.declared.job.Question.TheVariants.{Dump, Changed}
 

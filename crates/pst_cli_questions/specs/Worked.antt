@@ -3,7 +3,7 @@ use Rattle.std.specs.Prelude.{◌≡◌, ℕ, List, [], ◌∷◌, codes, pos, S
 use Rattle.pst_tree.specs.Syntax as tree
 use Rattle.pst_grammar.specs.Grammar.{HasTree}
 use Rattle.pst_typing.specs.Declarations.{NamedProgram, checked}
-use Rattle.pst_dump.specs.Renaming.{AreNamedApart}
+use Rattle.pst_questions.specs.Renaming.{AreNamedApart}
 use Rattle.pst_cli_questions.specs.Accepted.{IsAcceptedAs}
 
 -- a record type without fields, in language 1

@@ -5,16 +5,15 @@ ghost use Rattle.pst_history.specs.Meaning.{Meaning};
 ghost use Rattle.pst_history.specs.History.{History};
 ghost use Rattle.pst_history.specs.Sound.{IsSoundHistory};
 ghost use Rattle.pst_engine_runs.specs.Stands.{HoldsVersions};
-ghost use Rattle.pst_dump.specs.Dump.{IsDump};
-ghost use Rattle.pst_changed.specs.Path.{IsPathIn};
-ghost use Rattle.pst_changed.specs.Change.{readings_of, heap_from};
+ghost use Rattle.pst_questions.specs.Dump.{IsDump};
+ghost use Rattle.pst_questions.specs.Path.{IsPathIn};
+ghost use Rattle.pst_questions.specs.Change.{readings_of, heap_from};
 ghost use Rattle.pst_cli_questions.specs.Telling.{Tells, TellsChange, WhereThere};
 
 use pst_base::{NoMemory, Text, VersionNo};
-use pst_changed::{Slots, changed, resolve, versions_there_decide};
 use pst_cli_words::Question;
-use pst_dump::dump;
 use pst_program::Program;
+use pst_questions::{Slots, changed, dump, resolve, versions_there_decide};
 use pst_versions::VersionedHeap;
 use std::alloc::Global;
 

@@ -4,7 +4,7 @@
 ghost use Rattle.pst_cli_questions.specs.Laws.{AcceptedAreNamedApart, DeclaredAreNames, DumpsOfAcceptedTellHeaps, TypesAreDeclared};
 ghost use Rattle.pst_cli_questions.specs.Worked.{WorkedNames};
 
-use pst_dump::dumps_tell_heaps;
+use pst_questions::dumps_tell_heaps;
 
 /// The names of a small program, and a tree whose record type is called as the root record's.
 pub fn names_by_hand()

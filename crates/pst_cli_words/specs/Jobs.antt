@@ -4,7 +4,7 @@ use Rattle.std.specs.declared.alloc.Global.{Global}
 use Rattle.std.specs.Option.{option_map}
 use Rattle.std.specs.Str.{bytes_eq}
 use Rattle.pst_base.specs.declared.names.VersionNo.{VersionNo}
-use Rattle.pst_changed.specs.Path.{is_path}
+use Rattle.pst_questions.specs.Path.{is_path}
 use Rattle.pst_script.specs.Numerals.{number_of as written_number, passing, fits_32_bits}
 use Rattle.pst_cli_words.specs.declared.job.Job.{Job}
 use Rattle.pst_cli_words.specs.declared.job.Job.TheVariants.{Run, Replay, Line, Check, Code}

@@ -7,7 +7,7 @@ ghost use Rattle.pst_script.specs.Numerals.{is_numeral};
 ghost use Rattle.pst_cli_words.specs.Jobs.{long_number, version_number, job_named, task_of, path_in};
 
 use pst_base::VersionNo;
-use pst_changed::path_form;
+use pst_questions::path_form;
 
 /// What the program can do.
 #[derive(Clone, Copy, PartialEq, Eq)]

@@ -5,9 +5,9 @@ ghost use Rattle.pst_versions.specs.State.{HasRoom};
 ghost use Rattle.pst_forest.specs.Forest.{state_of};
 
 use pst_base::{Kind, Name, NoMemory, RunNo, Shape, SlotNo, Targets, Text, TypeNo, TypeShape};
-use pst_dump::dump;
 use pst_forest::{Forest, PlaceNo, Reference};
 use pst_program::{FieldNames, Program, TypeEntry, TypeNames, TypedProcs};
+use pst_questions::dump;
 use pst_versions::{HeapAt, MOST_FORKS, StoreFault, VersionedHeap};
 use std::alloc::Global;
 

@@ -7,10 +7,10 @@ ghost use Rattle.pst_engine.specs.Stands.{IsStartedHeap};
 ghost use Rattle.pst_store_cases.specs.Going.{IsGoing};
 
 use pst_base::{NoMemory, Text, VersionNo};
-use pst_dump::dump;
 use pst_engine::{Engine, a_new_engine_stands};
 use pst_engine_runs::Compiled;
 use pst_engine_testing::Trouble;
+use pst_questions::dump;
 use pst_script::{Command, LineFault, read_line, reply_text};
 use pst_versions::VersionedHeap;
 use std::alloc::Global;

@@ -1,7 +1,7 @@
 use Rattle.std.proofs.Common.{◌∙◌, sym, slice_get}
 use Rattle.std.proofs.lemmas.Result.{IfOk-weaker}
-use Rattle.pst_dump.specs.Dump.{IsDump}
-use Rattle.pst_changed.specs.Change.{heap_from}
+use Rattle.pst_questions.specs.Dump.{IsDump}
+use Rattle.pst_questions.specs.Change.{heap_from}
 use Rattle.pst_cli_questions.proofs.Telling.{none_there, placed, place_has, dump_there}
 use Rattle.pst_cli_questions.proofs.answer.dump_of.Goals as goal
 

@@ -1,5 +1,0 @@
-pub mod PathLemmas
-pub mod ReadingLemmas
-pub mod ChangeLemmas
-pub mod LawLemmas
-pub mod WorkedLemmas

@@ -1,7 +1,0 @@
-use Rattle.std.proofs.Common.{ap, sym, ◌∙◌}
-use Rattle.pst_dump.specs.Dump.{dump_text}
-use Rattle.pst_dump.proofs.Numbered.{AreNumbered-same}
-use Rattle.pst_dump.proofs.laws.dump_is_unique.Goals as goal
-
-pub returns : goal.returns
-returns c = λ types h text other a b. a.spelled ∙ ap (dump_text types h) (AreNumbered-same h a.names b.names a.numbered b.numbered) ∙ sym b.spelled

@@ -1,5 +1,0 @@
-use Rattle.pst_dump.proofs.Renamed.{IsDump-renamed}
-use Rattle.pst_dump.proofs.laws.renaming_keeps_dump.Goals as goal
-
-pub returns : goal.returns
-returns c = λ types h g to text f d. IsDump-renamed h g to f types text d

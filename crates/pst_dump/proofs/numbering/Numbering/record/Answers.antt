@@ -1,5 +1,0 @@
-use Rattle.pst_dump.proofs.Entries.{reference_at}
-use Rattle.pst_dump.proofs.numbering.Numbering.record.Goals as goal
-
-pub returns : goal.returns
-returns g c = reference_at c.args.self.now.records.entries c.args.number c.index.result.now c.index.ensures

@@ -1,8 +1,0 @@
-use Rattle.std.proofs.Common.{◌≡◌, ◌++◌, drop}
-use Rattle.std.specs.List.{flat_map}
-use Rattle.pst_dump.specs.Dump.{value_word}
-use Rattle.pst_dump.specs.Walk.{values_of}
-use Rattle.pst_dump.proofs.text.put_values.Given as goal
-
-abbrev pub invariant-loop-slot : goal.invariant-loop-slot
-invariant-loop-slot g l = l.out.items ++ flat_map value_word (drop l.slot (values_of (g.H.HeapAt.state l.heap) l.at l.r)) ≡ l.fn.out.items ++ flat_map value_word (values_of (g.H.HeapAt.state l.heap) l.at l.r)

@@ -1,6 +1,0 @@
-pub mod Paths
-pub mod Dump
-pub mod Walk
-pub mod Renaming
-pub mod Laws
-pub mod Worked

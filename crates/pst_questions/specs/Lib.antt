@@ -1,0 +1,11 @@
+pub mod Change
+pub mod Changed
+pub mod Dump
+pub mod LawsDump
+pub mod Path
+pub mod Paths
+pub mod Reading
+pub mod Renaming
+pub mod Walk
+pub mod WorkedChanged
+pub mod WorkedDump

@@ -1,0 +1,56 @@
+//! Which version changed what a path reads.
+//!
+//! Model: a path is names joined by dots, as `first.next.key`: a root, and then fields. `resolved` gives its slots in a
+//! program; `reading` is what its last field holds in a heap, or none where a null is met before.
+//!
+//! Contract: `path_form` answers exactly whether bytes have the form of a path, and `resolve` gives exactly the slots of a valid
+//! one. `changed` gives the first version on the way to version 0 whose reading is not that of its parent.
+//!
+//!     if let Some(path) = resolve(alloc, &program, b"first.key")? {
+//!         let version = changed(&heap, &path, VersionNo(7));
+//!     }
+//!
+//! MERGE: one head is wanted; the above is that of `pst_changed`, and the below of `pst_dump`.
+//!
+//! The dump of a heap at a place: a text of all records that the root record reaches there.
+//!
+//! Model: the records are numbered from 0 in the order of their least access paths (`specs/Paths`), the shortest lists of slots
+//! that lead to them from the root record; the dump (`specs/Dump`) has one line each, in that order.
+//!
+//! Contract: `dump` gives exactly that text, or finds no memory. The laws say that a heap has one dump, and that the dumps
+//! of two heaps are equal exactly where one heap is the other one with its records renamed.
+//!
+//! For example a list of the numbers 7 and 5 is dumped so:
+//!
+//! ```text
+//! 0 root: @1
+//! 1 N: 7 @2
+//! 2 N: 5 null
+//! ```
+#![tactic(auto)]
+
+mod change;
+mod fields;
+mod laws_changed;
+mod laws_dump;
+mod names;
+mod numbering;
+mod reading;
+mod slots;
+#[cfg(test)]
+mod tests;
+mod text;
+mod walk;
+mod worked;
+
+pub use change::changed;
+pub use fields::resolve;
+pub use laws_changed::{first_change_is_one, versions_there_decide};
+pub use laws_dump::{
+    dump_is_unique, dumps_by_hand, dumps_tell_heaps, lines_tell_heaps, numbering_exists,
+    numbering_is_unique, renaming_keeps_dump,
+};
+pub use names::path_form;
+pub use slots::{PathStep, Slots};
+pub use text::dump;
+pub use worked::{changes_by_hand, fields_by_hand, path_forms_by_hand, readings_by_hand};
