@@ -4,7 +4,7 @@ ghost use Rattle.std.specs.Prelude.{◌≡◌, ◌↔◌, ◌≤◌, Some, None,
 ghost use Rattle.pst_io.specs.Causes.{Rose};
 ghost use Rattle.pst_cli_words.specs.declared.job.Job.{Job};
 ghost use Rattle.pst_cli_words.specs.Jobs.{task_in, OnBench, OnQuestion, OnPack, OnResume, OnRepack};
-ghost use Rattle.pst_cli_asking.specs.Asking.{AskRow};
+ghost use Rattle.pst_cli_questions.specs.Asking.{AskRow};
 ghost use Rattle.pst_cli_images.specs.Packing.{PackRow};
 ghost use Rattle.pst_cli_images.specs.Resuming.{ResumeRow, resumed_in};
 ghost use Rattle.pst_cli_images.specs.Repacking.{RepackRow};
@@ -17,9 +17,9 @@ ghost use Rattle.pst_cli.specs.Endings.{works_over_store, MayEnd};
 ghost use Rattle.pst_cli.specs.Held.{both_in};
 ghost use Rattle.pst_cli_scripts.specs.Sessions.{HasTaken};
 
-use pst_cli_asking::ask;
 use pst_cli_bench::bench;
 use pst_cli_images::{pack_input, repack_input, resume_input};
+use pst_cli_questions::ask;
 use pst_cli_scripts::read_text;
 use pst_cli_serving::{Lining, Replaying, Running, print, serve, status_of};
 use pst_cli_words::{Job, Question, Status, Task, path_in, task_of};

@@ -16,7 +16,7 @@ use Rattle.pst_cli_scripts.specs.Script.{by_tree}
 use Rattle.pst_cli_scripts.specs.Kept.{Kept, history_after}
 use Rattle.pst_front.specs.Verdict.{Accepted}
 use Rattle.pst_cli_serving.proofs.Keeping.{meaning_shape}
-use Rattle.pst_cli_asking.specs.Asking.{GivesAll, StopsAsking}
+use Rattle.pst_cli_questions.specs.Asking.{GivesAll, StopsAsking}
 use Rattle.pst_cli_images.specs.Packing.{IsImage, Packs, Images}
 
 module _ (k : Kept) (store : Option Stored) (m : Meaning) (text : List ℕ) (a b : InputState) (left left' : Option (List ℕ)) where

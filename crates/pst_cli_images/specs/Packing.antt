@@ -18,7 +18,7 @@ use Rattle.pst_cli_scripts.specs.Kept.{Kept, history_after}
 use Rattle.pst_front.specs.Pages.{routines_in}
 use Rattle.pst_front.specs.Verdict.{Verdict, Accepted, Refused}
 use Rattle.pst_cli_serving.specs.Held.{run_in}
-use Rattle.pst_cli_asking.specs.Asking.{GivesAll, StopsAsking, OverRow, Over}
+use Rattle.pst_cli_questions.specs.Asking.{GivesAll, StopsAsking, OverRow, Over}
 use Rattle.pst_image_form.specs.Bytes.{Fits, image_bytes}
 use Rattle.pst_image_rules.specs.Rules.{IsJudged}
 use Rattle.pst_image_parts.specs.Parts.{parts_of}

@@ -16,7 +16,7 @@ ghost use Rattle.pst_store.specs.Whole.{state_in};
 ghost use Rattle.pst_cli_images.specs.Packing.{ImagesScript, IsImage, PacksScript, PackRow};
 
 use pst_base::{NoMemory, Text};
-use pst_cli_asking::carry_script;
+use pst_cli_questions::carry_script;
 use pst_cli_scripts::{Session, Stop, read_text, say};
 use pst_cli_serving::{Running, refuse, status_of};
 use pst_cli_words::Status;

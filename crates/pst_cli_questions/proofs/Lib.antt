@@ -1,6 +1,8 @@
-pub mod Behind
-pub mod Names
-pub mod Types
 pub mod Apart
-pub mod Worked
+pub mod AskRows
+pub mod Behind
+pub mod Finding
+pub mod Names
 pub mod Telling
+pub mod Types
+pub mod Worked

@@ -1,4 +1,5 @@
 pub mod Accepted
+pub mod Asking
 pub mod Laws
-pub mod Worked
 pub mod Telling
+pub mod Worked

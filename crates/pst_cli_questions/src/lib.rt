@@ -16,12 +16,28 @@
 //!
 //! For example `record N 1 { }` has the record types `root` and `N`. A text with `record root 1 { }` is not accepted, since
 //! `root` is a keyword; the grammar and the lexer say so, and not typing.
+//!
+//! MERGE: one head is wanted; the above is that of `pst_cli_questions`, and the below of `pst_cli_asking`.
+//!
+//! Questions about the versions that a script makes.
+//!
+//! Model: a history of a program, after lines of its script. The table of questions (`AskRow`) says by the status how far the
+//! input was read, how much of the answer is written, and after which lines the store is left.
+//!
+//! Contract: [`ask`] reads an input, carries its script out over a store as `run` does, writes no reply, and then writes the
+//! answer about the history of all lines as one piece, or the line of the program's fault. Where reading stops, all whole lines
+//! that were read are carried out, and nothing is written. The table without the question is `OverRow`: whatever answer stands behind
+//! a script that [`carry_script`] carries out.
+//!
+//!     let mut store: Store = Store::empty();
+//!     let status = ask(alloc, Question::Changed(VersionNo(7)), b"list.head", source, sink, &mut store);
 #![tactic(auto)]
 
 mod answer;
+mod asking;
 mod named;
 
-pub use answer::tell;
+pub use asking::{ask, carry_script};
 pub use named::{
     accepted_types_are_named_apart, declared_are_names, dumps_of_accepted_tell_heaps,
     names_by_hand, types_are_declared,

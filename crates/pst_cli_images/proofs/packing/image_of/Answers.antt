@@ -9,7 +9,7 @@ use Rattle.pst_history.specs.History.{counts_of, next_run}
 use Rattle.pst_cli_scripts.specs.Script.{by_tree}
 use Rattle.pst_cli_scripts.specs.Kept.{kept_by, first_history, history_after}
 use Rattle.pst_cli_serving.specs.Storing.{IsLeft, IsBroken}
-use Rattle.pst_cli_asking.proofs.Finding.{carrying_stopped}
+use Rattle.pst_cli_questions.proofs.Finding.{carrying_stopped}
 use Rattle.pst_image_engine.proofs.Counted.{few_counts_law}
 use Rattle.pst_cli_images.proofs.Found.{image_stopped, image_lacks}
 use Rattle.pst_cli_images.proofs.Counted.{script_counts_law}

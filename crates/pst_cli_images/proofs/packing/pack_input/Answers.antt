@@ -1,7 +1,7 @@
 use Rattle.std.proofs.Common.{ap, Err, refl}
 use Rattle.pst_cli_words.specs.declared.job.Job.TheVariants.{Run}
 use Rattle.pst_cli_serving.specs.Held.{kept_in}
-use Rattle.pst_cli_asking.proofs.AskRows.{text_unread, text_asked}
+use Rattle.pst_cli_questions.proofs.AskRows.{text_unread, text_asked}
 use Rattle.pst_cli_images.specs.Packing.{PacksWhole, PacksInPart}
 use Rattle.pst_cli_images.proofs.packing.pack_input.Goals as goal
 

@@ -5,7 +5,7 @@ use Rattle.pst_cli_scripts.specs.Pieces.{IsPartOf}
 use Rattle.pst_cli_scripts.specs.Script.{by_tree}
 use Rattle.pst_cli_scripts.specs.Kept.{kept_by}
 use Rattle.pst_cli_serving.specs.Storing.{IsLeft, IsBroken}
-use Rattle.pst_cli_asking.proofs.AskRows.{fault_asked, answer_asked, answer_stopped, script_asked}
+use Rattle.pst_cli_questions.proofs.AskRows.{fault_asked, answer_asked, answer_stopped, script_asked}
 use Rattle.pst_cli_images.specs.Packing.{PacksWhole, PacksInPart}
 use Rattle.pst_cli_images.proofs.Found.{packed}
 use Rattle.pst_cli_images.proofs.packing.pack_text.Goals as goal

@@ -7,13 +7,13 @@ ghost use Rattle.pst_io.specs.Lines.{IsOpen};
 ghost use Rattle.pst_program.specs.View.{routines_of};
 ghost use Rattle.pst_program.specs.Typed.{IsTyped};
 ghost use Rattle.pst_cli_serving.specs.Rows.{HasRow};
-ghost use Rattle.pst_cli_asking.specs.Asking.{CarriesRest, FindsInScript, AsksScript, AskRow};
+ghost use Rattle.pst_cli_questions.specs.Asking.{CarriesRest, FindsInScript, AsksScript, AskRow};
 ghost use Rattle.pst_cli_scripts.specs.Sessions.{HasTaken, StandForSome};
 ghost use Rattle.pst_cli_scripts.specs.Reading.{IsNear};
 ghost use Rattle.pst_cli_serving.specs.Held.{run_in};
 
+use crate::answer::tell;
 use pst_base::Text;
-use pst_cli_questions::tell;
 use pst_cli_scripts::{Session, Stop, read_text, reply_to, say};
 use pst_cli_serving::{Running, refuse, status_of};
 use pst_cli_words::{Question, Status};

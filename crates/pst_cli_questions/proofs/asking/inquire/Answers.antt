@@ -5,9 +5,9 @@ use Rattle.pst_cli_scripts.specs.Script.{by_tree}
 use Rattle.pst_cli_scripts.specs.Kept.{kept_by, history_after}
 use Rattle.pst_cli_serving.specs.Storing.{IsLeft, IsBroken}
 use Rattle.pst_cli_questions.specs.Telling.{Tells}
-use Rattle.pst_cli_asking.specs.Asking.{AnsweredWhole, AnsweredInPart}
-use Rattle.pst_cli_asking.proofs.AskRows.{fault_asked, answer_asked, answer_stopped, script_asked}
-use Rattle.pst_cli_asking.proofs.asking.inquire.Goals as goal
+use Rattle.pst_cli_questions.specs.Asking.{AnsweredWhole, AnsweredInPart}
+use Rattle.pst_cli_questions.proofs.AskRows.{fault_asked, answer_asked, answer_stopped, script_asked}
+use Rattle.pst_cli_questions.proofs.asking.inquire.Goals as goal
 
 pub returns-in-Err-Memory-clause-asked : goal.returns-in-Err-Memory-clause-asked
 returns-in-Err-Memory-clause-asked g c = ([], Appends-nil _, (refl, inl (refl, (refl, refl))))

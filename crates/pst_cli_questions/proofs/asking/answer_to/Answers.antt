@@ -7,8 +7,8 @@ use Rattle.pst_cli_scripts.specs.Script.{by_tree}
 use Rattle.pst_cli_scripts.specs.Kept.{kept_by, first_history, history_after}
 use Rattle.pst_cli_serving.specs.Storing.{IsLeft, IsBroken}
 use Rattle.pst_cli_serving.proofs.Keeping.{meaning_shape}
-use Rattle.pst_cli_asking.proofs.Finding.{carrying_stopped, found_stopped, answer_found, answer_lacks}
-use Rattle.pst_cli_asking.proofs.asking.answer_to.Goals as goal
+use Rattle.pst_cli_questions.proofs.Finding.{carrying_stopped, found_stopped, answer_found, answer_lacks}
+use Rattle.pst_cli_questions.proofs.asking.answer_to.Goals as goal
 
 pub returns-in_default-clause-found : goal.returns-in_default-clause-found
 returns-in_default-clause-found g c = inl (c.in_default.ensures.err, (refl, refl))

@@ -25,7 +25,7 @@ use Rattle.pst_cli_scripts.specs.Reading.{GivesPast, GivesUntil, ReadsText}
 use Rattle.pst_cli_serving.specs.Rows.{IsWithin, ReadsAll}
 use Rattle.pst_cli_serving.specs.Serving.{Refuses, status_of}
 use Rattle.pst_cli_scripts.specs.Sessions.{StopsAtReply}
-use Rattle.pst_cli_asking.specs.Asking.{StopsInFault, BreaksAt, CarriedTo, StopsInScript, LacksAnswer, OverRow, GivesAll, StopsAsking, StopsText, Over}
+use Rattle.pst_cli_questions.specs.Asking.{StopsInFault, BreaksAt, CarriedTo, StopsInScript, LacksAnswer, OverRow, GivesAll, StopsAsking, StopsText, Over}
 use Rattle.pst_cli_serving.proofs.RowLemmas.{fresh, stops_front, LongFront, long_by, long_row, lacks_text, lacks_program, cuts, readable, reads_up_to, told_text, refused_alike, of_text, whole_input, was_going, after_program}
 use Rattle.pst_cli_serving.proofs.Serving.{one_whole}
 

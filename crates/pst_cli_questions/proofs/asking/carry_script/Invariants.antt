@@ -7,7 +7,7 @@ use Rattle.pst_history.specs.History.{History}
 use Rattle.pst_cli_scripts.specs.Pieces.{state_after}
 use Rattle.pst_cli_scripts.specs.Script.{script_of}
 use Rattle.pst_cli_scripts.specs.Reading.{IsNear}
-use Rattle.pst_cli_asking.proofs.asking.carry_script.Given as goal
+use Rattle.pst_cli_questions.proofs.asking.carry_script.Given as goal
 
 -- on each history that they stood for, these lines were handed out, and they stand for the one after the lines
 abbrev pub invariant-carrying : goal.invariant-carrying

@@ -1,9 +1,9 @@
 use Rattle.std.proofs.Common.{ap, Err, refl}
 use Rattle.pst_cli_words.specs.declared.job.Job.TheVariants.{Run}
 use Rattle.pst_cli_serving.specs.Held.{kept_in}
-use Rattle.pst_cli_asking.specs.Asking.{AnsweredWhole, AnsweredInPart}
-use Rattle.pst_cli_asking.proofs.AskRows.{text_unread, text_asked}
-use Rattle.pst_cli_asking.proofs.asking.ask.Goals as goal
+use Rattle.pst_cli_questions.specs.Asking.{AnsweredWhole, AnsweredInPart}
+use Rattle.pst_cli_questions.proofs.AskRows.{text_unread, text_asked}
+use Rattle.pst_cli_questions.proofs.asking.ask.Goals as goal
 
 pub returns-in-Err-clause-asked : goal.returns-in-Err-clause-asked
 returns-in-Err-clause-asked g c =

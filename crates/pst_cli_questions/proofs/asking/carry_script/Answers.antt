@@ -4,8 +4,8 @@ use Rattle.pst_cli_scripts.specs.Pieces.{state_after}
 use Rattle.pst_cli_scripts.specs.Script.{script_of}
 use Rattle.pst_cli_scripts.proofs.Reading.{until_fault, then_reads, still_near}
 use Rattle.pst_cli_scripts.proofs.Writing.{state_more, breaks_in}
-use Rattle.pst_cli_asking.proofs.Finding.{until_carried}
-use Rattle.pst_cli_asking.proofs.asking.carry_script.Goals as goal
+use Rattle.pst_cli_questions.proofs.Finding.{until_carried}
+use Rattle.pst_cli_questions.proofs.asking.carry_script.Goals as goal
 
 pub carrying-init : goal.carrying-init
 carrying-init g c = record {

@@ -10,7 +10,7 @@ use Rattle.pst_cli_scripts.specs.declared.stop.Stop.TheVariants as stop
 use Rattle.pst_cli_scripts.specs.Script.{Rules, by_tree, script_of}
 use Rattle.pst_cli_scripts.specs.Kept.{Kept, kept_by, first_history, history_after}
 use Rattle.pst_cli_questions.specs.Telling.{Tells}
-use Rattle.pst_cli_asking.specs.Asking.{GivesAll, StopsCarrying, StopsAsking, Finds}
+use Rattle.pst_cli_questions.specs.Asking.{GivesAll, StopsCarrying, StopsAsking, Finds}
 use Rattle.pst_io.specs.declared.fault.LinesFault.{LinesFault}
 use Rattle.pst_io.specs.declared.fault.LinesFault.TheVariants as lines
 use Rattle.pst_cli_scripts.specs.Pieces.{Answering, state_after}

@@ -1,2 +1,0 @@
-pub mod AskRows
-pub mod Finding
