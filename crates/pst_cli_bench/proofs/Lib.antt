@@ -1,2 +1,4 @@
-pub mod Summing
 pub mod Benching
+pub mod LineLemmas
+pub mod Summing
+pub mod WorkedLemmas

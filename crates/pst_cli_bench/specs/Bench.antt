@@ -2,7 +2,7 @@
 use Rattle.std.specs.Prelude.{◌≡◌, ℕ, ◌⊎◌, List, [], ◌∷◌, ◌++◌, length, Option, Some, None, ℤ, pos, ◌+ℤ◌, fold, codes}
 use Rattle.std.specs.Fmt.{decimal, signed_decimal}
 use Rattle.pst_io.specs.Text.{lines_of}
-use Rattle.pst_bench.specs.Script.{script}
+use Rattle.pst_cli_bench.specs.Script.{script}
 use Rattle.pst_script.specs.Commands.{reading}
 use Rattle.pst_script.specs.Texts.{text_of}
 use Rattle.pst_script.specs.declared.command.Command.TheVariants.{Stats}

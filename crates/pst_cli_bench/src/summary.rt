@@ -15,8 +15,8 @@ ghost use Rattle.pst_cli_serving.specs.Storing.{IsLeft};
 ghost use Rattle.pst_cli_scripts.specs.Script.{by_tree, after_line};
 ghost use Rattle.pst_cli_scripts.specs.Sessions.{HasTaken, StandForSome, OnEachHistory, BreaksBetween};
 
+use crate::script::bench_script;
 use pst_base::{NoMemory, Text};
-use pst_bench::bench_script;
 use pst_cli_scripts::{Session, reply_to, say, split_line};
 use pst_cli_serving::{Running, refuse, status_of};
 use pst_cli_words::Status;

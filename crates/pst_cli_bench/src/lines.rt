@@ -1,6 +1,6 @@
 //! The lines of the script.
 ghost use Rattle.std.specs.Prelude.{◌≡◌, ◌+◌, ◌*◌, ◌^◌, ◌<◌, ◌≤◌, ◌++◌, OnOk};
-ghost use Rattle.pst_bench.specs.Script.{key, path_line, branch_line, count_line, key_line};
+ghost use Rattle.pst_cli_bench.specs.Script.{key, path_line, branch_line, count_line, key_line};
 
 use pst_base::{NoMemory, put_number_between};
 

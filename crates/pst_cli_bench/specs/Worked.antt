@@ -1,6 +1,6 @@
 -- What the definition says of short scripts, worked by hand.
 use Rattle.std.specs.Prelude.{◌≡◌, ◌++◌, codes}
-use Rattle.pst_bench.specs.Script.{path_line, branch_line, count_line, key_line, path_lines, script}
+use Rattle.pst_cli_bench.specs.Script.{path_line, branch_line, count_line, key_line, path_lines, script}
 
 -- a path too short for a branch, and keys that pass 999
 abbrev pub ShortPath : Type 0

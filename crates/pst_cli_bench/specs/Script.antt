@@ -49,6 +49,6 @@ abbrev pub key_lines : (size : ℕ) → List ℕ
 key_lines size = flat_map (key_line size) (from_to 1 (size / 100))
 
 -- the script for a number, whose path has so many versions
--- (carried out by `pst_bench::bench_script`)
+-- (carried out by `pst_cli_bench::bench_script`)
 unfoldable pub script : (size number : ℕ) → List ℕ
 script size number = codes "run 0 make 0\n" ++ path_lines size number ++ branch_lines size number ++ count_lines size ++ key_lines size

@@ -1,8 +1,8 @@
 -- The scripts that are worked by hand.
 use Rattle.std.proofs.Common.{refl}
 use Rattle.std.specs.Fmt.{digits}
-use Rattle.pst_bench.specs.Script.{script}
-use Rattle.pst_bench.specs.Worked.{ShortPath, TwoBranches, LastInsertion, LastMove, LastBranch, LastCount, LastKey, Scripts}
+use Rattle.pst_cli_bench.specs.Script.{script}
+use Rattle.pst_cli_bench.specs.Worked.{ShortPath, TwoBranches, LastInsertion, LastMove, LastBranch, LastCount, LastKey, Scripts}
 
 short_path : ShortPath
 unfolding script digits

@@ -1,6 +1,6 @@
 //! The script as a whole.
 ghost use Rattle.std.specs.Prelude.{◌≡◌, ◌+◌, ◌/◌, ◌^◌, ◌<◌, ◌≤◌, ◌++◌, OnOk, IfOk};
-ghost use Rattle.pst_bench.specs.Script.{path_lines, branch_lines, count_lines, key_lines, script};
+ghost use Rattle.pst_cli_bench.specs.Script.{path_lines, branch_lines, count_lines, key_lines, script};
 
 use crate::lines::{SPACING, push_branch_line, push_count_line, push_key_line, push_path_line};
 use pst_base::{NoMemory, Text};

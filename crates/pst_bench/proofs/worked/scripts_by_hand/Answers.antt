@@ -1,5 +1,0 @@
-use Rattle.pst_bench.proofs.WorkedLemmas.{scripts}
-use Rattle.pst_bench.proofs.worked.scripts_by_hand.Goals as goal
-
-pub returns : goal.returns
-returns c = scripts
