@@ -1,6 +1,6 @@
 -- What comes of the bench.
 use Rattle.std.proofs.Common.{◌≡◌, ℕ, ◌⊎◌, inl, inr, List, [], refl, sym, ap, ◌∙◌, subst, ℤ, ◌+ℤ◌, pos, fold, length, Option, Some}
-use Rattle.pst_tree.specs.Syntax.{ProgramText}
+use Rattle.pst_grammar.specs.Syntax.{ProgramText}
 use Rattle.pst_typing.specs.View.{program_of}
 use Rattle.pst_program.specs.declared.program.Program.{Program}
 use Rattle.pst_script.specs.Texts.{text_of}

@@ -2,7 +2,7 @@
 use Rattle.std.proofs.Common.{◌≡◌, ℕ, inr, List, sym, ap, ◌∙◌, subst, Option, Result, Err}
 use Rattle.pst_base.specs.declared.shape.TypeShape.{TypeShape}
 use Rattle.pst_io.specs.Input.{InputState}
-use Rattle.pst_tree.specs.Syntax.{ProgramText}
+use Rattle.pst_grammar.specs.Syntax.{ProgramText}
 use Rattle.pst_notation.specs.Canonical.{canonical}
 use Rattle.pst_program.specs.declared.program.Program.{Program}
 use Rattle.pst_program.specs.View.{routines_of}

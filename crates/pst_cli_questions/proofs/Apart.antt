@@ -9,7 +9,7 @@ use Rattle.pst_base.specs.declared.names.TypeNo.{TypeNo}
 use Rattle.pst_lex.specs.declared.words.Mark.TheVariants as mark
 use Rattle.pst_lex.specs.Bytes.{is_word}
 use Rattle.pst_lex.specs.Lexing.{IsName}
-use Rattle.pst_tree.specs.Syntax as tree
+use Rattle.pst_grammar.specs.Syntax as tree
 use Rattle.pst_program.specs.declared.program.TypeEntry.{TypeEntry}
 use Rattle.pst_program.specs.Names.{entry_name}
 use Rattle.pst_typing.specs.Declarations.{NamedProgram, root_type_name}

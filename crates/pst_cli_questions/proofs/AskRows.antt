@@ -3,7 +3,7 @@ use Rattle.std.proofs.Common.{◌≡◌, ℕ, ◌≤◌, inl, inr, List, [], ◌
 use Rattle.std.specs.Prelude.{IfSome}
 use Rattle.std.specs.Io.KnownBytes.{Appends}
 use Rattle.std.proofs.KnownBytes.{Appends-nil}
-use Rattle.pst_tree.specs.Syntax.{ProgramText}
+use Rattle.pst_grammar.specs.Syntax.{ProgramText}
 use Rattle.pst_typing.specs.View.{program_of}
 use Rattle.pst_program.specs.declared.program.Program.{Program}
 use Rattle.pst_history.specs.Direct.{meaning_of}

@@ -10,7 +10,7 @@ use Rattle.pst_lex.specs.declared.words.Mark.{Mark}
 use Rattle.pst_lex.specs.declared.words.Mark.TheVariants as mark
 use Rattle.pst_lex.specs.Words.{keyword_of, symbol_of, word_of}
 use Rattle.pst_lex.specs.Lexing.{IsName, IsWord, LexedTo}
-use Rattle.pst_tree.specs.Syntax as tree
+use Rattle.pst_grammar.specs.Syntax as tree
 use Rattle.pst_grammar.specs.Lexemes.{Lexeme, Name, Number, Operator, Plain, Leading, Unknown, marked, marked_if, lexeme_in, lexemes}
 use Rattle.pst_grammar.specs.Spelling.{Item, Record, Root, Procedure, item, spelled_item, each}
 use Rattle.pst_cli_questions.specs.Accepted.{declared_name}

@@ -11,7 +11,7 @@ use Rattle.pst_lex.specs.declared.words.Mark.{Mark}
 use Rattle.pst_lex.specs.declared.words.Mark.TheVariants as mark
 use Rattle.pst_lex.specs.Words.{mark_text}
 use Rattle.pst_lex.specs.Lexing.{IsName, LexedTo, EndsAt, Lexes}
-use Rattle.pst_tree.specs.Syntax as tree
+use Rattle.pst_grammar.specs.Syntax as tree
 use Rattle.pst_grammar.specs.Forms.{IsShallow}
 use Rattle.pst_grammar.specs.Spelling.{First, Second, Record, Ptr}
 use Rattle.pst_grammar.specs.Grammar.{HasTree}

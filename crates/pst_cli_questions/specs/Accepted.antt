@@ -1,7 +1,7 @@
 -- Texts of accepted programs, and the names that they declare.
 use Rattle.std.specs.Prelude.{◌≡◌, ◌≢◌, ℕ, List, [], ◌∷◌, length, map, Ok}
 use Rattle.std.specs.List.{AllPairs}
-use Rattle.pst_tree.specs.Syntax as tree
+use Rattle.pst_grammar.specs.Syntax as tree
 use Rattle.pst_grammar.specs.Grammar.{HasTree}
 use Rattle.pst_typing.specs.Declarations.{NamedProgram, root_type_name, checked}
 

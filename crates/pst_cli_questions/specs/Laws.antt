@@ -3,7 +3,7 @@ use Rattle.std.specs.Prelude.{◌≡◌, ◌↔◌, ℕ, ◌<◌, ◌^◌, List,
 use Rattle.pst_base.specs.declared.names.Name.{Name}
 use Rattle.pst_base.specs.Heap.{Heap}
 use Rattle.pst_lex.specs.Lexing.{IsName}
-use Rattle.pst_tree.specs.Syntax as tree
+use Rattle.pst_grammar.specs.Syntax as tree
 use Rattle.pst_grammar.specs.Grammar.{HasTree}
 use Rattle.pst_typing.specs.Declarations.{NamedProgram, checked}
 use Rattle.pst_questions.specs.Dump.{IsDump}

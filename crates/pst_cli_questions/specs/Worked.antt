@@ -1,6 +1,6 @@
 -- The names of small programs, by hand.
 use Rattle.std.specs.Prelude.{◌≡◌, ℕ, List, [], ◌∷◌, codes, pos, Some, Ok}
-use Rattle.pst_tree.specs.Syntax as tree
+use Rattle.pst_grammar.specs.Syntax as tree
 use Rattle.pst_grammar.specs.Grammar.{HasTree}
 use Rattle.pst_typing.specs.Declarations.{NamedProgram, checked}
 use Rattle.pst_questions.specs.Renaming.{AreNamedApart}

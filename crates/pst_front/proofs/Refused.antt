@@ -2,8 +2,8 @@
 use Rattle.std.proofs.Common.{ℕ, List}
 use Rattle.std.specs.Prelude.{Ok, Err}
 use Rattle.pst_lex.specs.Lexing.{HasLexing}
-use Rattle.pst_tree.specs.declared.declaration.Tree.{Tree}
-use Rattle.pst_tree.specs.View.{text_of}
+use Rattle.pst_grammar.specs.declared.declaration.Tree.{Tree}
+use Rattle.pst_grammar.specs.View.{text_of}
 use Rattle.pst_grammar.specs.Grammar.{HasTree}
 use Rattle.pst_parse.specs.declared.fault.ParseFault.{ParseFault}
 use Rattle.pst_parse.specs.declared.fault.ParseFault.TheVariants as grammatical

@@ -5,7 +5,7 @@ use Rattle.pst_lex.specs.declared.faults.LexFault.{LexFault}
 use Rattle.pst_lex.specs.declared.faults.LexFault.TheVariants as lexical
 use Rattle.pst_lex.specs.Lexing.{Faults}
 use Rattle.pst_lex.proofs.Unique.{one_lexing, one_fault, not_both}
-use Rattle.pst_tree.specs.Syntax as tree
+use Rattle.pst_grammar.specs.Syntax as tree
 use Rattle.pst_grammar.specs.Lexemes.{Lexeme, lexeme, lexemes}
 use Rattle.pst_grammar.specs.Forms.{IsProgram, IsShallow}
 use Rattle.pst_grammar.specs.Spelling.{Program, program}

@@ -1,6 +1,6 @@
 -- What is printed of a program.
 use Rattle.std.specs.Prelude.{◌≡◌, ℕ, List}
-use Rattle.pst_tree.specs.Syntax as tree
+use Rattle.pst_grammar.specs.Syntax as tree
 use Rattle.pst_program.specs.Syntax.{Routines}
 use Rattle.pst_typing.specs.Declarations.{NamedProgram}
 use Rattle.pst_notation.specs.Canonical.{canonical}

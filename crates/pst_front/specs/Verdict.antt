@@ -4,7 +4,7 @@ use Rattle.std.specs.Fmt.{decimal}
 use Rattle.pst_lex.specs.declared.types.Tokens.{Tokens}
 use Rattle.pst_lex.specs.declared.faults.LexFault.TheVariants as lexical
 use Rattle.pst_lex.specs.Lexing.{Lexes, Faults}
-use Rattle.pst_tree.specs.Syntax as tree
+use Rattle.pst_grammar.specs.Syntax as tree
 use Rattle.pst_grammar.specs.Lexemes.{Lexeme}
 use Rattle.pst_grammar.specs.Grammar.{HasTree, IsUnexpected, IsTooDeep, IsFirstFaultOn}
 use Rattle.pst_typing.specs.declared.fault.TypeFault.{TypeFault}

@@ -1,7 +1,7 @@
 //! The verdict on the text of a program.
 
 ghost use Rattle.std.specs.Prelude.{◌≡◌, ◌+◌, ◌<◌, ◌^◌, length, IfOk, MatchResult};
-ghost use Rattle.pst_tree.specs.View.{text_of};
+ghost use Rattle.pst_grammar.specs.View.{text_of};
 ghost use Rattle.pst_program.specs.View.{routines_of};
 ghost use Rattle.pst_program.specs.Typed.{IsTyped};
 ghost use Rattle.pst_typing.specs.View.{program_of};
@@ -10,10 +10,10 @@ ghost use Rattle.pst_front.specs.Verdict.{HasProgram, IsNoProgram};
 
 use crate::fault::{Fault, FaultKind};
 use pst_base::NoMemory;
+use pst_grammar::Tree;
 use pst_lex::{LexFault, find_fault};
 use pst_parse::{ParseFault, parse};
 use pst_program::Program;
-use pst_tree::Tree;
 use pst_types::check;
 use pst_typing::TypeFault;
 use std::alloc::Global;

@@ -3,13 +3,13 @@ use Rattle.std.specs.Prelude.{◌≡◌, ℕ, ℤ, ◌≤◌, ◌<◌, Bool, tru
 use Rattle.std.specs.Option.{option_map}
 use Rattle.std.proofs.Common.{suc, zero, refl, sym, ap, ◌∙◌, subst, arith}
 use Rattle.pst_base.specs.declared.names.Op.TheVariants as op
-use Rattle.pst_tree.specs.Syntax as tree
+use Rattle.pst_grammar.specs.Syntax as tree
 use Rattle.pst_grammar.specs.declared.lexeme.Label.{Label}
 use Rattle.pst_grammar.specs.declared.lexeme.Sign.TheVariants as sign
 use Rattle.pst_grammar.specs.declared.lexeme.Lead.TheVariants as lead
 use Rattle.pst_grammar.specs.Lexemes as token
 use Rattle.pst_grammar.specs.Lexemes.{Lexeme, Operator, Plain, Leading}
-use Rattle.pst_tree.specs.Depth.{item_height, item_nesting}
+use Rattle.pst_grammar.specs.Depth.{item_height, item_nesting}
 use Rattle.pst_grammar.specs.Forms.{Each, IsCount, IsFormedField, IsFormedItem}
 use Rattle.pst_grammar.specs.Spelling.{each, listed, Empty, phrases, spelled_block, TypeText, Int, type_word as plain_type, spelled_type, spelled_count, FieldText, Val, Ptr, field as plain_field, spelled_field, Parameter, parameter as plain_parameter, spelled_parameter, Local, local as plain_local, spelled_local, spelled_result, head, Item, Record, Root, Procedure, item as plain_item, spelled_item}
 use Rattle.pst_grammar.specs.Reader.{Read, Got, Bad, Fault, Unexpected, TooDeep, and_then, after, label, number, type_word, many}

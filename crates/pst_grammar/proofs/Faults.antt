@@ -1,9 +1,9 @@
 -- What reading a program answers, in the grammar's words.
 use Rattle.std.specs.Prelude.{◌≡◌, ℕ, ◌≤◌, ◌+◌, max, List, [], ◌∷◌, ◌++◌, map}
 use Rattle.std.proofs.Common.{inl, inr, refl, sym, ap, ◌∙◌, subst, arith, append-nil, append_assoc}
-use Rattle.pst_tree.specs.Syntax as tree
+use Rattle.pst_grammar.specs.Syntax as tree
 use Rattle.pst_grammar.specs.Lexemes.{Lexeme}
-use Rattle.pst_tree.specs.Depth.{greatest, item_height, item_nesting}
+use Rattle.pst_grammar.specs.Depth.{greatest, item_height, item_nesting}
 use Rattle.pst_grammar.specs.Forms.{Each, IsFormedItem, IsLanguage, IsProgram, IsShallow}
 use Rattle.pst_grammar.specs.Spelling.{Item, item as plain_item, Opening, First, Second, language, Program, program, spelled_program}
 use Rattle.pst_grammar.specs.Grammar as grammar

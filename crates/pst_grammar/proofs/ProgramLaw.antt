@@ -2,7 +2,7 @@
 use Rattle.std.specs.Prelude.{◌≡◌, ℕ, ℤ, pos, negsuc, Bool, true, false, bytes_eq, List, [], ◌∷◌, map, length}
 use Rattle.std.proofs.Common.{refl, sym, ap, subst, arith}
 use Rattle.std.proofs.lemmas.Slice.Eq.{bytes_eq-Decides}
-use Rattle.pst_tree.specs.Syntax as tree
+use Rattle.pst_grammar.specs.Syntax as tree
 use Rattle.pst_grammar.specs.declared.lexeme.Label.{Label}
 use Rattle.pst_grammar.specs.Lexemes as token
 use Rattle.pst_grammar.specs.Lexemes.{Lexeme}

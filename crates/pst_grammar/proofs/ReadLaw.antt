@@ -4,12 +4,12 @@ use Rattle.std.proofs.Common.{suc, zero, refl, sym, subst, arith}
 use Rattle.std.proofs.lemmas.Bool.Decides.{nat_tests}
 use Rattle.pst_base.specs.declared.names.Op.{Op}
 use Rattle.pst_base.specs.declared.names.Op.TheVariants as op
-use Rattle.pst_tree.specs.Syntax as tree
+use Rattle.pst_grammar.specs.Syntax as tree
 use Rattle.pst_grammar.specs.declared.lexeme.Label.{Label}
 use Rattle.pst_grammar.specs.declared.lexeme.Sign.TheVariants as sign
 use Rattle.pst_grammar.specs.Lexemes as token
 use Rattle.pst_grammar.specs.Lexemes.{Lexeme, Operator, Plain, Leading, Unknown}
-use Rattle.pst_tree.specs.Depth.{height}
+use Rattle.pst_grammar.specs.Depth.{height}
 use Rattle.pst_grammar.specs.Forms.{level, loosest_left, rank, IsFormed, IsPlace}
 use Rattle.pst_grammar.specs.Spelling.{Expr, Number, Null, Name, Parens, Field, Indexed, Negate, Not, Binary, expr, spelled, place_line}
 use Rattle.pst_grammar.specs.Reader.{Read, and_then, after, label}

@@ -3,7 +3,7 @@
 use Rattle.std.specs.Prelude.{◌≡◌, ℕ, ℤ, ◌<◌, Bool, true, false, cond, nat_le, List, [], ◌∷◌, ◌++◌, pos}
 use Rattle.std.proofs.Common.{suc, refl, sym, ap, ◌∙◌, subst, append_assoc, arith}
 use Rattle.std.proofs.lemmas.Bool.Decides.{nat_tests}
-use Rattle.pst_tree.specs.Syntax.{TypeWord}
+use Rattle.pst_grammar.specs.Syntax.{TypeWord}
 use Rattle.pst_grammar.specs.declared.lexeme.Label.{Label}
 use Rattle.pst_grammar.specs.declared.lexeme.Sign.{Sign}
 use Rattle.pst_grammar.specs.declared.lexeme.Sign.TheVariants as sign

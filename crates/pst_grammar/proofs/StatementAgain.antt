@@ -2,14 +2,14 @@
 use Rattle.std.specs.Prelude.{◌≡◌, ℕ, ◌≤◌, ◌<◌, ◌-◌, Bool, true, false, List, [], ◌∷◌, map, Option, Some, None}
 use Rattle.std.proofs.Common.{suc, zero, refl, sym, ap, ◌∙◌, arith}
 use Rattle.pst_base.specs.declared.names.Op.TheVariants as op
-use Rattle.pst_tree.specs.Syntax as tree
-use Rattle.pst_tree.specs.Syntax.{Phrase, Phrases}
+use Rattle.pst_grammar.specs.Syntax as tree
+use Rattle.pst_grammar.specs.Syntax.{Phrase, Phrases}
 use Rattle.pst_grammar.specs.declared.lexeme.Label.{Label}
 use Rattle.pst_grammar.specs.declared.lexeme.Sign.TheVariants as sign
 use Rattle.pst_grammar.specs.declared.lexeme.Lead.TheVariants as lead
 use Rattle.pst_grammar.specs.Lexemes as token
 use Rattle.pst_grammar.specs.Lexemes.{Lexeme, Plain, Leading, Operator}
-use Rattle.pst_tree.specs.Depth.{height, greatest}
+use Rattle.pst_grammar.specs.Depth.{height, greatest}
 use Rattle.pst_grammar.specs.Forms.{IsFormed, IsPlace, Each}
 use Rattle.pst_grammar.specs.Spelling.{Expr, Number, Null, Name, Parens, Field, Indexed, Negate, Not, Binary, expr, spelled, each, Statement, New, Call, Result, Write, Print, If, Either, While, Return, Block, Empty, Then, place_line, line_of, phrase, phrases, spelled_call, spelled_statement, spelled_block}
 use Rattle.pst_grammar.specs.Spelling as spelling

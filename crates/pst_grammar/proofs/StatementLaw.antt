@@ -1,15 +1,15 @@
 -- The law of reading statements and blocks, in the language j.
 use Rattle.std.specs.Prelude.{◌≡◌, ℕ, ◌≤◌, ◌<◌, ◌-◌, true, List, [], ◌∷◌, map, Option, Some, None}
 use Rattle.std.proofs.Common.{suc, zero, refl, sym, ap, subst, arith}
-use Rattle.pst_tree.specs.Syntax as tree
-use Rattle.pst_tree.specs.Syntax.{Phrase, Phrases}
+use Rattle.pst_grammar.specs.Syntax as tree
+use Rattle.pst_grammar.specs.Syntax.{Phrase, Phrases}
 use Rattle.pst_grammar.specs.declared.lexeme.Label.{Label}
 use Rattle.pst_grammar.specs.declared.lexeme.Sign.TheVariants as sign
 use Rattle.pst_grammar.specs.declared.lexeme.Lead.{Lead}
 use Rattle.pst_grammar.specs.declared.lexeme.Lead.TheVariants as lead
 use Rattle.pst_grammar.specs.Lexemes as token
 use Rattle.pst_grammar.specs.Lexemes.{Lexeme, Plain, Leading}
-use Rattle.pst_tree.specs.Depth.{height, greatest, phrase_height, phrases_height, phrase_nesting, phrases_nesting}
+use Rattle.pst_grammar.specs.Depth.{height, greatest, phrase_height, phrases_height, phrase_nesting, phrases_nesting}
 use Rattle.pst_grammar.specs.Forms.{IsFormed, IsPlace, Each, IsFormedPhrase, AreFormed}
 use Rattle.pst_grammar.specs.Spelling.{Expr, Null, Name, Field, Indexed, expr, spelled, each, listed, Statement, New, Call, Result, Write, Print, If, Either, While, Return, Block, Empty, Then, place_line, line_of, phrase, phrases, spelled_call, spelled_statement, spelled_block}
 use Rattle.pst_grammar.specs.Spelling as spelling

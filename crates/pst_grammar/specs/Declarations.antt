@@ -1,8 +1,8 @@
 -- Reading declarations, in the language l, and whole programs.
 use Rattle.std.specs.Prelude.{ℕ, ℤ, pos, negsuc, Bool, true, false, cond, nat_eq, bytes_eq, List, ◌∷◌, Option, Some, None}
 use Rattle.pst_base.specs.declared.names.Op.TheVariants as op
-use Rattle.pst_tree.specs.Syntax as tree
-use Rattle.pst_tree.specs.Syntax.{FieldText, LocalText, TypeWord, Item}
+use Rattle.pst_grammar.specs.Syntax as tree
+use Rattle.pst_grammar.specs.Syntax.{FieldText, LocalText, TypeWord, Item}
 use Rattle.pst_grammar.specs.declared.lexeme.Sign.TheVariants as sign
 use Rattle.pst_grammar.specs.declared.lexeme.Lead.TheVariants as lead
 use Rattle.pst_grammar.specs.Lexemes.{Lexeme, Name, Number, Operator, Plain, Leading}

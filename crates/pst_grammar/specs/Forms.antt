@@ -2,8 +2,8 @@
 use Rattle.std.specs.Prelude.{◌≡◌, ℕ, ℤ, ◌≤◌, ◌<◌, ◌⊎◌, List, [], ◌∷◌, Option, Some, None}
 use Rattle.pst_base.specs.declared.names.Op.{Op}
 use Rattle.pst_base.specs.declared.names.Op.TheVariants.{Add, Sub, Mul, Div, Rem, Equal, NotEqual, Less, LessEqual, Greater, GreaterEqual, And, Or}
-use Rattle.pst_tree.specs.Depth.{greatest, item_height, item_nesting}
-use Rattle.pst_tree.specs.Syntax.{Expr, Number, Null, Name, Parens, Field, Indexed, Negate, Not, Binary, Phrase, New, Call, Write, Print, If, Either, While, Return, Phrases, Empty, Then, FieldText, Val, Ptr, Item, Record, Root, Procedure, ProgramText}
+use Rattle.pst_grammar.specs.Depth.{greatest, item_height, item_nesting}
+use Rattle.pst_grammar.specs.Syntax.{Expr, Number, Null, Name, Parens, Field, Indexed, Negate, Not, Binary, Phrase, New, Call, Write, Print, If, Either, While, Return, Phrases, Empty, Then, FieldText, Val, Ptr, Item, Record, Root, Procedure, ProgramText}
 
 -- how tightly an operator binds: or, and, comparisons, sums, terms
 abbrev pub level : Op → ℕ

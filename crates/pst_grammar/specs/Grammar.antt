@@ -3,7 +3,7 @@ use Rattle.std.specs.Prelude.{◌≡◌, ℕ, List, [], ◌∷◌, ◌++◌}
 use Rattle.pst_lex.specs.declared.types.Token.{Token}
 use Rattle.pst_lex.specs.declared.types.Tokens.{Tokens}
 use Rattle.pst_lex.specs.Lexing.{Lexes}
-use Rattle.pst_tree.specs.Syntax as tree
+use Rattle.pst_grammar.specs.Syntax as tree
 use Rattle.pst_grammar.specs.Lexemes.{Lexeme, lexemes}
 use Rattle.pst_grammar.specs.Forms.{IsProgram, IsShallow}
 use Rattle.pst_grammar.specs.Spelling.{Program, program, spelled_program}

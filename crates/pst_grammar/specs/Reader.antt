@@ -1,7 +1,7 @@
 -- Reading from the front of a list of tokens.
 use Rattle.std.specs.Prelude.{ℕ, ℤ, Bool, true, false, cond, nat_le, List, [], ◌∷◌, length}
 use Rattle.std.proofs.Common.{suc, zero}
-use Rattle.pst_tree.specs.Syntax.{TypeWord, Int, Named}
+use Rattle.pst_grammar.specs.Syntax.{TypeWord, Int, Named}
 use Rattle.pst_grammar.specs.declared.lexeme.Label.{Label}
 use Rattle.pst_grammar.specs.declared.lexeme.Sign.{Sign}
 use Rattle.pst_grammar.specs.declared.lexeme.Sign.TheVariants as sign

@@ -3,11 +3,11 @@ use Rattle.std.specs.Prelude.{ℕ, Bool, cond, ◌&&◌, nat_le, nat_eq, List, �
 use Rattle.std.proofs.Common.{suc, zero}
 use Rattle.pst_base.specs.declared.names.Op.{Op}
 use Rattle.pst_base.specs.declared.names.Op.TheVariants as op
-use Rattle.pst_tree.specs.Syntax as tree
-use Rattle.pst_tree.specs.Syntax.{Expr}
+use Rattle.pst_grammar.specs.Syntax as tree
+use Rattle.pst_grammar.specs.Syntax.{Expr}
 use Rattle.pst_grammar.specs.declared.lexeme.Sign.TheVariants as sign
 use Rattle.pst_grammar.specs.Lexemes.{Lexeme, Name, Number, Operator, Plain}
-use Rattle.pst_tree.specs.Depth.{height}
+use Rattle.pst_grammar.specs.Depth.{height}
 use Rattle.pst_grammar.specs.Forms.{level, loosest_left, rank}
 use Rattle.pst_grammar.specs.Reader.{Read, Got, Bad, Unexpected, TooDeep, and_then, after, label, within}
 

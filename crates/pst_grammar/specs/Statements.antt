@@ -1,8 +1,8 @@
 -- Reading statements and blocks, in the language l.
 use Rattle.std.specs.Prelude.{ℕ, Bool, true, false, List, [], ◌∷◌, Option, Some, None}
 use Rattle.std.proofs.Common.{suc, zero}
-use Rattle.pst_tree.specs.Syntax as tree
-use Rattle.pst_tree.specs.Syntax.{Expr, Phrase, Phrases}
+use Rattle.pst_grammar.specs.Syntax as tree
+use Rattle.pst_grammar.specs.Syntax.{Expr, Phrase, Phrases}
 use Rattle.pst_grammar.specs.declared.lexeme.Sign.TheVariants as sign
 use Rattle.pst_grammar.specs.declared.lexeme.Lead.{Lead}
 use Rattle.pst_grammar.specs.declared.lexeme.Lead.TheVariants as lead

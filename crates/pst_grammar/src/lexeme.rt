@@ -1,6 +1,6 @@
 //! What the grammar's tokens are made of.
 
-use pst_tree::Identifier;
+use crate::Identifier;
 
 /// A name as it stands in the text, with its line.
 #[derive(Drop)]

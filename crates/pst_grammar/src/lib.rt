@@ -17,12 +17,32 @@
 //!     tokens_have_one_tree(&tokens);
 //!     reading_answers_as_the_grammar();
 //!     reading_needs_no_more_tokens();
+//!
+//! MERGE: one head is wanted; the above is that of `pst_grammar`, and the below of `pst_tree`.
+//!
+//! A program's text as a tree.
+//!
+//! The types are what the parser gives: declarations, statements and expressions as they were written, parentheses kept,
+//! with the line of each. The definitions beside them are the same tree without boxes, names as lists of bytes, and how
+//! deep a tree is: the height of an expression and the nesting of blocks are said here, once, for the parser and typing.
+//!
+//! For example `(a + 1)` is `Parens` of a `Binary`, of height 2 and so of depth 3.
 #![tactic(auto)]
 
+mod declaration;
+mod expression;
+mod identifier;
 mod laws;
 mod lexeme;
+mod statement;
+mod worked;
 
+pub use declaration::{Declaration, Declarations, Field, Fields, Local, Locals, Tree, TypeName};
+pub use expression::{Expression, Expressions};
+pub use identifier::Identifier;
 pub use laws::{
     reading_answers_as_the_grammar, reading_needs_no_more_tokens, tokens_have_one_tree,
 };
 pub use lexeme::{Label, Lead, Sign};
+pub use statement::{Block, Form, Statement};
+pub use worked::{depths_by_hand, limits_of_depth_by_hand};

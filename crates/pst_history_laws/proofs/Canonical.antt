@@ -10,7 +10,7 @@ use Rattle.pst_lex.specs.Words.{Word, Name, Number, Fixed, Unknown, word_of, fix
 use Rattle.pst_lex.specs.Lexing.{IsWord, IsToken, LexedAs, LexedTo, EndsAt, AreWords}
 use Rattle.pst_lex.specs.Lexing as lexing
 use Rattle.pst_lex.proofs.Unique.{its_words, are_words}
-use Rattle.pst_tree.specs.Syntax.{Item}
+use Rattle.pst_grammar.specs.Syntax.{Item}
 use Rattle.pst_grammar.specs.Spelling.{program}
 use Rattle.pst_grammar.specs.Lexemes.{lexeme_in, lexemes, marked_if}
 use Rattle.pst_typing.specs.declared.fault.TypeFault.{TypeFault}

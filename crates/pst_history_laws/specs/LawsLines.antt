@@ -1,7 +1,7 @@
 -- What does not depend on lines.
 use Rattle.std.specs.Prelude.{◌≡◌, ℕ, List, map}
 use Rattle.pst_base.specs.Heap.{Heap}
-use Rattle.pst_tree.specs.Syntax.{Item, ProgramText}
+use Rattle.pst_grammar.specs.Syntax.{Item, ProgramText}
 use Rattle.pst_program.specs.Syntax.{Routines}
 use Rattle.pst_program.specs.Outcome.{Task, outcome}
 use Rattle.pst_typing.specs.Declarations.{NamedProgram, checked}

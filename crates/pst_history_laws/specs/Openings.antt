@@ -1,7 +1,7 @@
 -- What a script makes of a history, and of the opening that is taken up from it.
 use Rattle.std.specs.Prelude.{◌≡◌, ℕ, List}
 use Rattle.pst_base.specs.Shape.{IsValid}
-use Rattle.pst_tree.specs.Syntax.{ProgramText}
+use Rattle.pst_grammar.specs.Syntax.{ProgramText}
 use Rattle.pst_typing.specs.Declarations.{NamedProgram}
 use Rattle.pst_front.specs.Verdict.{Judged, Accepted}
 use Rattle.pst_front.specs.Pages.{routines_in}

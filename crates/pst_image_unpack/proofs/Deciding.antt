@@ -1,6 +1,6 @@
 -- Of bytes one rule fails first, or all hold, and not both.
 use Rattle.std.proofs.Common.{◌≡◌, ℕ, ◌⊎◌, List, None, Result, Ok, Err, sym, ap, ◌∙◌, subst, ⊎_elim}
-use Rattle.pst_tree.specs.Syntax.{ProgramText}
+use Rattle.pst_grammar.specs.Syntax.{ProgramText}
 use Rattle.pst_typing.specs.Declarations.{NamedProgram}
 use Rattle.pst_notation.specs.Canonical.{canonical}
 use Rattle.pst_front.specs.declared.fault.Fault.{Fault}

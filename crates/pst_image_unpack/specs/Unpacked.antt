@@ -3,7 +3,7 @@ use Rattle.std.specs.Prelude.{◌≡◌, ℕ, ◌<◌, ◌⊎◌, List, length, 
 use Rattle.pst_base.specs.declared.names.RunNo.{RunNo}
 use Rattle.pst_program.specs.declared.program.Program.{Program}
 use Rattle.pst_typing.specs.View.{program_of}
-use Rattle.pst_tree.specs.Syntax.{ProgramText}
+use Rattle.pst_grammar.specs.Syntax.{ProgramText}
 use Rattle.pst_typing.specs.Declarations.{NamedProgram}
 use Rattle.pst_notation.specs.Canonical.{canonical}
 use Rattle.pst_front.specs.Verdict.{Judged, Accepted}

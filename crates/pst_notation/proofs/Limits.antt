@@ -1,8 +1,8 @@
 -- Lines do not matter to the grammar and the limits of depth.
 use Rattle.std.specs.Prelude.{◌≡◌, ℕ, ◌≤◌, max, List, [], ◌∷◌, map}
 use Rattle.std.proofs.Common.{suc, refl, sym, ap, ◌∙◌, subst}
-use Rattle.pst_tree.specs.Syntax.{Phrase, New, Call, Write, Print, If, Either, While, Return, Phrases, Empty, Then, FieldText, Val, Ptr, Item, Record, Root, Procedure, ProgramText}
-use Rattle.pst_tree.specs.Depth.{height, greatest, phrase_height, phrases_height, phrase_nesting, phrases_nesting, item_height, item_nesting}
+use Rattle.pst_grammar.specs.Syntax.{Phrase, New, Call, Write, Print, If, Either, While, Return, Phrases, Empty, Then, FieldText, Val, Ptr, Item, Record, Root, Procedure, ProgramText}
+use Rattle.pst_grammar.specs.Depth.{height, greatest, phrase_height, phrases_height, phrase_nesting, phrases_nesting, item_height, item_nesting}
 use Rattle.pst_grammar.specs.Forms.{Each, IsFormedPhrase, AreFormed, IsFormedField, IsFormedItem, IsProgram, IsShallow}
 use Rattle.pst_notation.specs.Lines.{phrase_lineless, block_lineless, field_lineless, item_lineless, lineless}
 

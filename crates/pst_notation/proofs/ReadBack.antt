@@ -10,9 +10,9 @@ use Rattle.pst_lex.specs.Words as lex
 use Rattle.pst_lex.specs.Lexing.{AreWords, LexedAs, Lexes, Faults}
 use Rattle.pst_lex.specs.Lexing as lexing
 use Rattle.pst_lex.proofs.Unique.{its_words, no_fault, are_words}
-use Rattle.pst_tree.specs.declared.declaration.Tree.{Tree}
-use Rattle.pst_tree.specs.View.{text_of}
-use Rattle.pst_tree.specs.Syntax as tree
+use Rattle.pst_grammar.specs.declared.declaration.Tree.{Tree}
+use Rattle.pst_grammar.specs.View.{text_of}
+use Rattle.pst_grammar.specs.Syntax as tree
 use Rattle.pst_grammar.specs.Lexemes.{lexeme_in, lexemes, marked_if}
 use Rattle.pst_grammar.specs.Spelling.{Program, program}
 use Rattle.pst_grammar.specs.Grammar.{Spells}

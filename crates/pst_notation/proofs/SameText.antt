@@ -3,7 +3,7 @@ use Rattle.std.specs.Prelude.{◌≡◌, ℕ, ◌+◌, List, [], ◌∷◌, ◌+
 use Rattle.std.specs.List.{flat_map}
 use Rattle.std.specs.Fmt.{signed_decimal}
 use Rattle.std.proofs.Common.{refl, ap}
-use Rattle.pst_tree.specs.Syntax.{Phrase, New, Call, Write, Print, If, Either, While, Return, Phrases, Empty, Then, FieldText, Val, Ptr, Item, Record, Root, Procedure, ProgramText}
+use Rattle.pst_grammar.specs.Syntax.{Phrase, New, Call, Write, Print, If, Either, While, Return, Phrases, Empty, Then, FieldText, Val, Ptr, Item, Record, Root, Procedure, ProgramText}
 use Rattle.pst_notation.specs.Texts.{line, listed, behind_comma, expr_text, phrase_text, phrases_text}
 use Rattle.pst_notation.specs.Canonical.{field_text, parameter_text, local_text, item_text, language_text, canonical}
 use Rattle.pst_notation.specs.Lines.{phrase_lineless, block_lineless, field_lineless, local_lineless, item_lineless, lineless}

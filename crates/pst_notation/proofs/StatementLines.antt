@@ -4,7 +4,7 @@ use Rattle.std.proofs.Common.{refl, ap, ◌∙◌}
 use Rattle.pst_lex.specs.declared.words.Mark.TheVariants as mark
 use Rattle.pst_lex.specs.Words as word
 use Rattle.pst_lex.specs.Words.{Word, Fixed}
-use Rattle.pst_tree.specs.Syntax as tree
+use Rattle.pst_grammar.specs.Syntax as tree
 use Rattle.pst_grammar.specs.declared.lexeme.Label.{Label}
 use Rattle.pst_grammar.specs.declared.lexeme.Sign.TheVariants as sign
 use Rattle.pst_grammar.specs.declared.lexeme.Lead.TheVariants as lead

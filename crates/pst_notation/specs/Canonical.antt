@@ -2,7 +2,7 @@
 use Rattle.std.specs.Prelude.{ℕ, ℤ, nat_eq, Bool, true, false, if◌then◌else◌, List, [], ◌++◌, codes, Option, Some, None}
 use Rattle.std.specs.List.{flat_map}
 use Rattle.std.specs.Fmt.{signed_decimal}
-use Rattle.pst_tree.specs.Syntax.{TypeWord, Int, Named, FieldText, Val, Ptr, LocalText, ProcedureText, Item, Record, Root, Procedure, Phrases, ProgramText}
+use Rattle.pst_grammar.specs.Syntax.{TypeWord, Int, Named, FieldText, Val, Ptr, LocalText, ProcedureText, Item, Record, Root, Procedure, Phrases, ProgramText}
 use Rattle.pst_notation.specs.Texts.{line, listed, phrases_text}
 
 -- ---- declarations

@@ -4,9 +4,9 @@ use Rattle.pst_lex.specs.declared.types.Token.{Token}
 use Rattle.pst_lex.specs.declared.types.Tokens.{Tokens}
 use Rattle.pst_lex.specs.declared.faults.LexFault.{LexFault}
 use Rattle.pst_lex.specs.Lexing.{AreWords, LexedAs, Lexes, Faults, words_of}
-use Rattle.pst_tree.specs.declared.declaration.Tree.{Tree}
-use Rattle.pst_tree.specs.Syntax as tree
-use Rattle.pst_tree.specs.View.{text_of}
+use Rattle.pst_grammar.specs.declared.declaration.Tree.{Tree}
+use Rattle.pst_grammar.specs.Syntax as tree
+use Rattle.pst_grammar.specs.View.{text_of}
 use Rattle.pst_grammar.specs.Lexemes.{lexemes}
 use Rattle.pst_grammar.specs.Forms.{IsProgram, IsShallow}
 use Rattle.pst_grammar.specs.Spelling.{Program, program}

@@ -1,6 +1,6 @@
 -- A program without its lines.
 use Rattle.std.specs.Prelude.{map}
-use Rattle.pst_tree.specs.Syntax.{Phrase, If, Either, While, Phrases, Empty, Then, FieldText, Val, Ptr, LocalText, Item, Record, Root, Procedure, ProgramText}
+use Rattle.pst_grammar.specs.Syntax.{Phrase, If, Either, While, Phrases, Empty, Then, FieldText, Val, Ptr, LocalText, Item, Record, Root, Procedure, ProgramText}
 
 -- each line is made 0
 abbrev mutual

@@ -3,14 +3,14 @@
 ghost use Rattle.std.specs.Prelude.{◌≡◌, ◌++◌, OnOk, IfOk, map, codes};
 ghost use Rattle.std.specs.Option.{option_map};
 ghost use Rattle.std.specs.List.{flat_map};
-ghost use Rattle.pst_tree.specs.View.{type_word_of, field_of, local_of, item_of, text_of, phrases_of};
+ghost use Rattle.pst_grammar.specs.View.{type_word_of, field_of, local_of, item_of, text_of, phrases_of};
 ghost use Rattle.pst_notation.specs.Texts.{line, listed, behind_comma};
 ghost use Rattle.pst_notation.specs.Canonical.{type_text, typed_text, elements_text, field_text, parameter_text, local_text, gives_text, sort_text, head_text, body_text, record_text, item_text, language_text, canonical};
 
 use crate::expressions::put_number;
 use crate::statements::{put_block, put_line};
 use pst_base::{NoMemory, Text};
-use pst_tree::{Block, Declaration, Field, Identifier, Local, Tree, TypeName};
+use pst_grammar::{Block, Declaration, Field, Identifier, Local, Tree, TypeName};
 use std::alloc::Global;
 
 /// Puts a type.

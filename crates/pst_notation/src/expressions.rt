@@ -2,13 +2,13 @@
 
 ghost use Rattle.std.specs.Prelude.{◌≡◌, ◌++◌, OnOk, codes};
 ghost use Rattle.std.specs.Fmt.{signed_decimal};
-ghost use Rattle.pst_tree.specs.Syntax as tree;
-ghost use Rattle.pst_tree.specs.View.{expr_of};
+ghost use Rattle.pst_grammar.specs.Syntax as tree;
+ghost use Rattle.pst_grammar.specs.View.{expr_of};
 ghost use Rattle.pst_notation.specs.Texts.{op_text, expr_text};
 
 use itoa::Buffer;
 use pst_base::{NoMemory, Op};
-use pst_tree::{Expression, Identifier};
+use pst_grammar::{Expression, Identifier};
 
 /// Puts a number.
 pub fn put_number(out: &mut Vec<u8>, number: i64) -> Result<(), NoMemory>

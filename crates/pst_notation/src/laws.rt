@@ -1,9 +1,9 @@
 //! Laws of the canonical text. No function here does anything: what it ensures is the law.
 
-ghost use Rattle.pst_tree.specs.View.{text_of};
+ghost use Rattle.pst_grammar.specs.View.{text_of};
 ghost use Rattle.pst_notation.specs.Laws.{HasItsTokens, HasNoFault, ReadsBack, ReadsAsNoOther, DropsLines, KeepsTokens, KeepsTree};
 
-use pst_tree::Tree;
+use pst_grammar::Tree;
 
 /// The canonical text of a tree whose names are names and whose numbers are numbers: it has the tokens of the tree, lines
 /// apart, and no fault, and is read as the tree, lines apart, and as no other. It does not depend on lines, so that

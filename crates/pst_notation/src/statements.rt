@@ -3,13 +3,13 @@
 ghost use Rattle.std.specs.Prelude.{◌≡◌, ◌++◌, ◌+◌, OnOk, IfOk, replicate, map, codes};
 ghost use Rattle.std.specs.List.{flat_map};
 ghost use Rattle.std.specs.Option.{option_map};
-ghost use Rattle.pst_tree.specs.Syntax as tree;
-ghost use Rattle.pst_tree.specs.View.{expr_of, phrase_of, phrases_of};
+ghost use Rattle.pst_grammar.specs.Syntax as tree;
+ghost use Rattle.pst_grammar.specs.View.{expr_of, phrase_of, phrases_of};
 ghost use Rattle.pst_notation.specs.Texts.{line, result_text, expr_text, phrase_text, phrases_text, guarded_text, listed, behind_comma};
 
 use crate::expressions::put_expression;
 use pst_base::NoMemory;
-use pst_tree::{Block, Expression, Form, Identifier, Statement};
+use pst_grammar::{Block, Expression, Form, Identifier, Statement};
 
 /// How many spaces a block stands further from the left than its statement.
 const STEP: usize = 2;

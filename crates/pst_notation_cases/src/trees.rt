@@ -1,15 +1,15 @@
 //! Trees with their canonical texts.
 
 use pst_base::NoMemory;
+use pst_grammar::{
+    Block, Declaration, Declarations, Expression, Form, Identifier, Locals, Statement, Tree,
+    TypeName,
+};
 use pst_notation::{
     canonical_text_keeps_what_was_read, canonical_text_reads_as_its_tree, print_program,
 };
 use pst_parse::parse;
 use pst_parse_expressions::Atom;
-use pst_tree::{
-    Block, Declaration, Declarations, Expression, Form, Identifier, Locals, Statement, Tree,
-    TypeName,
-};
 use std::alloc::Global;
 use std::test::Fail;
 

@@ -4,8 +4,8 @@ use Rattle.std.proofs.Common.{refl, sym, ap, ◌∙◌, subst, arith, length-app
 use Rattle.std.proofs.Math.Seq.{drop-append_seam, take-append_seam}
 use Rattle.std.proofs.lemmas.List.{length-map, map-append, drop-map}
 use Rattle.pst_lex.specs.declared.types.Tokens.{Tokens}
-use Rattle.pst_tree.specs.declared.declaration.Tree.{Tree}
-use Rattle.pst_tree.specs.View.{text_of}
+use Rattle.pst_grammar.specs.declared.declaration.Tree.{Tree}
+use Rattle.pst_grammar.specs.View.{text_of}
 use Rattle.pst_grammar.specs.Lexemes.{Lexeme, lexeme, lexemes}
 use Rattle.pst_grammar.specs.Forms.{IsShallow}
 use Rattle.pst_grammar.specs.Spelling.{Program, program}

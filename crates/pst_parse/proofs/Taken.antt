@@ -3,9 +3,9 @@ use Rattle.std.specs.Prelude.{◌≡◌, ℕ, ◌≤◌, ◌<◌, ◌-◌, ◌�
 use Rattle.std.proofs.Common.{refl, sym, ap, ◌∙◌, subst, arith, inr, append_assoc}
 use Rattle.std.proofs.Math.Seq.{drop-length}
 use Rattle.pst_parse_expressions.specs.declared.lexeme.Atom.{Atom}
-use Rattle.pst_tree.specs.declared.declaration.Declaration.{Declaration}
-use Rattle.pst_tree.specs.Syntax as tree
-use Rattle.pst_tree.specs.View.{item_of}
+use Rattle.pst_grammar.specs.declared.declaration.Declaration.{Declaration}
+use Rattle.pst_grammar.specs.Syntax as tree
+use Rattle.pst_grammar.specs.View.{item_of}
 use Rattle.pst_grammar.specs.Lexemes.{Lexeme}
 use Rattle.pst_parse_expressions.specs.View.{lexeme_of, lexemes_of}
 use Rattle.pst_grammar.specs.Reader.{Got, Bad, Fault, Unexpected, TooDeep}

@@ -11,9 +11,9 @@ use Rattle.pst_lex.specs.Lexing.{Lexes, EndsAt}
 use Rattle.pst_lex.specs.Taking.{BeginsAt, TakesFromLeft, TakesNext, bytes_left, line_reached}
 use Rattle.pst_lex.proofs.Taking.{ends_there, looked_more, looked_all}
 use Rattle.pst_lex.proofs.Rows.{none_left}
-use Rattle.pst_tree.specs.declared.declaration.Declaration.{Declaration}
-use Rattle.pst_tree.specs.Syntax as tree
-use Rattle.pst_tree.specs.View.{item_of}
+use Rattle.pst_grammar.specs.declared.declaration.Declaration.{Declaration}
+use Rattle.pst_grammar.specs.Syntax as tree
+use Rattle.pst_grammar.specs.View.{item_of}
 use Rattle.pst_grammar.specs.Lexemes.{Lexeme}
 use Rattle.pst_parse_expressions.specs.View.{atom_of, atoms_of, lexeme_of, lexemes_of}
 use Rattle.pst_grammar.specs.Reader.{Read, Got, Bad, Fault, Unexpected, TooDeep, and_then, many}

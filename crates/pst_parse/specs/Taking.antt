@@ -2,10 +2,10 @@
 use Rattle.std.specs.Prelude.{◌≡◌, ◌≤◌, ◌-◌, ◌⊎◌, ℕ, List, [], ◌∷◌, ◌++◌, length, drop, map, Result, Ok, Err}
 use Rattle.pst_parse_expressions.specs.declared.lexeme.Atom.{Atom}
 use Rattle.pst_lex.specs.Taking.{bytes_left}
-use Rattle.pst_tree.specs.declared.declaration.Declaration.{Declaration}
-use Rattle.pst_tree.specs.declared.declaration.Declarations.{Declarations}
-use Rattle.pst_tree.specs.Syntax as tree
-use Rattle.pst_tree.specs.View.{item_of}
+use Rattle.pst_grammar.specs.declared.declaration.Declaration.{Declaration}
+use Rattle.pst_grammar.specs.declared.declaration.Declarations.{Declarations}
+use Rattle.pst_grammar.specs.Syntax as tree
+use Rattle.pst_grammar.specs.View.{item_of}
 use Rattle.pst_grammar.specs.Lexemes.{Lexeme}
 use Rattle.pst_parse_expressions.specs.View.{atom_line, lexemes_of}
 use Rattle.pst_grammar.specs.Reader.{Read, Fault, Got, Bad, Unexpected, TooDeep, and_then, many}

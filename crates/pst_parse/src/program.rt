@@ -8,9 +8,9 @@ ghost use Rattle.pst_parse.specs.Taking.{StandsOn, Takes, Declares, Opens, HasRo
 
 use crate::fault::ParseFault;
 use crate::window::Window;
+use pst_grammar::{Declaration, Declarations, Tree};
 use pst_parse_declarations::{behind_two, behind_word, declaration, is_token};
 use pst_parse_expressions::{Atom, Stop};
-use pst_tree::{Declaration, Declarations, Tree};
 use std::alloc::Global;
 
 /// The greatest height of an expression or a place: its depth, counted from 1, is one more.

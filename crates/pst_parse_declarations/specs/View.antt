@@ -3,11 +3,11 @@ use Rattle.std.specs.Prelude.{◌≡◌, ℕ, true, false, bytes_eq, List, [], �
 use Rattle.std.specs.Borrow.{Bor}
 use Rattle.std.specs.Option.{option_map}
 use Rattle.pst_parse_expressions.specs.declared.lexeme.Atom.{Atom}
-use Rattle.pst_tree.specs.declared.declaration.Field.{Field}
-use Rattle.pst_tree.specs.declared.declaration.Local.{Local}
-use Rattle.pst_tree.specs.declared.declaration.TypeName.{TypeName}
-use Rattle.pst_tree.specs.Syntax as tree
-use Rattle.pst_tree.specs.View.{field_of, local_of, type_word_of}
+use Rattle.pst_grammar.specs.declared.declaration.Field.{Field}
+use Rattle.pst_grammar.specs.declared.declaration.Local.{Local}
+use Rattle.pst_grammar.specs.declared.declaration.TypeName.{TypeName}
+use Rattle.pst_grammar.specs.Syntax as tree
+use Rattle.pst_grammar.specs.View.{field_of, local_of, type_word_of}
 use Rattle.pst_grammar.specs.declared.lexeme.Sign.TheVariants as sign
 use Rattle.pst_grammar.specs.Lexemes.{Lexeme, Name}
 use Rattle.pst_grammar.specs.Spelling.{language_word}

@@ -2,7 +2,7 @@
 
 ghost use Rattle.std.specs.Prelude.{◌≡◌, ◌≤◌, ◌<◌, length, map, IfOk, MatchOption, Option};
 ghost use Rattle.std.specs.Option.{option_map};
-ghost use Rattle.pst_tree.specs.View.{field_of, local_of, item_of, type_word_of};
+ghost use Rattle.pst_grammar.specs.View.{field_of, local_of, item_of, type_word_of};
 ghost use Rattle.pst_grammar.specs.Reader.{expect as expecting, listed, many};
 ghost use Rattle.pst_grammar.specs.Declarations as read;
 ghost use Rattle.pst_parse_expressions.specs.View.{Gives, GivesRest, itself, lexemes_of};
@@ -10,10 +10,9 @@ ghost use Rattle.pst_parse_statements.specs.View.{begins};
 ghost use Rattle.pst_parse_declarations.specs.View.{BeginsWithWord, BeginsOtherwise, GivesBehind, fields_of, locals_of, result_of, heading as heading_of, signature_of};
 
 use pst_base::Op;
-use pst_grammar::{Lead, Sign};
+use pst_grammar::{Declaration, Field, Fields, Identifier, Lead, Local, Locals, Sign, TypeName};
 use pst_parse_expressions::{Atom, Lexeme, Stop, after, expect, name, number, peek, type_name};
 use pst_parse_statements::block;
-use pst_tree::{Declaration, Field, Fields, Identifier, Local, Locals, TypeName};
 use std::alloc::Global;
 
 /// What a procedure or query shows of itself to a caller.

@@ -3,8 +3,8 @@ use Rattle.std.specs.Prelude.{◌≡◌, ℕ, ℤ, ◌≤◌, ◌<◌, ◌+◌, 
 use Rattle.std.proofs.Common.{suc, zero, refl, ap, ◌∙◌, arith}
 use Rattle.pst_base.specs.declared.names.Op.{Op}
 use Rattle.pst_base.specs.declared.names.Op.TheVariants as op
-use Rattle.pst_tree.specs.Syntax as tree
-use Rattle.pst_tree.specs.Syntax.{Expr}
+use Rattle.pst_grammar.specs.Syntax as tree
+use Rattle.pst_grammar.specs.Syntax.{Expr}
 use Rattle.pst_grammar.specs.declared.lexeme.Label.{Label}
 use Rattle.pst_grammar.specs.declared.lexeme.Sign.{Sign}
 use Rattle.pst_grammar.specs.declared.lexeme.Sign.TheVariants as sign
@@ -12,7 +12,7 @@ use Rattle.pst_grammar.specs.declared.lexeme.Lead.{Lead}
 use Rattle.pst_grammar.specs.Lexemes.{Lexeme, Name, Number, Operator, Plain, Leading, Unknown}
 use Rattle.pst_parse_expressions.specs.declared.lexeme.Lexeme as code
 use Rattle.pst_parse_expressions.specs.declared.lexeme.Lexeme.TheVariants as seen
-use Rattle.pst_tree.specs.Depth.{height}
+use Rattle.pst_grammar.specs.Depth.{height}
 use Rattle.pst_grammar.specs.Forms.{level, rank}
 use Rattle.pst_grammar.specs.Reader.{Read, Got, Bad, Unexpected, TooDeep, and_then, expect, after, label, within}
 use Rattle.pst_grammar.specs.Reading.{goes_on, selected, more, operand, read, deeper, going}

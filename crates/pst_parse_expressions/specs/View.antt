@@ -6,10 +6,10 @@ use Rattle.pst_lex.specs.Words as word
 use Rattle.pst_lex.specs.Words.{Word, word_of}
 use Rattle.pst_parse_expressions.specs.declared.lexeme.Atom.{Atom}
 use Rattle.pst_parse_expressions.specs.declared.lexeme.Atom.TheVariants as atom
-use Rattle.pst_tree.specs.declared.expression.Expression.{Expression}
-use Rattle.pst_tree.specs.Syntax as tree
-use Rattle.pst_tree.specs.View.{expr_of}
-use Rattle.pst_tree.specs.Depth.{height}
+use Rattle.pst_grammar.specs.declared.expression.Expression.{Expression}
+use Rattle.pst_grammar.specs.Syntax as tree
+use Rattle.pst_grammar.specs.View.{expr_of}
+use Rattle.pst_grammar.specs.Depth.{height}
 use Rattle.pst_grammar.specs.declared.lexeme.Sign.{Sign}
 use Rattle.pst_grammar.specs.Lexemes.{Lexeme, Name, Number, Operator, Plain, Leading, Unknown, marked}
 use Rattle.pst_grammar.specs.Reader.{Read, Got, Bad, Unexpected, TooDeep, is}

@@ -1,9 +1,9 @@
 //! Reading expressions.
 
 ghost use Rattle.std.specs.Prelude.{◌≡◌, ◌+◌, ◌≤◌, ◌<◌, ◌∷◌, length, IfOk, IsTrue};
-ghost use Rattle.pst_tree.specs.View.{expr_of};
+ghost use Rattle.pst_grammar.specs.View.{expr_of};
 ghost use Rattle.pst_grammar.specs.Lexemes.{Plain, Operator};
-ghost use Rattle.pst_tree.specs.Depth.{height as height_of};
+ghost use Rattle.pst_grammar.specs.Depth.{height as height_of};
 ghost use Rattle.pst_grammar.specs.Forms.{level, loosest_left, rank};
 ghost use Rattle.pst_grammar.specs.Reading.{read, going, goes_on, deeper, selected as selecting};
 ghost use Rattle.pst_parse_expressions.specs.View.{GivesTree, lexemes_of};
@@ -12,8 +12,7 @@ use crate::lexeme::{Atom, Lexeme, peek};
 use crate::stop::Stop;
 use crate::token::{after, expect, name};
 use pst_base::Op;
-use pst_grammar::Sign;
-use pst_tree::{Expression, Identifier};
+use pst_grammar::{Expression, Identifier, Sign};
 use std::alloc::Global;
 
 /// How tightly an operator binds, from 0.

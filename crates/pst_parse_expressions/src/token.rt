@@ -4,12 +4,11 @@ ghost use Rattle.std.specs.Prelude.{◌≡◌, ◌<◌, ◌∷◌, length, IfOk,
 ghost use Rattle.pst_grammar.specs.Lexemes.{Plain};
 ghost use Rattle.pst_grammar.specs.Reader.{expect as expecting, label as labelling, number as numbering, type_word};
 ghost use Rattle.pst_parse_expressions.specs.View.{Gives, GivesRest, Lacks, itself, lexemes_of};
-ghost use Rattle.pst_tree.specs.View.{type_word_of};
+ghost use Rattle.pst_grammar.specs.View.{type_word_of};
 
 use crate::lexeme::{Atom, Lexeme, peek};
 use crate::stop::Stop;
-use pst_grammar::{Label, Sign};
-use pst_tree::{Identifier, TypeName};
+use pst_grammar::{Identifier, Label, Sign, TypeName};
 use std::alloc::Global;
 
 /// The tokens after a sign that has to come.

@@ -1,13 +1,13 @@
 -- Equations of reading statements, as the code takes its steps.
 use Rattle.std.specs.Prelude.{◌≡◌, ℕ, ◌≤◌, ◌<◌, ◌-◌, List, [], ◌∷◌, map}
 use Rattle.std.proofs.Common.{suc, zero, refl, sym, ap, ◌∙◌, arith}
-use Rattle.pst_tree.specs.declared.statement.Statement as code
-use Rattle.pst_tree.specs.declared.statement.Form.{Form}
-use Rattle.pst_tree.specs.declared.statement.Block.{Block-F as Block-G, roll-Block, out-roll-Block, Block', Row_of-Statement, end_of-Statement, more_of-Statement, items-the_row-Statement, items_shown-the_row-Statement-0, outs-Block'}
-use Rattle.pst_tree.specs.declared.statement.Block as coded
-use Rattle.pst_tree.specs.View.{phrase_of, phrases_of, row_of}
-use Rattle.pst_tree.specs.Syntax as tree
-use Rattle.pst_tree.specs.Syntax.{Expr, Phrases}
+use Rattle.pst_grammar.specs.declared.statement.Statement as code
+use Rattle.pst_grammar.specs.declared.statement.Form.{Form}
+use Rattle.pst_grammar.specs.declared.statement.Block.{Block-F as Block-G, roll-Block, out-roll-Block, Block', Row_of-Statement, end_of-Statement, more_of-Statement, items-the_row-Statement, items_shown-the_row-Statement-0, outs-Block'}
+use Rattle.pst_grammar.specs.declared.statement.Block as coded
+use Rattle.pst_grammar.specs.View.{phrase_of, phrases_of, row_of}
+use Rattle.pst_grammar.specs.Syntax as tree
+use Rattle.pst_grammar.specs.Syntax.{Expr, Phrases}
 use Rattle.pst_grammar.specs.declared.lexeme.Label.{Label}
 use Rattle.pst_parse_expressions.specs.declared.lexeme.Lexeme as lexed
 use Rattle.pst_parse_expressions.specs.declared.lexeme.Lexeme.TheVariants as seen

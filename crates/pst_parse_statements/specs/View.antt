@@ -1,9 +1,9 @@
 -- What the code's values are as definitions see them.
 use Rattle.std.specs.Prelude.{ℕ, Bool, false, List, [], ◌∷◌, map}
-use Rattle.pst_tree.specs.declared.expression.Expression.{Expression}
-use Rattle.pst_tree.specs.declared.statement.Statement.{Statement}
-use Rattle.pst_tree.specs.Syntax as tree
-use Rattle.pst_tree.specs.View.{expr_of, phrase_of}
+use Rattle.pst_grammar.specs.declared.expression.Expression.{Expression}
+use Rattle.pst_grammar.specs.declared.statement.Statement.{Statement}
+use Rattle.pst_grammar.specs.Syntax as tree
+use Rattle.pst_grammar.specs.View.{expr_of, phrase_of}
 use Rattle.pst_grammar.specs.declared.lexeme.Lead.{Lead}
 use Rattle.pst_grammar.specs.Lexemes.{Lexeme}
 use Rattle.pst_grammar.specs.Reader.{Read}

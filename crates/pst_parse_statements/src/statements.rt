@@ -1,16 +1,15 @@
 //! Reading statements and blocks, in a language, 1 or 2.
 
 ghost use Rattle.std.specs.Prelude.{◌≡◌, ◌≤◌, ◌<◌, ◌++◌, [], ◌∷◌, length, IfOk, OnOk, Option, Some, None};
-ghost use Rattle.pst_tree.specs.View.{expr_of, phrase_of, phrases_of};
+ghost use Rattle.pst_grammar.specs.View.{expr_of, phrase_of, phrases_of};
 ghost use Rattle.pst_grammar.specs.Reader.{within};
 ghost use Rattle.pst_grammar.specs.Reading.{read};
 ghost use Rattle.pst_grammar.specs.Statements.{ended as ending, arguments as listing, call as calling, made as making, set as setting, written as writing, assigned as assigning, returned as returning, braced as bracing, reading_statement, reading_block, starts_statement as starting, starts};
 ghost use Rattle.pst_parse_expressions.specs.View.{Gives, lexemes_of};
 ghost use Rattle.pst_parse_statements.specs.View.{exprs_of, stated_of, begins, reading_behind};
 
-use pst_grammar::{Lead, Sign};
+use pst_grammar::{Block, Expression, Expressions, Form, Identifier, Lead, Sign, Statement};
 use pst_parse_expressions::{Atom, Lexeme, Stop, after, expect, more, name, operand, peek};
-use pst_tree::{Block, Expression, Expressions, Form, Identifier, Statement};
 use std::alloc::{AllocError, Global};
 
 /// An expression and a `;`.

@@ -1,8 +1,8 @@
 -- What is answered is well typed, by the law of typing.
 use Rattle.std.proofs.Common.{List, Result, Ok, Err}
 use Rattle.std.specs.Prelude.{IfOk}
-use Rattle.pst_tree.specs.Syntax as tree
-use Rattle.pst_tree.specs.Depth.{IsShallow}
+use Rattle.pst_grammar.specs.Syntax as tree
+use Rattle.pst_grammar.specs.Depth.{IsShallow}
 use Rattle.pst_program.specs.Typed.{IsTyped}
 use Rattle.pst_program.specs.View.{routines_of}
 use Rattle.pst_program.specs.declared.program.Program.{Program}

@@ -2,10 +2,10 @@
 use Rattle.std.proofs.Common.{◌≡◌, ℕ, zero, suc, ◌<◌, List, [], ◌∷◌, ◌++◌, map, length, take, get_or, Result, Ok, Err, refl, ap, ◌∙◌, arith}
 use Rattle.std.proofs.Math.ListN.{set}
 use Rattle.std.proofs.Math.Seq.{take-append_seam}
-use Rattle.pst_tree.specs.Syntax as tree
-use Rattle.pst_tree.specs.View.{item_of, phrases_of}
-use Rattle.pst_tree.specs.declared.statement.Block.{Block}
-use Rattle.pst_tree.specs.declared.declaration.Declaration.{Declaration}
+use Rattle.pst_grammar.specs.Syntax as tree
+use Rattle.pst_grammar.specs.View.{item_of, phrases_of}
+use Rattle.pst_grammar.specs.declared.statement.Block.{Block}
+use Rattle.pst_grammar.specs.declared.declaration.Declaration.{Declaration}
 use Rattle.pst_typing.specs.declared.fault.TypeFault.{TypeFault}
 use Rattle.pst_typing.specs.Answers.{and_then, through}
 use Rattle.pst_typing.specs.Names.{Scope}

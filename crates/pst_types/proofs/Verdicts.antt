@@ -1,6 +1,6 @@
 -- Verdicts, which do not depend on what was made before.
 use Rattle.std.proofs.Common.{◌≡◌, ℕ, ℤ, List, [], ◌∷◌, ◌++◌, Option, None, Some, Result, Ok, Err, refl, sym, ap, ◌∙◌, subst}
-use Rattle.pst_tree.specs.Syntax as tree
+use Rattle.pst_grammar.specs.Syntax as tree
 use Rattle.pst_typing.specs.declared.fault.TypeFault.{TypeFault}
 use Rattle.pst_typing.specs.declared.fault.TypeFault.TheVariants.{Limit}
 use Rattle.pst_typing.specs.Answers.{and_then, found, through}

@@ -1,6 +1,6 @@
 -- What is judged of a record type, and what it adds to a program in the making.
 use Rattle.std.specs.Prelude.{ℕ, ℤ, List, [], ◌∷◌, ◌++◌, Result, Ok}
-use Rattle.pst_tree.specs.Syntax.{FieldText}
+use Rattle.pst_grammar.specs.Syntax.{FieldText}
 use Rattle.pst_typing.specs.declared.fault.TypeFault.{TypeFault}
 use Rattle.pst_typing.specs.declared.fault.TypeFault.TheVariants.{Limit}
 use Rattle.pst_typing.specs.Answers.{and_then, found, through}

@@ -1,9 +1,9 @@
 -- Declarations whose bodies were taken out of them, into a list of their own.
 use Rattle.std.specs.Prelude.{List, [], ◌∷◌, map}
-use Rattle.pst_tree.specs.Syntax as tree
-use Rattle.pst_tree.specs.View.{item_of, phrases_of}
-use Rattle.pst_tree.specs.declared.statement.Block.{Block}
-use Rattle.pst_tree.specs.declared.declaration.Declaration.{Declaration}
+use Rattle.pst_grammar.specs.Syntax as tree
+use Rattle.pst_grammar.specs.View.{item_of, phrases_of}
+use Rattle.pst_grammar.specs.declared.statement.Block.{Block}
+use Rattle.pst_grammar.specs.declared.declaration.Declaration.{Declaration}
 
 -- a declaration with this body, if it is a procedure; no other has a body
 abbrev pub with_body : tree.Phrases → tree.Item → tree.Item

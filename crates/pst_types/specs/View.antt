@@ -1,6 +1,6 @@
 -- What a program in the making stands for in the definitions.
 use Rattle.std.specs.Prelude.{map, Result}
-use Rattle.pst_tree.specs.Syntax.{Item}
+use Rattle.pst_grammar.specs.Syntax.{Item}
 use Rattle.pst_program.specs.View as typed_view
 use Rattle.pst_typing.specs.declared.fault.TypeFault.{TypeFault}
 use Rattle.pst_typing.specs.Declarations.{NamedProgram, declared}

@@ -5,9 +5,9 @@
 //! the declarations first, and each is let go as soon as its procedure is typed.
 
 ghost use Rattle.std.specs.Prelude.{◌≡◌, ℕ, List, Ok, IfOk, length, map};
-ghost use Rattle.pst_tree.specs.Syntax as tree;
-ghost use Rattle.pst_tree.specs.View as tree_view;
-ghost use Rattle.pst_tree.specs.Depth.{IsShallow};
+ghost use Rattle.pst_grammar.specs.Syntax as tree;
+ghost use Rattle.pst_grammar.specs.View as tree_view;
+ghost use Rattle.pst_grammar.specs.Depth.{IsShallow};
 ghost use Rattle.pst_program.specs.View.{routines_of};
 ghost use Rattle.pst_program.specs.Typed.{IsTyped};
 ghost use Rattle.pst_typing.specs.Answers.{through};
@@ -21,8 +21,8 @@ ghost use Rattle.pst_types.specs.Added.{members_judged, with_type};
 ghost use Rattle.pst_types.specs.Bodies.{item_with, items_with};
 
 use pst_base::{MOST_LIMIT, Shape, TypeShape};
+use pst_grammar::{Block, Declaration, Fields, Identifier, Tree, TypeName};
 use pst_program::{Program, TypeEntry, TypeNames, TypedProc, TypedProcs};
-use pst_tree::{Block, Declaration, Fields, Identifier, Tree, TypeName};
 use pst_types_procedures::{approve_procedure, as_procedure, judge_procedure, note};
 use pst_types_scope::{Members, Scope, Word, judge_fields, names_of, shape_of};
 use pst_typing::{TypeFault, accepted_programs_are_typed};

@@ -1,7 +1,7 @@
 -- What judged expressions in the code stand for in the definitions.
 use Rattle.std.specs.Prelude.{ℕ, Result, Ok}
-use Rattle.pst_tree.specs.Syntax as tree
-use Rattle.pst_tree.specs.View as tree_view
+use Rattle.pst_grammar.specs.Syntax as tree
+use Rattle.pst_grammar.specs.View as tree_view
 use Rattle.pst_program.specs.Syntax as program
 use Rattle.pst_program.specs.View.{expr_of}
 use Rattle.pst_typing.specs.declared.fault.TypeFault.{TypeFault}

@@ -1,8 +1,8 @@
 //! The types of expressions.
 
 ghost use Rattle.std.specs.Prelude.{◌≡◌, Ok};
-ghost use Rattle.pst_tree.specs.Syntax as tree;
-ghost use Rattle.pst_tree.specs.View.{expr_of};
+ghost use Rattle.pst_grammar.specs.Syntax as tree;
+ghost use Rattle.pst_grammar.specs.View.{expr_of};
 ghost use Rattle.pst_program.specs.View as typed_view;
 ghost use Rattle.pst_program.specs.Syntax as program;
 ghost use Rattle.pst_typing.specs.declared.fault.TypeFault.TheVariants as fault;
@@ -14,8 +14,8 @@ ghost use Rattle.pst_types_scope.specs.View.{kind_word, slot_seen, setting_of};
 ghost use Rattle.pst_types_expressions.specs.View.{sort_seen, judged_of, object_of, array_of, binary_of, negated, inverted, equality_of, operator_of};
 
 use pst_base::{Op, SlotNo, TypeNo};
+use pst_grammar::Expression;
 use pst_program::Typed;
-use pst_tree::Expression;
 use pst_types_scope::{Setting, Slot, Target, Word};
 use pst_typing::TypeFault;
 use std::alloc::Global;

@@ -1,6 +1,6 @@
 -- How many parameters there are.
 use Rattle.std.proofs.Common.{◌≡◌, ℕ, ◌≤◌, List, [], length, Ok, ap, ◌∙◌, arith, Bor}
-use Rattle.pst_tree.specs.Syntax.{LocalText}
+use Rattle.pst_grammar.specs.Syntax.{LocalText}
 use Rattle.pst_typing.specs.Answers.{through}
 use Rattle.pst_typing.specs.Names.{Scope}
 use Rattle.pst_typing.specs.Declarations.{variable}

@@ -1,7 +1,7 @@
 -- Declarations that are noted.
 use Rattle.std.proofs.Common.{◌≡◌, ℕ, ◌+◌, ◌<◌, Bool, true, List, [], ◌∷◌, ◌++◌, length, nat_lt, ℤ, Result, Ok, sym, ap, ◌∙◌}
 use Rattle.std.proofs.lemmas.Bool.{lt-ltb}
-use Rattle.pst_tree.specs.Syntax as tree
+use Rattle.pst_grammar.specs.Syntax as tree
 use Rattle.pst_typing.specs.declared.fault.TypeFault.{TypeFault}
 use Rattle.pst_typing.specs.Answers.{check}
 use Rattle.pst_typing.specs.Names.{Scope, RecordType, Signature, no_members, members_from, is_free}

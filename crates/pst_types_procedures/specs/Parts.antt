@@ -1,7 +1,7 @@
 -- A procedure in two parts, its names and its statements.
 use Rattle.std.specs.Prelude.{ℕ, ◌+◌, List, [], length, map, Result, Ok}
 use Rattle.std.specs.Option.{option_map}
-use Rattle.pst_tree.specs.Syntax as tree
+use Rattle.pst_grammar.specs.Syntax as tree
 use Rattle.pst_program.specs.Syntax as program
 use Rattle.pst_typing.specs.declared.fault.TypeFault.{TypeFault}
 use Rattle.pst_typing.specs.declared.fault.TypeFault.TheVariants.{Unknown}

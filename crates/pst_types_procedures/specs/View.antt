@@ -2,8 +2,8 @@
 use Rattle.std.specs.Prelude.{ℕ, List, map, Option, None, Some, Result}
 use Rattle.std.specs.Borrow.{Bor}
 use Rattle.std.specs.Option.{option_map}
-use Rattle.pst_tree.specs.Syntax as tree
-use Rattle.pst_tree.specs.View as tree_view
+use Rattle.pst_grammar.specs.Syntax as tree
+use Rattle.pst_grammar.specs.View as tree_view
 use Rattle.indexmap.specs.IndexMap.{IndexMap}
 use Rattle.pst_typing.specs.declared.fault.TypeFault.{TypeFault}
 use Rattle.pst_typing.specs.Answers.{through}

@@ -1,13 +1,13 @@
 //! What a declaration adds to the declared names, in the first walk.
 
 ghost use Rattle.std.specs.Prelude.{ℤ, map};
-ghost use Rattle.pst_tree.specs.Syntax as tree;
-ghost use Rattle.pst_tree.specs.View as tree_view;
+ghost use Rattle.pst_grammar.specs.Syntax as tree;
+ghost use Rattle.pst_grammar.specs.View as tree_view;
 ghost use Rattle.pst_types_procedures.specs.View.{procedure_text_of, Notes};
 
 use crate::procedure::{ProcedureHead, as_procedure};
 use pst_base::{MOST_ROOTS, ProcNo, TypeNo};
-use pst_tree::{Declaration, Fields, Identifier, TypeName};
+use pst_grammar::{Declaration, Fields, Identifier, TypeName};
 use pst_types_scope::{RecordType, Scope, Signature, Word, lay_out};
 use pst_typing::TypeFault;
 use std::alloc::Global;

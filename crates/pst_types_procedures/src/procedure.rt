@@ -2,9 +2,9 @@
 
 ghost use Rattle.std.specs.Prelude.{◌≡◌, ◌≤◌, Ok, Bool, OnOk, [], ◌∷◌, ◌++◌, map};
 ghost use Rattle.std.specs.Option.{option_map};
-ghost use Rattle.pst_tree.specs.Syntax.{Phrases};
-ghost use Rattle.pst_tree.specs.View as tree_view;
-ghost use Rattle.pst_tree.specs.View.{phrases_of};
+ghost use Rattle.pst_grammar.specs.Syntax.{Phrases};
+ghost use Rattle.pst_grammar.specs.View as tree_view;
+ghost use Rattle.pst_grammar.specs.View.{phrases_of};
 ghost use Rattle.pst_program.specs.View.{procedure_of};
 ghost use Rattle.pst_typing.specs.Declarations.{variable, is_new, is_result_known, procedure};
 ghost use Rattle.pst_typing.specs.Names.{kind_of, is_named};
@@ -15,8 +15,8 @@ ghost use Rattle.pst_types_procedures.specs.Parts.{counted, variables_in, stand_
 
 use indexmap::IndexMap;
 use pst_base::{Kind, Kinds, Text};
+use pst_grammar::{Block, Declaration, Identifier, Local, TypeName};
 use pst_program::TypedProc;
-use pst_tree::{Block, Declaration, Identifier, Local, TypeName};
 use pst_types_scope::{Scope, Setting, Variable, Word};
 use pst_types_statements::{approve_block, judge_block};
 use pst_typing::TypeFault;

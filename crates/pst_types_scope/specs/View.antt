@@ -2,8 +2,8 @@
 use Rattle.std.specs.Prelude.{ℕ, List, map}
 use Rattle.std.specs.Option.{option_map}
 use Rattle.std.specs.Borrow.{Bor}
-use Rattle.pst_tree.specs.Syntax as tree
-use Rattle.pst_tree.specs.View as tree_view
+use Rattle.pst_grammar.specs.Syntax as tree
+use Rattle.pst_grammar.specs.View as tree_view
 use Rattle.pst_typing.specs.Names as names
 use Rattle.pst_types_scope.specs.declared.names.Word.{Word}
 use Rattle.pst_types_scope.specs.declared.names.Word.TheVariants as word

@@ -1,7 +1,7 @@
 //! The fields of a record type.
 
 ghost use Rattle.std.specs.Prelude.{◌≡◌, ◌++◌, OnOk, Ok, IfOk, IfErr, map, replicate};
-ghost use Rattle.pst_tree.specs.View as tree_view;
+ghost use Rattle.pst_grammar.specs.View as tree_view;
 ghost use Rattle.pst_typing.specs.declared.fault.TypeFault.TheVariants as fault;
 ghost use Rattle.pst_typing.specs.Answers.{through};
 ghost use Rattle.pst_typing.specs.Declarations.{elements_with, field, targets_of, shape_of, names_of};
@@ -13,8 +13,8 @@ use crate::names::{
     Members, Scope, Word, elements_at, elements_of, is_length, length_in, line_of, name_of,
 };
 use pst_base::{MOST_ELEMENTS, SlotNo, Targets, Text, TypeNo, TypeShape};
+use pst_grammar::Field;
 use pst_program::{FieldName, FieldNames, TypeEntry};
-use pst_tree::Field;
 use pst_typing::TypeFault;
 use std::alloc::{AllocError, Global};
 

@@ -3,13 +3,13 @@
 ghost use Rattle.std.specs.Prelude.{◌≡◌, ◌+◌, OnOk, Bool};
 ghost use Rattle.std.specs.Option.{option_map};
 ghost use Rattle.pst_base.specs.Shape.{root_type};
-ghost use Rattle.pst_tree.specs.View.{type_word_of, field_of};
+ghost use Rattle.pst_grammar.specs.View.{type_word_of, field_of};
 ghost use Rattle.pst_typing.specs.Names.{bounded, array_length, is_length_of, length_in, elements_of, named, no_members, with_member, with_field, is_named, slot_in, slot_of, field_line, field_name, field_kind, field_elements, with_new_member, nothing_declared, is_free, number_of, kind_of, is_known, field_named, variable};
 ghost use Rattle.pst_types_scope.specs.View.{kind_word, member_of, members_of, slot_seen, record_type_of, signature_of, scope_of, local_of, setting_of, variable_of};
 
 use indexmap::IndexMap;
 use pst_base::{Kind, LONGEST_ARRAY, ProcNo, SlotNo, TypeNo};
-use pst_tree::{Field, Local, TypeName};
+use pst_grammar::{Field, Local, TypeName};
 use std::alloc::{AllocError, Global};
 
 /// A type as it was written: `int`, or the name of a record type.

@@ -1,9 +1,9 @@
 -- Statements and arguments, one after another.
 use Rattle.std.proofs.Common.{◌≡◌, ℕ, ◌+◌, ◌<◌, List, [], ◌∷◌, ◌++◌, length, drop, get_or, Result, Ok, Err, refl, sym, ap, ◌∙◌}
-use Rattle.pst_tree.specs.Syntax as tree
-use Rattle.pst_tree.specs.View as tree_view
-use Rattle.pst_tree.specs.declared.statement.Block as code
-use Rattle.pst_tree.specs.declared.statement.Statement.{Statement}
+use Rattle.pst_grammar.specs.Syntax as tree
+use Rattle.pst_grammar.specs.View as tree_view
+use Rattle.pst_grammar.specs.declared.statement.Block as code
+use Rattle.pst_grammar.specs.declared.statement.Statement.{Statement}
 use Rattle.pst_program.specs.Syntax as program
 use Rattle.pst_program.specs.View as typed_view
 use Rattle.pst_program.specs.declared.block.TypedBlock as typed

@@ -2,16 +2,16 @@
 
 ghost use Rattle.std.specs.Prelude.{◌≡◌, length, map};
 ghost use Rattle.std.specs.Option.{option_map};
-ghost use Rattle.pst_tree.specs.Syntax as tree;
-ghost use Rattle.pst_tree.specs.View.{expr_of, local_of, phrase_of, phrases_of};
+ghost use Rattle.pst_grammar.specs.Syntax as tree;
+ghost use Rattle.pst_grammar.specs.View.{expr_of, local_of, phrase_of, phrases_of};
 ghost use Rattle.pst_program.specs.View as typed_view;
 ghost use Rattle.pst_program.specs.View.{action_of, actions_of};
 ghost use Rattle.pst_typing.specs.Statements.{assigned, stored, element_stored, written, made, arguments, received, called, statement, block};
 ghost use Rattle.pst_typing.specs.View.{Answers, Approves};
 ghost use Rattle.pst_types_scope.specs.View.{kind_word, setting_of, variable_of, signature_of};
 
+use pst_grammar::{Block, Expression, Form, Identifier, Local};
 use pst_program::{TypedBlock, TypedForm, TypedList, TypedStatement};
-use pst_tree::{Block, Expression, Form, Identifier, Local};
 use pst_types_expressions::{Sort, array_field, as_object, fit, judge, of_sort, plain_field};
 use pst_types_scope::{Setting, Signature, Target, Word};
 use pst_typing::TypeFault;

@@ -7,8 +7,8 @@ use Rattle.pst_base.specs.declared.names.TypeNo.{TypeNo}
 use Rattle.pst_base.specs.declared.shape.TypeShape.{TypeShape}
 use Rattle.pst_base.specs.declared.shape.TheConstants.{MOST_ROOTS, MOST_LIMIT, MOST_ELEMENTS}
 use Rattle.pst_base.specs.Shape as shape
-use Rattle.pst_tree.specs.Syntax as tree
-use Rattle.pst_tree.specs.Depth as depth
+use Rattle.pst_grammar.specs.Syntax as tree
+use Rattle.pst_grammar.specs.Depth as depth
 use Rattle.pst_program.specs.Syntax as program
 use Rattle.pst_program.specs.Typed as typed
 use Rattle.pst_program.specs.Procedures.{NamesDiffer}

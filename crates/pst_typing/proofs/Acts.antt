@@ -4,7 +4,7 @@ use Rattle.std.specs.Option.{option_map}
 use Rattle.std.proofs.lemmas.Bool.Decides.{nat_tests}
 use Rattle.pst_base.specs.declared.names.Kind.{Kind}
 use Rattle.pst_base.specs.declared.names.Kind.TheVariants as kinds
-use Rattle.pst_tree.specs.Syntax as tree
+use Rattle.pst_grammar.specs.Syntax as tree
 use Rattle.pst_program.specs.Syntax as program
 use Rattle.pst_program.specs.Typed as typed
 use Rattle.pst_program.specs.Procedures.{MayWrite}

@@ -12,7 +12,7 @@ use Rattle.pst_base.specs.declared.names.Kind.TheVariants as kinds
 use Rattle.pst_base.specs.declared.shape.TypeShape.{TypeShape}
 use Rattle.pst_base.specs.declared.shape.TheConstants.{MOST_ELEMENTS, LONGEST_ARRAY}
 use Rattle.pst_base.specs.Shape as shape
-use Rattle.pst_tree.specs.Syntax.{TypeWord, Int, Named}
+use Rattle.pst_grammar.specs.Syntax.{TypeWord, Int, Named}
 use Rattle.pst_program.specs.Typed as typed
 use Rattle.pst_typing.specs.Names.{Member, Members, no_members, with_member, Scope, Slot, named, bounded, elements_of, slot_among, slot_of, slot_in, number_of, kind_of, is_known}
 use Rattle.pst_typing.specs.Declarations.{with_targets, targets_of, shape_of}

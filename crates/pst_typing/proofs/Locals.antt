@@ -3,7 +3,7 @@ use Rattle.std.proofs.Common.{◌≡◌, ⊎_elim, ℕ, ◌<◌, true, List, [],
 use Rattle.std.proofs.lemmas.List.{append-nil, length-map}
 use Rattle.pst_base.specs.declared.names.Kind.{Kind}
 use Rattle.pst_base.specs.declared.shape.TypeShape.{TypeShape}
-use Rattle.pst_tree.specs.Syntax.{TypeWord, Int, Named, LocalText}
+use Rattle.pst_grammar.specs.Syntax.{TypeWord, Int, Named, LocalText}
 use Rattle.pst_program.specs.Typed as typed
 use Rattle.pst_typing.specs.declared.fault.TypeFault.{TypeFault}
 use Rattle.pst_typing.specs.declared.fault.TypeFault.TheVariants.{TooMany, Duplicate, Unknown}

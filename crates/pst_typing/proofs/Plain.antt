@@ -4,7 +4,7 @@ use Rattle.pst_base.specs.declared.names.Op.{Op}
 use Rattle.pst_base.specs.declared.names.Op.TheVariants.{Add, Sub, Mul, Div, Rem, Equal, NotEqual, Less, LessEqual, Greater, GreaterEqual, And, Or}
 use Rattle.pst_base.specs.declared.names.TypeNo.{TypeNo}
 use Rattle.pst_base.specs.declared.shape.TheConstants.{MOST_ROOTS}
-use Rattle.pst_tree.specs.Syntax as tree
+use Rattle.pst_grammar.specs.Syntax as tree
 use Rattle.pst_program.specs.Syntax as program
 use Rattle.pst_program.specs.declared.program.FieldName.{FieldName}
 use Rattle.pst_typing.specs.declared.fault.TypeFault.{TypeFault}

@@ -11,7 +11,7 @@ use Rattle.pst_base.specs.declared.names.Kind.TheVariants as kinds
 use Rattle.pst_base.specs.declared.shape.TypeShape.{TypeShape}
 use Rattle.pst_base.specs.declared.shape.TheConstants.{MOST_ROOTS}
 use Rattle.pst_base.specs.Shape as shape
-use Rattle.pst_tree.specs.Syntax as tree
+use Rattle.pst_grammar.specs.Syntax as tree
 use Rattle.pst_program.specs.Syntax as program
 use Rattle.pst_program.specs.Typed as typed
 use Rattle.pst_program.specs.Meaning.{is_target}

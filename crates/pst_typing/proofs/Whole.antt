@@ -4,8 +4,8 @@ use Rattle.std.proofs.lemmas.Bool.{ltb-true, leb-true}
 use Rattle.std.proofs.lemmas.Slice.Eq.{bytes_eq-Decides}
 use Rattle.pst_base.specs.declared.shape.TypeShape.{TypeShape}
 use Rattle.pst_base.specs.declared.shape.TheConstants.{MOST_ROOTS, MOST_LIMIT, MOST_ELEMENTS}
-use Rattle.pst_tree.specs.Syntax as tree
-use Rattle.pst_tree.specs.Depth as depth
+use Rattle.pst_grammar.specs.Syntax as tree
+use Rattle.pst_grammar.specs.Depth as depth
 use Rattle.pst_program.specs.Syntax as program
 use Rattle.pst_program.specs.Typed.{is_length}
 use Rattle.pst_typing.specs.declared.fault.TypeFault.{TypeFault}

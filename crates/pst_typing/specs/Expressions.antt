@@ -3,7 +3,7 @@ use Rattle.std.specs.Prelude.{ℕ, Bool, true, false, not, ◌&&◌, is_some, Li
 use Rattle.pst_base.specs.declared.names.Op.{Op}
 use Rattle.pst_base.specs.declared.names.Op.TheVariants.{Add, Sub, Mul, Div, Rem, Equal, NotEqual, Less, LessEqual, Greater, GreaterEqual, And, Or}
 use Rattle.pst_base.specs.declared.names.TypeNo.{TypeNo}
-use Rattle.pst_tree.specs.Syntax as tree
+use Rattle.pst_grammar.specs.Syntax as tree
 use Rattle.pst_program.specs.Syntax as program
 use Rattle.pst_typing.specs.declared.fault.TypeFault.{TypeFault}
 use Rattle.pst_typing.specs.declared.fault.TypeFault.TheVariants.{Unknown, Mismatch}

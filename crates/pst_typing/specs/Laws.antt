@@ -1,7 +1,7 @@
 -- A law of typing.
 use Rattle.std.specs.Prelude.{◌≡◌, List, Ok}
-use Rattle.pst_tree.specs.Syntax as tree
-use Rattle.pst_tree.specs.Depth.{IsShallow}
+use Rattle.pst_grammar.specs.Syntax as tree
+use Rattle.pst_grammar.specs.Depth.{IsShallow}
 use Rattle.pst_program.specs.Syntax as program
 use Rattle.pst_program.specs.Typed.{IsTyped}
 use Rattle.pst_typing.specs.Declarations.{NamedProgram, checked}

@@ -7,7 +7,7 @@ use Rattle.pst_base.specs.declared.names.Kind.TheVariants as kind
 use Rattle.pst_base.specs.declared.names.TypeNo.{TypeNo}
 use Rattle.pst_base.specs.declared.names.ProcNo.{ProcNo}
 use Rattle.pst_base.specs.Shape.{root_type}
-use Rattle.pst_tree.specs.Syntax.{TypeWord, Int, Named, FieldText, Val, Ptr, LocalText}
+use Rattle.pst_grammar.specs.Syntax.{TypeWord, Int, Named, FieldText, Val, Ptr, LocalText}
 use Rattle.pst_program.specs.Typed.{is_length}
 
 -- what a list of names has for a name: the first counts

@@ -3,7 +3,7 @@ use Rattle.std.specs.Prelude.{◌≡◌, ℕ, ℤ, List, [], ◌∷◌, map, cod
 use Rattle.std.specs.List.{range_with_len}
 use Rattle.pst_base.specs.declared.names.Kind.TheVariants as kind
 use Rattle.pst_base.specs.declared.names.Op.TheVariants as op
-use Rattle.pst_tree.specs.Syntax as tree
+use Rattle.pst_grammar.specs.Syntax as tree
 use Rattle.pst_program.specs.Syntax as program
 use Rattle.pst_typing.specs.declared.fault.TypeFault.TheVariants.{Unknown, Duplicate, Mismatch, Limit, TooMany, QueryWrites}
 use Rattle.pst_typing.specs.Declarations.{NamedProgram, checked}

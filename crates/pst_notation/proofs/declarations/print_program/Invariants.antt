@@ -1,6 +1,6 @@
 use Rattle.std.proofs.Common.{◌≡◌, ◌++◌, drop, map}
 use Rattle.std.specs.List.{flat_map}
-use Rattle.pst_tree.specs.View.{item_of}
+use Rattle.pst_grammar.specs.View.{item_of}
 use Rattle.pst_notation.specs.Canonical.{item_text, language_text}
 use Rattle.pst_notation.proofs.declarations.print_program.Given as goal
 

@@ -1,6 +1,6 @@
 use Rattle.std.proofs.Common.{◌≡◌, ◌++◌, drop, map}
 use Rattle.std.specs.List.{flat_map}
-use Rattle.pst_tree.specs.View.{field_of}
+use Rattle.pst_grammar.specs.View.{field_of}
 use Rattle.pst_notation.specs.Canonical.{field_text}
 use Rattle.pst_notation.proofs.declarations.put_fields.Given as goal
 

@@ -1,6 +1,6 @@
 use Rattle.std.proofs.Common.{◌≡◌, ◌++◌, drop, map}
 use Rattle.std.specs.List.{flat_map}
-use Rattle.pst_tree.specs.View.{local_of}
+use Rattle.pst_grammar.specs.View.{local_of}
 use Rattle.pst_notation.specs.Canonical.{local_text}
 use Rattle.pst_notation.proofs.declarations.put_locals.Given as goal
 

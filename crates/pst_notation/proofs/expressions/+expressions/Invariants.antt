@@ -1,5 +1,5 @@
 use Rattle.std.proofs.Common.{◌+◌, ◌*◌, max}
-use Rattle.pst_tree.specs.declared.expression.Expression.{size-Expression}
+use Rattle.pst_grammar.specs.declared.expression.Expression.{size-Expression}
 use Rattle.pst_notation.proofs.expressions.+expressions.Given as goal
 
 abbrev pub decreases-put_expression : goal.decreases-put_expression

@@ -1,4 +1,4 @@
-use Rattle.pst_tree.specs.View.{text_of}
+use Rattle.pst_grammar.specs.View.{text_of}
 use Rattle.pst_notation.proofs.ReadBack.{has_its_tokens, has_no_fault, reads_back, reads_as_no_other, drops_lines}
 use Rattle.pst_notation.proofs.laws.canonical_text_reads_as_its_tree.Goals as goal
 

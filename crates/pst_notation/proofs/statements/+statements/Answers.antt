@@ -1,6 +1,6 @@
 use Rattle.std.proofs.Common.{◌++◌, ap, ◌∙◌, sym}
-use Rattle.pst_tree.specs.Syntax.{Phrases}
-use Rattle.pst_tree.specs.View.{statements_of}
+use Rattle.pst_grammar.specs.Syntax.{Phrases}
+use Rattle.pst_grammar.specs.View.{statements_of}
 use Rattle.pst_notation.specs.Texts.{phrases_text}
 use Rattle.pst_notation.proofs.Blocks.{block_is_list}
 use Rattle.pst_notation.proofs.statements.+statements.Goals as goal

@@ -1,7 +1,7 @@
 use Rattle.std.proofs.Common.{◌≡◌, ◌+◌, ◌*◌, ◌++◌, drop}
-use Rattle.pst_tree.specs.declared.statement.Block.{size-Block}
-use Rattle.pst_tree.specs.declared.statement.Statement.{size-Statement}
-use Rattle.pst_tree.specs.View.{phrases_of, statements_of}
+use Rattle.pst_grammar.specs.declared.statement.Block.{size-Block}
+use Rattle.pst_grammar.specs.declared.statement.Statement.{size-Statement}
+use Rattle.pst_grammar.specs.View.{phrases_of, statements_of}
 use Rattle.pst_notation.specs.Texts.{phrases_text}
 use Rattle.pst_notation.proofs.statements.+statements.Given as goal
 

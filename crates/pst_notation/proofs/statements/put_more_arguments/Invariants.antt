@@ -1,6 +1,6 @@
 use Rattle.std.proofs.Common.{◌≡◌, ◌++◌, drop, map}
 use Rattle.std.specs.List.{flat_map}
-use Rattle.pst_tree.specs.View.{expr_of}
+use Rattle.pst_grammar.specs.View.{expr_of}
 use Rattle.pst_notation.specs.Texts.{expr_text, behind_comma}
 use Rattle.pst_notation.proofs.statements.put_more_arguments.Given as goal
 

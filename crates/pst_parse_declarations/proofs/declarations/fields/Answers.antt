@@ -1,6 +1,6 @@
 use Rattle.std.proofs.Common.{arith}
 use Rattle.std.proofs.lemmas.Result.{err_from_is_err_and}
-use Rattle.pst_tree.specs.View.{field_of}
+use Rattle.pst_grammar.specs.View.{field_of}
 use Rattle.pst_grammar.specs.Declarations.{field, starts_field}
 use Rattle.pst_parse_statements.proofs.Loops.{loop_more, loop_done, loop_bad}
 use Rattle.pst_grammar.proofs.DeclarationLaw.{field_short}

@@ -1,6 +1,6 @@
 use Rattle.std.proofs.Common.{◌≡◌, ◌≤◌, length}
 use Rattle.std.specs.Prelude.{map}
-use Rattle.pst_tree.specs.View.{field_of}
+use Rattle.pst_grammar.specs.View.{field_of}
 use Rattle.pst_parse_expressions.specs.View.{lexemes_of}
 use Rattle.pst_grammar.specs.Reader.{many}
 use Rattle.pst_grammar.specs.Declarations.{field, starts_field}

@@ -1,6 +1,6 @@
 use Rattle.std.proofs.Common.{ap, arith}
 use Rattle.std.proofs.lemmas.Result.{err_from_is_err_and}
-use Rattle.pst_tree.specs.View.{local_of}
+use Rattle.pst_grammar.specs.View.{local_of}
 use Rattle.pst_grammar.specs.Declarations.{parameter}
 use Rattle.pst_parse_statements.proofs.Loops.{comma_more, comma_bad}
 use Rattle.pst_grammar.proofs.DeclarationAgain.{parameter_short}

@@ -1,5 +1,5 @@
 use Rattle.std.proofs.lemmas.Result.{err_from_is_err_and}
-use Rattle.pst_tree.specs.View.{item_of}
+use Rattle.pst_grammar.specs.View.{item_of}
 use Rattle.pst_grammar.specs.declared.lexeme.Sign.TheVariants as sign
 use Rattle.pst_parse_expressions.specs.View.{lexemes_of}
 use Rattle.pst_parse_statements.proofs.Loops.{stops_bind}

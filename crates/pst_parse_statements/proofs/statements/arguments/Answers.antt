@@ -1,6 +1,6 @@
 use Rattle.std.proofs.Common.{arith}
 use Rattle.std.proofs.lemmas.Result.{err_from_is_err_and}
-use Rattle.pst_tree.specs.View.{expr_of}
+use Rattle.pst_grammar.specs.View.{expr_of}
 use Rattle.pst_grammar.specs.Reading.{read}
 use Rattle.pst_parse_statements.proofs.Loops.{comma_more, comma_bad, comma_closed, comma_unclosed}
 use Rattle.pst_grammar.proofs.StatementAgain.{argument_short}

@@ -1,6 +1,6 @@
 use Rattle.std.proofs.Common.{◌≡◌, ◌<◌, length}
 use Rattle.std.specs.Prelude.{map}
-use Rattle.pst_tree.specs.View.{expr_of}
+use Rattle.pst_grammar.specs.View.{expr_of}
 use Rattle.pst_parse_expressions.specs.View.{lexemes_of}
 use Rattle.pst_grammar.specs.Reading.{read}
 use Rattle.pst_grammar.specs.Statements.{arguments}

@@ -1,5 +1,5 @@
 use Rattle.std.proofs.Common.{map, ap}
-use Rattle.pst_tree.specs.View.{item_of, items_of}
+use Rattle.pst_grammar.specs.View.{item_of, items_of}
 use Rattle.pst_typing.specs.Declarations.{root_alone}
 use Rattle.pst_types_scope.specs.View.{scope_of}
 use Rattle.pst_types.proofs.Verdicts.{approved_checked}

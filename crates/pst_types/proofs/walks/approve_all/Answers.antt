@@ -1,6 +1,6 @@
 use Rattle.std.proofs.Common.{◌≡◌, length, refl, arith}
 use Rattle.std.proofs.lemmas.Result.{err_from_is_err_and}
-use Rattle.pst_tree.specs.View.{item_of}
+use Rattle.pst_grammar.specs.View.{item_of}
 use Rattle.pst_typing.specs.Declarations.{declared}
 use Rattle.pst_types_scope.specs.View.{scope_of}
 use Rattle.pst_typing.proofs.Through.{goes_on, fails_there, at_end}

@@ -1,5 +1,5 @@
 use Rattle.std.proofs.Common.{map}
-use Rattle.pst_tree.specs.View.{item_of}
+use Rattle.pst_grammar.specs.View.{item_of}
 use Rattle.pst_typing.specs.Answers.{through}
 use Rattle.pst_typing.specs.Declarations.{NamedProgram, declared}
 use Rattle.pst_types_scope.specs.View.{scope_of}

@@ -1,5 +1,5 @@
 use Rattle.std.proofs.Common.{◌≡◌, Ok, map, rules}
-use Rattle.pst_tree.specs.View.{field_of}
+use Rattle.pst_grammar.specs.View.{field_of}
 use Rattle.pst_types_scope.specs.View.{members_of, scope_of}
 use Rattle.pst_types.specs.Added.{members_judged}
 use Rattle.pst_types.proofs.Verdicts.{approved_as, record_judged}

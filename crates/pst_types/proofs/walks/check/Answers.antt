@@ -1,7 +1,7 @@
 use Rattle.std.proofs.Common.{◌≡◌, List, length, map, ap, ◌∙◌, subst, rules}
-use Rattle.pst_tree.specs.Syntax.{Item}
-use Rattle.pst_tree.specs.View.{item_of, items_of, phrases_of}
-use Rattle.pst_tree.specs.declared.declaration.Declaration.{Declaration}
+use Rattle.pst_grammar.specs.Syntax.{Item}
+use Rattle.pst_grammar.specs.View.{item_of, items_of, phrases_of}
+use Rattle.pst_grammar.specs.declared.declaration.Declaration.{Declaration}
 use Rattle.pst_typing.specs.View.{Answers, program_of}
 use Rattle.pst_typing.specs.Declarations.{checked}
 use Rattle.pst_types.specs.Bodies.{with_bodies}

@@ -1,5 +1,5 @@
 use Rattle.std.proofs.lemmas.Result.{err_from_is_err_and}
-use Rattle.pst_tree.specs.View as tree_view
+use Rattle.pst_grammar.specs.View as tree_view
 use Rattle.pst_typing.specs.Declarations.{noted}
 use Rattle.pst_types_scope.specs.View.{scope_of}
 use Rattle.pst_typing.proofs.Through.{fails_there}

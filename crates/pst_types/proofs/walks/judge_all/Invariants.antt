@@ -2,10 +2,10 @@ use Rattle.std.proofs.Common.{◌≡◌, List, length, map}
 use Rattle.std.specs.Iterator.Adapters.{zip_first, zip_second}
 use Rattle.std.specs.Slice.Iter.{iter_rest}
 use Rattle.std.specs.Vec.Iter.{into_iter_items}
-use Rattle.pst_tree.specs.Syntax.{Item}
-use Rattle.pst_tree.specs.View.{item_of, phrases_of}
-use Rattle.pst_tree.specs.declared.statement.Block.{Block}
-use Rattle.pst_tree.specs.declared.declaration.Declaration.{Declaration}
+use Rattle.pst_grammar.specs.Syntax.{Item}
+use Rattle.pst_grammar.specs.View.{item_of, phrases_of}
+use Rattle.pst_grammar.specs.declared.statement.Block.{Block}
+use Rattle.pst_grammar.specs.declared.declaration.Declaration.{Declaration}
 use Rattle.pst_typing.specs.Answers.{through}
 use Rattle.pst_typing.specs.Declarations.{declared, root_alone}
 use Rattle.pst_types_scope.specs.View.{scope_of}

@@ -1,7 +1,7 @@
 use Rattle.std.proofs.Common.{◌<◌, ◌∙◌, List, length, map, ap, rules, arith}
 use Rattle.std.proofs.Math.ListN.{set}
-use Rattle.pst_tree.specs.View.{item_of, phrases_of}
-use Rattle.pst_tree.specs.declared.statement.Block.{Block}
+use Rattle.pst_grammar.specs.View.{item_of, phrases_of}
+use Rattle.pst_grammar.specs.declared.statement.Block.{Block}
 use Rattle.pst_types.specs.Bodies.{with_bodies}
 use Rattle.pst_types.proofs.Bodies.{taken_out}
 use Rattle.pst_types.proofs.walks.take_bodies.Goals as goal

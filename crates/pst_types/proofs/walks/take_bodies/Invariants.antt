@@ -1,5 +1,5 @@
 use Rattle.std.proofs.Common.{◌≡◌, map, length}
-use Rattle.pst_tree.specs.View.{item_of, phrases_of}
+use Rattle.pst_grammar.specs.View.{item_of, phrases_of}
 use Rattle.pst_types.specs.Bodies.{with_bodies}
 use Rattle.pst_types.proofs.walks.take_bodies.Given as goal
 

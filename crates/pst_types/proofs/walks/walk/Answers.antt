@@ -1,5 +1,5 @@
 use Rattle.std.proofs.Common.{map, rules}
-use Rattle.pst_tree.specs.View.{item_of, phrases_of}
+use Rattle.pst_grammar.specs.View.{item_of, phrases_of}
 use Rattle.pst_typing.specs.Names.{nothing_declared}
 use Rattle.pst_types.proofs.Bodies.{all_noted_apart}
 use Rattle.pst_types.proofs.walks.walk.Goals as goal

@@ -1,5 +1,5 @@
 use Rattle.std.proofs.Common.{◌+◌, ◌*◌, max}
-use Rattle.pst_tree.specs.declared.expression.Expression.{size-Expression}
+use Rattle.pst_grammar.specs.declared.expression.Expression.{size-Expression}
 use Rattle.pst_types_expressions.proofs.expression.+judging.Given as goal
 
 abbrev pub decreases-judge : goal.decreases-judge

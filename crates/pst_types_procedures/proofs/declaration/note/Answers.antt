@@ -1,5 +1,5 @@
 use Rattle.std.proofs.Common.{rules}
-use Rattle.pst_tree.specs.View.{phrases_of}
+use Rattle.pst_grammar.specs.View.{phrases_of}
 use Rattle.pst_types_procedures.proofs.declaration.note.Goals as goal
 
 pub returns-in-Record : goal.returns-in-Record

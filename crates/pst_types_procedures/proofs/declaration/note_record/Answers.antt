@@ -1,5 +1,5 @@
 use Rattle.std.proofs.Common.{◌≡◌, ◌+◌, ◌++◌, ◌∷◌, [], true, map, refl, ap, ◌∙◌, sym, subst}
-use Rattle.pst_tree.specs.View as tree_view
+use Rattle.pst_grammar.specs.View as tree_view
 use Rattle.pst_types_scope.specs.declared.names.RecordType.{RecordType}
 use Rattle.pst_typing.specs.Names.{is_free, no_members, members_from}
 use Rattle.pst_types_scope.specs.View.{scope_of, entries_of, members_of, record_type_of}

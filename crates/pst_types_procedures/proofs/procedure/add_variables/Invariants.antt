@@ -1,5 +1,5 @@
 use Rattle.std.proofs.Common.{map}
-use Rattle.pst_tree.specs.View as tree_view
+use Rattle.pst_grammar.specs.View as tree_view
 use Rattle.pst_typing.specs.Answers.{through}
 use Rattle.pst_typing.specs.Declarations.{variable}
 use Rattle.pst_types_scope.specs.View.{entries_of, local_of, scope_of}

@@ -1,5 +1,5 @@
 use Rattle.std.proofs.lemmas.Result.{err_from_is_err_and}
-use Rattle.pst_tree.specs.View.{phrases_of}
+use Rattle.pst_grammar.specs.View.{phrases_of}
 use Rattle.pst_types_scope.specs.View.{scope_of, setting_of}
 use Rattle.pst_types_procedures.specs.View.{procedure_text_of}
 use Rattle.pst_types_procedures.proofs.Parts.{stands_fail, stands_then}

@@ -1,5 +1,5 @@
 use Rattle.std.proofs.Common.{sym, subst}
-use Rattle.pst_tree.specs.View.{phrases_of}
+use Rattle.pst_grammar.specs.View.{phrases_of}
 use Rattle.pst_program.specs.View as typed_view
 use Rattle.pst_typing.specs.View.{Answers}
 use Rattle.pst_types_scope.specs.View.{scope_of}

@@ -1,5 +1,5 @@
 use Rattle.std.proofs.Common.{◌≡◌, map, drop}
-use Rattle.pst_tree.specs.View as tree_view
+use Rattle.pst_grammar.specs.View as tree_view
 use Rattle.pst_typing.specs.Names.{no_members, members_from}
 use Rattle.pst_types_scope.specs.View.{members_of}
 use Rattle.pst_types_scope.proofs.fields.lay_out.Given as goal

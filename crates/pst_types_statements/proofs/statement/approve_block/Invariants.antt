@@ -1,5 +1,5 @@
 use Rattle.std.proofs.Common.{◌≡◌, drop}
-use Rattle.pst_tree.specs.View as tree_view
+use Rattle.pst_grammar.specs.View as tree_view
 use Rattle.pst_program.specs.Syntax.{Actions}
 use Rattle.pst_typing.specs.Statements.{block}
 use Rattle.pst_types_scope.specs.View.{setting_of}

@@ -1,5 +1,5 @@
 use Rattle.std.proofs.Common.{◌≡◌, map, drop}
-use Rattle.pst_tree.specs.View as tree_view
+use Rattle.pst_grammar.specs.View as tree_view
 use Rattle.pst_program.specs.View as typed_view
 use Rattle.pst_typing.specs.Statements.{arguments}
 use Rattle.pst_types_scope.specs.View.{setting_of}

@@ -26,7 +26,7 @@ enum Kept {
 
 impl Model for Identifier {
     ghost use Rattle.std.specs.Prelude.{ℕ, List};
-    ghost use Rattle.pst_tree.specs.Kept.{shown, IsWhole};
+    ghost use Rattle.pst_grammar.specs.Kept.{shown, IsWhole};
 
     ghost Value = { List ℕ };
 

@@ -1,7 +1,7 @@
 -- How deep a program is: the limits that a tree of the parser keeps.
 use Rattle.std.specs.Prelude.{ℕ, ◌≤◌, max, List, [], ◌∷◌, Some, None}
 use Rattle.std.proofs.Common.{suc}
-use Rattle.pst_tree.specs.Syntax.{Expr, Number, Null, Name, Parens, Field, Indexed, Negate, Not, Binary, Phrase, New, Call, Write, Print, If, Either, While, Return, Phrases, Empty, Then, Item, Record, Root, Procedure}
+use Rattle.pst_grammar.specs.Syntax.{Expr, Number, Null, Name, Parens, Field, Indexed, Negate, Not, Binary, Phrase, New, Call, Write, Print, If, Either, While, Return, Phrases, Empty, Then, Item, Record, Root, Procedure}
 
 -- how many forms stand above the deepest one: the depth is one more
 abbrev pub height : Expr → ℕ

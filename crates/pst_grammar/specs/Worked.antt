@@ -2,8 +2,8 @@
 use Rattle.std.specs.Prelude.{◌≡◌, ℕ, false, List, [], ◌∷◌, None, codes, pos}
 use Rattle.std.proofs.Common.{zero, suc}
 use Rattle.pst_base.specs.declared.names.Op.TheVariants as op
-use Rattle.pst_tree.specs.Syntax.{Expr, Number, Name, Parens, Field, Indexed, Binary, Phrase, Print, Either, While, Return, Phrases, Empty, Then, Item, Procedure}
-use Rattle.pst_tree.specs.Depth.{height, phrase_height, phrase_nesting, IsShallow}
+use Rattle.pst_grammar.specs.Syntax.{Expr, Number, Name, Parens, Field, Indexed, Binary, Phrase, Print, Either, While, Return, Phrases, Empty, Then, Item, Procedure}
+use Rattle.pst_grammar.specs.Depth.{height, phrase_height, phrase_nesting, IsShallow}
 
 -- `x.f[i + 1]`
 abbrev pub element : Expr

@@ -1,7 +1,7 @@
 -- What a name of a program's text shows of what it keeps.
 use Rattle.std.specs.Prelude.{◌≡◌, ℕ, ◌≤◌, List, length, take}
-use Rattle.pst_tree.specs.declared.identifier.Kept.{Kept}
-use Rattle.pst_tree.specs.declared.identifier.Kept.TheVariants.{Short, Long}
+use Rattle.pst_grammar.specs.declared.identifier.Kept.{Kept}
+use Rattle.pst_grammar.specs.declared.identifier.Kept.TheVariants.{Short, Long}
 
 -- its bytes: so many of those of a short name, all of a long one
 abbrev pub shown : Kept → List ℕ

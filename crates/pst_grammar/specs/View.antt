@@ -1,21 +1,21 @@
 -- The tree for definitions that the program's tree is.
 use Rattle.std.specs.Prelude.{List, [], ◌∷◌, map}
 use Rattle.std.specs.Option.{option_map}
-use Rattle.pst_tree.specs.declared.expression.Expression.{Expression}
-use Rattle.pst_tree.specs.declared.expression.Expression.TheVariants as expression
-use Rattle.pst_tree.specs.declared.statement.Block.{Block, Block', Row_of-Statement, end_of-Statement, more_of-Statement}
-use Rattle.pst_tree.specs.declared.statement.Statement.{Statement}
-use Rattle.pst_tree.specs.declared.statement.Form.{Form, Held-Form-If-2, None', Some'}
-use Rattle.pst_tree.specs.declared.statement.Form.TheVariants as form
-use Rattle.pst_tree.specs.declared.declaration.TypeName.{TypeName}
-use Rattle.pst_tree.specs.declared.declaration.TypeName.TheVariants as written
-use Rattle.pst_tree.specs.declared.declaration.Field.{Field}
-use Rattle.pst_tree.specs.declared.declaration.Field.TheVariants as field
-use Rattle.pst_tree.specs.declared.declaration.Local.{Local}
-use Rattle.pst_tree.specs.declared.declaration.Declaration.{Declaration}
-use Rattle.pst_tree.specs.declared.declaration.Declaration.TheVariants as declaration
-use Rattle.pst_tree.specs.declared.declaration.Tree.{Tree}
-use Rattle.pst_tree.specs.Syntax as tree
+use Rattle.pst_grammar.specs.declared.expression.Expression.{Expression}
+use Rattle.pst_grammar.specs.declared.expression.Expression.TheVariants as expression
+use Rattle.pst_grammar.specs.declared.statement.Block.{Block, Block', Row_of-Statement, end_of-Statement, more_of-Statement}
+use Rattle.pst_grammar.specs.declared.statement.Statement.{Statement}
+use Rattle.pst_grammar.specs.declared.statement.Form.{Form, Held-Form-If-2, None', Some'}
+use Rattle.pst_grammar.specs.declared.statement.Form.TheVariants as form
+use Rattle.pst_grammar.specs.declared.declaration.TypeName.{TypeName}
+use Rattle.pst_grammar.specs.declared.declaration.TypeName.TheVariants as written
+use Rattle.pst_grammar.specs.declared.declaration.Field.{Field}
+use Rattle.pst_grammar.specs.declared.declaration.Field.TheVariants as field
+use Rattle.pst_grammar.specs.declared.declaration.Local.{Local}
+use Rattle.pst_grammar.specs.declared.declaration.Declaration.{Declaration}
+use Rattle.pst_grammar.specs.declared.declaration.Declaration.TheVariants as declaration
+use Rattle.pst_grammar.specs.declared.declaration.Tree.{Tree}
+use Rattle.pst_grammar.specs.Syntax as tree
 
 abbrev pub expr_of : Expression → tree.Expr
 expr_of (expression.Number n) = tree.Number n

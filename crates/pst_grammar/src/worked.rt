@@ -1,6 +1,6 @@
 //! Depths that are worked by hand. These functions have no code: each is a fact for those who build on the definitions.
 
-ghost use Rattle.pst_tree.specs.Worked.{WorkedDepths, WorkedLimits};
+ghost use Rattle.pst_grammar.specs.Worked.{WorkedDepths, WorkedLimits};
 
 /// How high the expressions of a statement are, and how many of its blocks stand in one another.
 pub fn depths_by_hand()

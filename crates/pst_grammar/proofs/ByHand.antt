@@ -1,6 +1,6 @@
 -- Depths that are worked by hand.
 use Rattle.std.proofs.Common.{refl, arith}
-use Rattle.pst_tree.specs.Worked.{WorkedDepths, WorkedLimits}
+use Rattle.pst_grammar.specs.Worked.{WorkedDepths, WorkedLimits}
 
 pub worked_depths : WorkedDepths
 worked_depths = record { of_element = refl; of_comparison = refl; of_choice = refl; loop_nests = refl; choice_nests = refl }

@@ -1,5 +1,0 @@
-use Rattle.pst_tree.proofs.ByHand.{worked_limits}
-use Rattle.pst_tree.proofs.worked.limits_of_depth_by_hand.Goals as goal
-
-pub returns : goal.returns
-returns c = worked_limits
