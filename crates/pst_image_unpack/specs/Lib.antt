@@ -1,2 +1,3 @@
-pub mod Unpacked
 pub mod Laws
+pub mod Listing
+pub mod Unpacked

@@ -13,11 +13,11 @@ ghost use Rattle.pst_image_rules.specs.Rules.{IsJudged};
 ghost use Rattle.pst_image_unpack.specs.declared.fault.ImageFault.TheVariants.{Bad};
 ghost use Rattle.pst_image_unpack.specs.Unpacked.{IsOwnText, IsTaken, FailsIn, FailsFirst};
 
+use crate::building::rebuild;
 use crate::fault::ImageFault;
 use pst_base::{NoMemory, RunNo, Text};
 use pst_front::{NoProgram, canonical_program};
 use pst_image_form::{FormFault, Image, ImageParts, read_image};
-use pst_image_rebuild::rebuild;
 use pst_image_rules::{Rule, first_failed};
 use pst_order::Walked;
 use pst_program::Program;

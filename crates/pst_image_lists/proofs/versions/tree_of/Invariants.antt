@@ -1,7 +1,0 @@
-use Rattle.std.proofs.Common.{◌≡◌}
-use Rattle.pst_base.specs.Below.{listed}
-use Rattle.pst_image_lists.specs.Listing.{row_in}
-use Rattle.pst_image_lists.proofs.versions.tree_of.Given as goal
-
-abbrev pub invariant-loop-number : goal.invariant-loop-number
-invariant-loop-number l = l.tree ≡ listed l.number (row_in l.versions l.places)
