@@ -20,7 +20,7 @@ use Rattle.pst_store_meaning.specs.Store.{Stored}
 use Rattle.pst_image_form.specs.declared.parts.ImageParts.{ImageParts}
 use Rattle.pst_image_form.specs.Bytes.{image_bytes}
 use Rattle.pst_image_form.proofs.Forms.{one_form}
-use Rattle.pst_image_parts.specs.Parts.{parts_of}
+use Rattle.pst_image_meaning.specs.Parts.{parts_of}
 use Rattle.pst_history_laws.proofs.Meanings.{meaning_law}
 use Rattle.pst_image_engine.proofs.Counted.{counts_law, few_counts_law, opening_counts_law}
 use Rattle.pst_image_engine.specs.Counted.{OpensFew}

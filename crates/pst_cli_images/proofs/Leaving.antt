@@ -18,8 +18,8 @@ use Rattle.pst_store_meaning.specs.Store.{Stored, IsStore, arena, begin_of, stat
 use Rattle.pst_store.specs.Whole.{state_in}
 use Rattle.pst_image_form.specs.Bytes.{Fits, image_bytes}
 use Rattle.pst_image_rules.specs.Rules.{IsJudged}
-use Rattle.pst_image_parts.specs.Parts.{parts_of}
-use Rattle.pst_image_parts.specs.Left.{IsLeftStore, AreNumbers}
+use Rattle.pst_image_meaning.specs.Parts.{parts_of}
+use Rattle.pst_image_meaning.specs.Left.{IsLeftStore, AreNumbers}
 use Rattle.pst_image_engine.proofs.Left.{left_rules_law}
 use Rattle.pst_program.specs.declared.program.Program.{Program}
 use Rattle.pst_program.specs.View.{routines_of}

@@ -19,7 +19,7 @@ use Rattle.pst_store_meaning.specs.Store.{Stored, state_of}
 use Rattle.pst_order.specs.Places.{rank}
 use Rattle.pst_store.specs.Whole.{state_in}
 use Rattle.pst_cli_serving.specs.Storing.{IsLeft}
-use Rattle.pst_image_parts.specs.Parts.{parts_of, version_part}
+use Rattle.pst_image_meaning.specs.Parts.{parts_of, version_part}
 use Rattle.pst_image_meaning.specs.Denoted.{heap_in}
 use Rattle.pst_image_form.specs.declared.parts.VersionPart.{VersionPart}
 use Rattle.pst_cli_images.specs.Packing.{IsImage}

@@ -30,7 +30,7 @@ use Rattle.pst_image_form.specs.declared.parts.ImageParts.{ImageParts}
 use Rattle.pst_image_form.specs.Bytes.{HasForm, image_bytes}
 use Rattle.pst_image_form.proofs.Forms.{one_form}
 use Rattle.pst_image_rules.specs.Rules.{IsJudged}
-use Rattle.pst_image_parts.specs.Parts.{parts_of}
+use Rattle.pst_image_meaning.specs.Parts.{parts_of}
 use Rattle.pst_history_laws.specs.LawsLines.{IsReadAgain}
 use Rattle.pst_history_laws.proofs.Canonical.{canonical_law}
 use Rattle.pst_history_laws.specs.TakenUp.{taken_up}

@@ -18,9 +18,9 @@ use Rattle.pst_store.specs.Whole.{state_in}
 use Rattle.pst_image_form.specs.declared.parts.VersionPart.{VersionPart}
 use Rattle.pst_image_form.specs.declared.parts.ImageParts.{ImageParts}
 use Rattle.pst_image_tree.specs.Versions.{IsInRange}
-use Rattle.pst_image_parts.specs.Parts.{version_part}
+use Rattle.pst_image_meaning.specs.Parts.{version_part}
 use Rattle.pst_image_meaning.specs.Denoted.{heap_in}
-use Rattle.pst_image_store.specs.Made.{IsRebuilt}
+use Rattle.pst_image_meaning.specs.Made.{IsRebuilt}
 use Rattle.pst_image_engine.proofs.Opens.{opens_law}
 use Rattle.pst_cli_images.specs.Opening.{descent_of, opening_in}
 

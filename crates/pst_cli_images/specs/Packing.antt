@@ -21,7 +21,7 @@ use Rattle.pst_cli_serving.specs.Held.{run_in}
 use Rattle.pst_cli_questions.specs.Asking.{GivesAll, StopsAsking, OverRow, Over}
 use Rattle.pst_image_form.specs.Bytes.{Fits, image_bytes}
 use Rattle.pst_image_rules.specs.Rules.{IsJudged}
-use Rattle.pst_image_parts.specs.Parts.{parts_of}
+use Rattle.pst_image_meaning.specs.Parts.{parts_of}
 use Rattle.pst_image_meaning.specs.Denoted.{heap_in}
 
 -- The image of a store in a history, with a text: each number fits, the rules hold for this shape, and where a place begins its nodes

@@ -28,7 +28,7 @@ use Rattle.pst_image_engine.specs.Left.{LeftOrderLaw, NamedLaw, LeftRulesLaw}
 use Rattle.pst_image_engine.proofs.Versions.{run_order_law}
 use Rattle.pst_program.specs.Sound.{CountsWithin}
 use Rattle.pst_base.specs.declared.names.Counts.{Counts}
-use Rattle.pst_image_parts.proofs.Nodes.{slice_get-there}
+use Rattle.pst_image_meaning.proofs.Nodes.{slice_get-there}
 
 module _ (H : Type 0) (m : Meaning) (x : Runs Place NodeId (Activation H NodeId Place)) (active : List (OpenEntry H NodeId Place)) (budget next : ℕ) (s : Stored) (h : History) (k : IsStore s) (stand : StandsFor m x active budget next (state_of s) h) where
   -- version v + 1 is one of the opening, and has one of the first forks

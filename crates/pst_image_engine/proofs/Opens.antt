@@ -14,7 +14,7 @@ use Rattle.pst_store_meaning.specs.declared.place.Fork.{Fork}
 use Rattle.pst_store_meaning.specs.Store.{Stored, IsStore, arena, as_fork, begin_of, state_of}
 use Rattle.pst_store_meaning.proofs.Places.{slice_get-below, slice_get-mapped}
 use Rattle.pst_store_meaning.proofs.HeapLaws.{heap_shows, heap_lacks}
-use Rattle.pst_image_store_rules.specs.Forks.{AreForksOfVersions}
+use Rattle.pst_image_meaning.specs.Forks.{AreForksOfVersions}
 use Rattle.pst_image_engine.specs.Opens.{OpensLaw}
 
 -- a version's row by its number, which is one more than v

@@ -6,7 +6,7 @@ use Rattle.pst_store_meaning.specs.declared.place.Place.{Place}
 use Rattle.pst_store_meaning.specs.Store.{Stored, begin_of, end_of, IsStore}
 use Rattle.pst_store_meaning.proofs.Places.{same_fork}
 use Rattle.pst_image_engine.specs.Orders.{AreInRunOrder, RunOrderLaw}
-use Rattle.pst_image_parts.specs.Versions.{IsWithinParent}
+use Rattle.pst_image_meaning.specs.Versions.{IsWithinParent}
 
 module _ (s : Stored) (next : ℕ) (h : IsStore s) (o : AreInRunOrder s next) where
   within : (v : ℕ) (row : VersionRow Place) → slice_get s.versions (suc v) ≡ Some row → IsWithinParent s (suc v) row

@@ -10,7 +10,7 @@ use Rattle.pst_engine_runs.specs.declared.entry.OpenEntry.{OpenEntry}
 use Rattle.pst_engine_runs.specs.Stands.{StandsFor}
 use Rattle.pst_store_meaning.specs.declared.place.Place.{Place}
 use Rattle.pst_store_meaning.specs.Store.{Stored, state_of, IsStore}
-use Rattle.pst_image_parts.specs.Left.{AreNamed, IsLeftStore}
+use Rattle.pst_image_meaning.specs.Left.{AreNamed, IsLeftStore}
 use Rattle.pst_image_engine.specs.Orders.{AreInRunOrder}
 
 abbrev pub LeftOrderLaw : Type 1

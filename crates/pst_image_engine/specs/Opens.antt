@@ -4,9 +4,9 @@ use Rattle.pst_program.specs.Sound.{CountsWithin}
 use Rattle.pst_history.specs.Meaning.{Meaning}
 use Rattle.pst_store_meaning.specs.Store.{Stored, state_of, IsStore}
 use Rattle.pst_engine.specs.Stands.{IsOpeningHeap}
-use Rattle.pst_image_parts.specs.Versions.{AreVersionsNested}
-use Rattle.pst_image_parts.specs.Left.{AreNamed}
-use Rattle.pst_image_store_rules.specs.Forks.{AreForksOfVersions}
+use Rattle.pst_image_meaning.specs.Versions.{AreVersionsNested}
+use Rattle.pst_image_meaning.specs.Left.{AreNamed}
+use Rattle.pst_image_meaning.specs.Forks.{AreForksOfVersions}
 
 -- A store of a program's record types that counted little, whose records and versions are of runs below the next one, whose forks are
 -- its versions and in which fewer forks were asked for, is a heap that an engine with that next run opens on.

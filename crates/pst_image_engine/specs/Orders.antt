@@ -4,7 +4,7 @@ use Rattle.pst_versions.specs.declared.rows.VersionRow.{VersionRow}
 use Rattle.pst_store_meaning.specs.declared.place.Place.{Place}
 use Rattle.pst_store_meaning.specs.declared.place.Fork.{Fork}
 use Rattle.pst_store_meaning.specs.Store.{Stored, IsStore}
-use Rattle.pst_image_parts.specs.Versions.{AreVersionsNested}
+use Rattle.pst_image_meaning.specs.Versions.{AreVersionsNested}
 
 -- the version has a fork, and was made by a run that took its number
 pub record IsRunFork (s : Stored) (next : ℕ) (row : VersionRow Place) : Type 0 where

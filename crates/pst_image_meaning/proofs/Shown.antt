@@ -23,8 +23,8 @@ use Rattle.pst_mirror.specs.Charts.{is_alive, row_holds, rows_hold, rows_edge}
 use Rattle.pst_mirror.specs.Kinds.{HasKind as IsOfKind}
 use Rattle.pst_store_meaning.specs.Arena.{IsIn}
 use Rattle.pst_store_meaning.specs.Store.{Node, Stored, of_node, arena, IsStore}
-use Rattle.pst_image_parts.specs.Parts.{content_number, link_number, stamp_part, node_part, node_parts}
-use Rattle.pst_image_parts.proofs.Nodes.{value, type_is, in_life, entry_small, base_held, lives_at, stamp_held}
+use Rattle.pst_image_meaning.specs.Parts.{content_number, link_number, stamp_part, node_part, node_parts}
+use Rattle.pst_image_meaning.proofs.Nodes.{value, type_is, in_life, entry_small, base_held, lives_at, stamp_held}
 use Rattle.pst_image_meaning.specs.Denoted.{content_of, contents_from, stamp_of, link_of, node_of, nodes_of, IsShortContent, AreShort}
 use Rattle.pst_image_meaning.specs.Laws.{ShownDenotesLaw}
 use Rattle.pst_image_meaning.proofs.Numbers.{HasSmallField, content_back}

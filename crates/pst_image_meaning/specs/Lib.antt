@@ -1,2 +1,13 @@
+pub mod Chains
 pub mod Denoted
+pub mod Forks
 pub mod Laws
+pub mod LawsParts
+pub mod Left
+pub mod Made
+pub mod Narrow
+pub mod Parts
+pub mod Rules
+pub mod Store
+pub mod Taken
+pub mod Versions

@@ -6,11 +6,11 @@ use Rattle.pst_store_meaning.specs.Store.{Node, Stored, IsStore, arena}
 use Rattle.pst_image_rules.specs.Rules.{IsJudged}
 use Rattle.pst_store.specs.Whole.{IsSmall, nodes_in, state_in}
 use Rattle.pst_image_form.specs.Bytes.{FitsCounts}
-use Rattle.pst_image_parts.specs.Narrow.{IsNarrow}
-use Rattle.pst_image_parts.proofs.Narrow.{narrow_law}
-use Rattle.pst_image_parts.specs.Parts.{parts_of}
-use Rattle.pst_image_parts.specs.Left.{IsLeftStore, AreNumbers}
-use Rattle.pst_image_parts.proofs.All.{rules_law}
+use Rattle.pst_image_meaning.specs.Narrow.{IsNarrow}
+use Rattle.pst_image_meaning.proofs.Narrow.{narrow_law}
+use Rattle.pst_image_meaning.specs.Parts.{parts_of}
+use Rattle.pst_image_meaning.specs.Left.{IsLeftStore, AreNumbers}
+use Rattle.pst_image_meaning.proofs.All.{rules_law}
 use Rattle.pst_image_meaning.specs.Denoted.{AreShort, arena_in}
 use Rattle.pst_image_meaning.proofs.Shown.{shown_denotes}
 

@@ -5,8 +5,8 @@ ghost use Rattle.pst_store_meaning.specs.Store.{arena};
 ghost use Rattle.pst_store.specs.Whole.{queue_in};
 ghost use Rattle.pst_image_form.specs.Bytes.{Fits, image_bytes};
 ghost use Rattle.pst_image_rules.specs.Rules.{IsJudged};
-ghost use Rattle.pst_image_parts.specs.Parts.{parts_of as shown_parts};
-ghost use Rattle.pst_image_parts.specs.Left.{AreNumbers, IsLeftStore};
+ghost use Rattle.pst_image_meaning.specs.Parts.{parts_of as shown_parts};
+ghost use Rattle.pst_image_meaning.specs.Left.{AreNumbers, IsLeftStore};
 ghost use Rattle.pst_image_meaning.specs.Denoted.{AreShort, arena_in};
 
 use crate::nodes::nodes_of;

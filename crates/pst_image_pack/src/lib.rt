@@ -1,6 +1,6 @@
 //! The image of a store.
 //!
-//! Model: a store is the lists of `Stored` (`pst_store_meaning`), and an image is the bytes of its parts (`pst_image_form`, `pst_image_parts`).
+//! Model: a store is the lists of `Stored` (`pst_store_meaning`), and an image is the bytes of its parts (`pst_image_form`, `pst_image_meaning`).
 //!
 //! Contract: `pack` gives the image of a store at rest that an engine left, with a text, the number of the next run and a budget. The
 //! image keeps all rules of one, and denotes the nodes of the store at each position (`pst_image_meaning`).

@@ -9,8 +9,8 @@ ghost use Rattle.pst_rows.specs.declared.content.Stamp.{Stamp};
 ghost use Rattle.pst_repair.specs.Seen.{seen_in, seen_node};
 ghost use Rattle.pst_store_meaning.specs.Store.{Node as Seen};
 ghost use Rattle.pst_image_form.specs.Bytes.{Fits64, FitsNode, FitsStamp};
-ghost use Rattle.pst_image_parts.specs.Narrow.{IsNarrow, IsSmallContent};
-ghost use Rattle.pst_image_parts.specs.Parts.{content_number as number_of, link_number as number_of_link, stamp_part as part_of_stamp, node_part as part_of_node};
+ghost use Rattle.pst_image_meaning.specs.Narrow.{IsNarrow, IsSmallContent};
+ghost use Rattle.pst_image_meaning.specs.Parts.{content_number as number_of, link_number as number_of_link, stamp_part as part_of_stamp, node_part as part_of_node};
 ghost use Rattle.pst_image_meaning.specs.Denoted.{IsShort, IsShortContent};
 ghost use Rattle.pst_image_pack.specs.Positions.{position_in};
 

@@ -4,7 +4,7 @@ ghost use Rattle.std.specs.Prelude.{◌≡◌, ◌<◌, ◌^◌, ℕ, IfOk, Some
 ghost use Rattle.std.specs.List.{AllByRecursion};
 ghost use Rattle.pst_store.specs.Whole.{state_in};
 ghost use Rattle.pst_image_form.specs.Bytes.{FitsVersion};
-ghost use Rattle.pst_image_parts.specs.Parts.{version_part as part_of_version};
+ghost use Rattle.pst_image_meaning.specs.Parts.{version_part as part_of_version};
 ghost use Rattle.pst_image_pack.specs.Positions.{position_in};
 
 use crate::positions::position;

@@ -22,11 +22,11 @@ use Rattle.pst_image_mirror.specs.Capacity.{AreWithinCapacity}
 use Rattle.pst_image_rules.specs.declared.rule.Rule.TheVariants.{Ranges, Versions, Nodes, Chains, Capacity}
 use Rattle.pst_image_rules.specs.Rules.{IsJudged}
 use Rattle.pst_image_meaning.specs.Denoted.{nodes_of, places_of, relic_of}
-use Rattle.pst_image_store.specs.Made.{IsMade, IsRebuilt}
-use Rattle.pst_image_store.proofs.Lists.{all_at}
-use Rattle.pst_image_store.proofs.Given.{given}
-use Rattle.pst_image_store.proofs.Bounds.{small}
-use Rattle.pst_image_store.proofs.Rebuilt.{made_is_store, made_is_rebuilt}
+use Rattle.pst_image_meaning.specs.Made.{IsMade, IsRebuilt}
+use Rattle.pst_image_meaning.proofs.Lists.{all_at}
+use Rattle.pst_image_meaning.proofs.Given.{given}
+use Rattle.pst_image_meaning.proofs.Store.{small}
+use Rattle.pst_image_meaning.proofs.Rebuilt.{made_is_store, made_is_rebuilt}
 use Rattle.pst_image_unpack.specs.Listing.{HasFew, AreFew, HasNumbers, HaveParents, no_place, places_in, rows_in, forks_in}
 use Rattle.pst_image_unpack.proofs.Counting.{few}
 use Rattle.pst_image_unpack.proofs.Forks.{have_parents, AreListed, start_is, versions_back, first_is, forks_are}

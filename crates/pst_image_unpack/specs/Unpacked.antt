@@ -13,7 +13,7 @@ use Rattle.pst_image_rules.specs.declared.rule.Rule.{Rule}
 use Rattle.pst_image_rules.specs.declared.rule.Rule.TheVariants.{Form, Text, Ranges, Versions, Nodes, Chains, Pointers, Entries, Capacity, Bound}
 use Rattle.pst_image_rules.specs.Rules.{IsJudged, IsFirstFailed}
 use Rattle.pst_store_meaning.specs.Store.{Stored}
-use Rattle.pst_image_store.specs.Made.{IsRebuilt}
+use Rattle.pst_image_meaning.specs.Made.{IsRebuilt}
 
 -- the text of an accepted program in its canonical form, of fewer than 4,294,967,295 bytes
 pub record IsOwnText (text : List ℕ) (named : NamedProgram) : Type 0 where

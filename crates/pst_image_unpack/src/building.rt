@@ -6,7 +6,7 @@ ghost use Rattle.pst_store.specs.Calls.{IsKept};
 ghost use Rattle.pst_store.specs.Whole.{queue_in};
 ghost use Rattle.pst_image_form.specs.Bytes.{Fits};
 ghost use Rattle.pst_image_rules.specs.Rules.{IsJudged};
-ghost use Rattle.pst_image_store.specs.Made.{IsRebuilt};
+ghost use Rattle.pst_image_meaning.specs.Made.{IsRebuilt};
 
 use crate::nodes::nodes_of;
 use crate::order::order_of;

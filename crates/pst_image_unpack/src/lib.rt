@@ -13,7 +13,7 @@
 //!
 //! A store that is made of an image.
 //!
-//! Model: the parts of an image that keep the rules of one (`pst_image_rules`), and the store of them (`IsRebuilt` of `pst_image_store`).
+//! Model: the parts of an image that keep the rules of one (`pst_image_rules`), and the store of them (`IsRebuilt` of `pst_image_meaning`).
 //!
 //! Contract: [`rebuild`] makes the store: the order list by insertions behind the last place, the nodes with their rows, the versions,
 //! their forks in the order of the runs, and for each record the place over which it lives. It shows the parts again, and has the heap

@@ -3,7 +3,7 @@ use Rattle.std.specs.List.{AllByRecursion}
 use Rattle.pst_image_form.specs.Bytes.{Fits64}
 use Rattle.pst_rows.specs.Rows.{shown}
 use Rattle.pst_rows.specs.Values.{base_in}
-use Rattle.pst_image_parts.specs.Parts.{content_number as number_of}
+use Rattle.pst_image_meaning.specs.Parts.{content_number as number_of}
 use Rattle.pst_image_meaning.specs.Denoted.{IsShortContent}
 use Rattle.pst_image_pack.proofs.nodes.bases_of.Given as goal
 

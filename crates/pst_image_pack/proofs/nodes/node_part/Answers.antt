@@ -1,6 +1,6 @@
 use Rattle.std.proofs.Common.{length, ap, arith}
 use Rattle.std.proofs.lemmas.List.{length-map}
-use Rattle.pst_image_parts.specs.Parts.{content_number as number_of}
+use Rattle.pst_image_meaning.specs.Parts.{content_number as number_of}
 use Rattle.pst_image_pack.proofs.nodes.node_part.Goals as goal
 
 pub returns-clause-fits : goal.returns-clause-fits

@@ -3,7 +3,7 @@ use Rattle.pst_nodes.specs.declared.node.Node.{Node}
 use Rattle.pst_repair.specs.Seen.{seen, seen_node}
 use Rattle.pst_image_form.specs.Bytes.{FitsNode}
 use Rattle.pst_image_meaning.specs.Denoted.{IsShort}
-use Rattle.pst_image_parts.specs.Parts.{node_part as part_of_node}
+use Rattle.pst_image_meaning.specs.Parts.{node_part as part_of_node}
 use Rattle.pst_image_pack.specs.Positions.{position_in}
 use Rattle.pst_image_pack.proofs.Lists.{all_step, seen_step, seen_at, one_more}
 use Rattle.pst_image_pack.proofs.nodes.nodes_of.Goals as goal

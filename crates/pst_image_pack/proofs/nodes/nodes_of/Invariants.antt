@@ -4,7 +4,7 @@ use Rattle.std.specs.List.{AllByRecursion}
 use Rattle.pst_store_meaning.specs.Store.{Node as Seen}
 use Rattle.pst_repair.specs.Seen.{seen}
 use Rattle.pst_image_form.specs.Bytes.{FitsNode}
-use Rattle.pst_image_parts.specs.Parts.{node_part as part_of_node}
+use Rattle.pst_image_meaning.specs.Parts.{node_part as part_of_node}
 use Rattle.pst_image_meaning.specs.Denoted.{IsShort}
 use Rattle.pst_image_pack.specs.Positions.{position_in}
 use Rattle.pst_image_pack.proofs.nodes.nodes_of.Given as goal

@@ -2,7 +2,7 @@ use Rattle.std.proofs.Common.{◌≡◌, ℕ, ◌<◌, get_or, map, take}
 use Rattle.std.specs.List.{AllByRecursion}
 use Rattle.pst_rows.specs.Rows.{shown, no_stamp}
 use Rattle.pst_image_form.specs.Bytes.{FitsStamp}
-use Rattle.pst_image_parts.specs.Parts.{stamp_part as part_of_stamp}
+use Rattle.pst_image_meaning.specs.Parts.{stamp_part as part_of_stamp}
 use Rattle.pst_image_meaning.specs.Denoted.{IsShortContent}
 use Rattle.pst_image_pack.specs.Positions.{position_in}
 use Rattle.pst_image_pack.proofs.nodes.stamps_of.Given as goal

@@ -1,7 +1,7 @@
 use Rattle.std.proofs.Common.{arith}
 use Rattle.pst_store.specs.Whole.{state_in}
 use Rattle.pst_image_form.specs.Bytes.{FitsVersion}
-use Rattle.pst_image_parts.specs.Parts.{version_part as part_of_version}
+use Rattle.pst_image_meaning.specs.Parts.{version_part as part_of_version}
 use Rattle.pst_image_pack.specs.Positions.{position_in}
 use Rattle.pst_image_pack.proofs.Lists.{all_step, map_step}
 use Rattle.pst_image_pack.proofs.versions.versions_of.Goals as goal

@@ -1,5 +1,0 @@
-pub mod Parts
-pub mod Versions
-pub mod Left
-pub mod Narrow
-pub mod Laws

@@ -1,5 +1,0 @@
-use Rattle.pst_image_store.proofs.Rebuilt.{made_is_store, made_is_rebuilt}
-use Rattle.pst_image_store.proofs.laws.made.Goals as goal
-
-pub returns : goal.returns
-returns c = record { store = made_is_store; rebuilt = made_is_rebuilt }

@@ -1,4 +1,0 @@
-pub mod Chains
-pub mod Forks
-pub mod Taken
-pub mod Laws
