@@ -17,7 +17,7 @@ use Rattle.pst_store_meaning.specs.Store.{Stored, arena, begin_of, state_of, IsS
 use Rattle.pst_store.specs.Whole.{state_in}
 use Rattle.pst_image_form.specs.declared.parts.VersionPart.{VersionPart}
 use Rattle.pst_image_form.specs.declared.parts.ImageParts.{ImageParts}
-use Rattle.pst_image_tree.specs.Versions.{IsInRange}
+use Rattle.pst_image_rules.specs.Versions.{IsInRange}
 use Rattle.pst_image_meaning.specs.Parts.{version_part}
 use Rattle.pst_image_meaning.specs.Denoted.{heap_in}
 use Rattle.pst_image_meaning.specs.Made.{IsRebuilt}

@@ -6,8 +6,9 @@ ghost use Rattle.pst_base.specs.Shape.{IsValid};
 use crate::images::{COPIED, LINKED, SIBLINGS, TURNED, bytes_of, linking, plain};
 use pst_base::{NoMemory, Shape};
 use pst_image_form::{FormFault, ImageParts, read_image};
-use pst_image_nodes::{Chain, are_chained, are_nodes, chains_of};
-use pst_image_tree::{are_nested, is_in_range, order_of_runs};
+use pst_image_rules::{
+    Chain, are_chained, are_nested, are_nodes, chains_of, is_in_range, order_of_runs,
+};
 use std::alloc::Global;
 
 /// The chains of parts whose nodes stand in chains, and none of others.

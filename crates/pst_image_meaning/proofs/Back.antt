@@ -17,8 +17,8 @@ use Rattle.pst_image_form.specs.declared.parts.VersionPart.{VersionPart}
 use Rattle.pst_image_form.specs.declared.parts.NodePart.{NodePart}
 use Rattle.pst_image_form.specs.declared.parts.ImageParts.{ImageParts}
 use Rattle.pst_image_form.specs.Bytes.{Fits64, FitsStamp, FitsNode}
-use Rattle.pst_image_tree.specs.Versions.{no_version, version_at, parent_of, AreNested}
-use Rattle.pst_image_nodes.specs.Nodes.{no_node, no_stamp, node_at, stamp_of, IsNode}
+use Rattle.pst_image_rules.specs.Versions.{no_version, version_at, parent_of, AreNested}
+use Rattle.pst_image_rules.specs.Nodes.{no_node, no_stamp, node_at, stamp_of, IsNode}
 use Rattle.pst_image_meaning.specs.Parts.{content_number, link_number, version_part, stamp_part, node_part, version_parts, node_parts, parts_of}
 use Rattle.pst_image_meaning.proofs.Nodes.{part_in}
 use Rattle.pst_image_meaning.specs.Denoted.{content_of, contents_from, stamp_of as stamp_made, link_of, node_of}

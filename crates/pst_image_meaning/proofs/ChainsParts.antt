@@ -10,8 +10,8 @@ use Rattle.pst_base.specs.Shape.{root_type}
 use Rattle.pst_store_meaning.specs.Arena.{Arena, AreChained as AreArenaChained}
 use Rattle.pst_store_meaning.specs.Store.{Stored, arena, end_of, IsStore}
 use Rattle.pst_image_form.specs.declared.parts.NodePart.{NodePart}
-use Rattle.pst_image_nodes.specs.Nodes.{node_at}
-use Rattle.pst_image_nodes.specs.Chains.{IsRootName, IsSameName, Leads, IsNamed, AreChained}
+use Rattle.pst_image_rules.specs.Nodes.{node_at}
+use Rattle.pst_image_rules.specs.Chains.{IsRootName, IsSameName, Leads, IsNamed, AreChained}
 use Rattle.pst_image_meaning.specs.Parts.{link_number, node_parts}
 use Rattle.pst_image_meaning.specs.Left.{AreNamed}
 use Rattle.pst_image_meaning.proofs.Nodes.{of_node-there, count, there, part_at, part_type, value}

@@ -15,9 +15,9 @@ use Rattle.pst_store_meaning.specs.Store.{Node, Stored, arena, begin_of, end_of}
 use Rattle.pst_store_meaning.proofs.Places.{slice_get-below, slice_get-mapped}
 use Rattle.pst_image_form.specs.declared.parts.NodePart.{NodePart}
 use Rattle.pst_image_form.specs.declared.parts.ImageParts.{ImageParts}
-use Rattle.pst_image_nodes.specs.Nodes.{node_at}
-use Rattle.pst_image_nodes.specs.declared.ends.Chain.{Chain}
-use Rattle.pst_image_nodes.specs.Chains.{IsRootName, IsSameName, LeadsBy, Leads, no_chain, chain_at}
+use Rattle.pst_image_rules.specs.Nodes.{node_at}
+use Rattle.pst_image_rules.specs.declared.ends.Chain.{Chain}
+use Rattle.pst_image_rules.specs.Chains.{IsRootName, IsSameName, LeadsBy, Leads, no_chain, chain_at}
 use Rattle.pst_image_meaning.proofs.Nodes.{of_node-there}
 use Rattle.pst_image_meaning.specs.Chains.{ComesAfter, Itself, Beyond, AreRecordChains}
 use Rattle.pst_image_meaning.specs.Taken.{HasRelic}

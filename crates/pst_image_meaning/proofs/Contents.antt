@@ -23,8 +23,8 @@ use Rattle.pst_store_meaning.proofs.Places.{slice_get-below, slice_get-map}
 use Rattle.pst_image_form.specs.declared.parts.NodePart.{NodePart}
 use Rattle.pst_image_form.specs.declared.parts.ImageParts.{ImageParts}
 use Rattle.pst_image_form.specs.Bytes.{Fits64, FitsStamp, FitsNode}
-use Rattle.pst_image_nodes.specs.Nodes.{no_stamp, node_at, stamp_of, entry, slot_count, IsNodeOf, IsFieldTo, HoldsPointer, HoldsEntry, HasKind, FitsSlot, IsNode}
-use Rattle.pst_image_mirror.specs.Mirror.{IsPointerSlot, IsInverseSlot, shape_of}
+use Rattle.pst_image_rules.specs.Nodes.{no_stamp, node_at, stamp_of, entry, slot_count, IsNodeOf, IsFieldTo, HoldsPointer, HoldsEntry, HasKind, FitsSlot, IsNode}
+use Rattle.pst_image_rules.specs.Mirror.{IsPointerSlot, IsInverseSlot, shape_of}
 use Rattle.pst_image_meaning.specs.Parts.{content_number}
 use Rattle.pst_image_meaning.specs.Denoted.{pointer_content, entry_content, kind_content, content_of, contents_from, stamp_of as stamp_made, node_of, IsShortContent, AreShort}
 use Rattle.pst_image_meaning.proofs.Numbers.{numbers_back, pointer_kind, inverse_kind, entry_is}

@@ -11,7 +11,7 @@ use Rattle.pst_base.specs.Shape.{type_at, field_kind, element_count}
 use Rattle.pst_mirror.specs.Kinds.{IsInverse, HasKind as IsOfKind}
 use Rattle.pst_mirror.proofs.KindLemmas.{pointer_field}
 use Rattle.pst_image_form.specs.declared.parts.NodePart.{NodePart}
-use Rattle.pst_image_nodes.specs.Nodes.{node_at, slot_count, IsNodeOf, HoldsPointer, HasKind, FitsSlot}
+use Rattle.pst_image_rules.specs.Nodes.{node_at, slot_count, IsNodeOf, HoldsPointer, HasKind, FitsSlot}
 use Rattle.pst_image_meaning.specs.Denoted.{pointer_content, entry_content, kind_content, content_of}
 use Rattle.pst_image_meaning.proofs.Numbers.{value_kind, behind_values, pointer_kind}
 

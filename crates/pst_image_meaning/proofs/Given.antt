@@ -8,11 +8,11 @@ use Rattle.pst_image_form.specs.declared.parts.ImageParts.{ImageParts}
 use Rattle.pst_image_form.specs.Bytes.{Fits}
 use Rattle.pst_image_rules.specs.declared.rule.Rule.TheVariants.{Ranges, Versions, Nodes, Chains, Pointers, Entries, Capacity, Bound}
 use Rattle.pst_image_rules.specs.Rules.{IsJudged}
-use Rattle.pst_image_tree.specs.Versions.{IsInRange, AreNested}
-use Rattle.pst_image_nodes.specs.Nodes.{AreNodes}
-use Rattle.pst_image_nodes.specs.Chains.{AreChained}
-use Rattle.pst_image_mirror.specs.Mirror.{ArePointersEntered, AreEntriesPointed}
-use Rattle.pst_image_mirror.specs.Capacity.{AreWithinCapacity, IsBounded}
+use Rattle.pst_image_rules.specs.Versions.{IsInRange, AreNested}
+use Rattle.pst_image_rules.specs.Nodes.{AreNodes}
+use Rattle.pst_image_rules.specs.Chains.{AreChained}
+use Rattle.pst_image_rules.specs.Mirror.{ArePointersEntered, AreEntriesPointed}
+use Rattle.pst_image_rules.specs.Capacity.{AreWithinCapacity, IsBounded}
 use Rattle.pst_image_meaning.specs.Made.{IsMade}
 
 -- the rules one by one, for the store's own shape

@@ -19,12 +19,12 @@ use Rattle.pst_mirror.proofs.SegmentLemmas.{segments_from_positions}
 use Rattle.pst_store_meaning.specs.Arena.{IsIn}
 use Rattle.pst_store_meaning.specs.Store.{Node, Stored, arena, IsStore}
 use Rattle.pst_image_form.specs.declared.parts.NodePart.{NodePart}
-use Rattle.pst_image_nodes.specs.Nodes.{node_at, entry, slot_count}
-use Rattle.pst_image_mirror.specs.Segments.{begins, ends}
-use Rattle.pst_image_mirror.specs.Mirror.{IsPointerSlot, IsInverseSlot, shape_of, ArePointersEntered, AreEntriesPointed}
-use Rattle.pst_image_mirror.specs.Sides.{AreTyped}
-use Rattle.pst_image_mirror.specs.Laws.{IsSegment}
-use Rattle.pst_image_mirror.proofs.Following.{segments_follow}
+use Rattle.pst_image_rules.specs.Nodes.{node_at, entry, slot_count}
+use Rattle.pst_image_rules.specs.Segments.{begins, ends}
+use Rattle.pst_image_rules.specs.Mirror.{IsPointerSlot, IsInverseSlot, shape_of, ArePointersEntered, AreEntriesPointed}
+use Rattle.pst_image_rules.specs.Sides.{AreTyped}
+use Rattle.pst_image_rules.specs.Laws.{IsSegment}
+use Rattle.pst_image_rules.proofs.Following.{segments_follow}
 use Rattle.pst_image_meaning.specs.Parts.{content_number, node_part, node_parts}
 use Rattle.pst_image_meaning.proofs.RowsParts.{begun, begins_held, piece, last_edge}
 use Rattle.pst_image_meaning.proofs.Nodes.{slice_get-there, count, there, part_at, value, lo_is, hi_is, part_type, in_life, held, from_lives, target_lives, kind_of, entry_small, are_nodes}

@@ -18,13 +18,13 @@ use Rattle.pst_store_meaning.proofs.HeapLaws.{is_in-true}
 use Rattle.pst_store_meaning.proofs.Places.{slice_get-below}
 use Rattle.pst_image_form.specs.declared.parts.NodePart.{NodePart}
 use Rattle.pst_image_form.specs.declared.parts.ImageParts.{ImageParts}
-use Rattle.pst_image_nodes.specs.Nodes.{no_node, node_at, entry}
-use Rattle.pst_image_mirror.specs.Segments.{begins, ends}
-use Rattle.pst_image_mirror.specs.Mirror.{IsPointerSlot, shape_of}
-use Rattle.pst_image_mirror.specs.Sides.{AreTyped}
-use Rattle.pst_image_mirror.specs.Laws.{IsSegment}
-use Rattle.pst_image_mirror.proofs.Sizes.{few_elements}
-use Rattle.pst_image_mirror.proofs.Following.{segments_follow}
+use Rattle.pst_image_rules.specs.Nodes.{no_node, node_at, entry}
+use Rattle.pst_image_rules.specs.Segments.{begins, ends}
+use Rattle.pst_image_rules.specs.Mirror.{IsPointerSlot, shape_of}
+use Rattle.pst_image_rules.specs.Sides.{AreTyped}
+use Rattle.pst_image_rules.specs.Laws.{IsSegment}
+use Rattle.pst_image_rules.proofs.Mirror.{few_elements}
+use Rattle.pst_image_rules.proofs.Following.{segments_follow}
 use Rattle.pst_image_meaning.specs.Parts.{content_number, node_part}
 use Rattle.pst_image_meaning.proofs.RowsParts.{begun, begins_held, piece}
 use Rattle.pst_image_meaning.proofs.MirrorParts.{edge-there, one_end}

@@ -30,7 +30,7 @@ use Rattle.pst_store_meaning.proofs.HeapLaws.{is_in-true}
 use Rattle.pst_store_meaning.proofs.Places.{slice_get-below}
 use Rattle.pst_image_form.specs.declared.parts.StampPart.{StampPart}
 use Rattle.pst_image_form.specs.declared.parts.NodePart.{NodePart}
-use Rattle.pst_image_nodes.specs.Nodes.{no_node, no_stamp, node_at, stamp_of, slot_count, HasKind, FitsSlot, IsStamp, IsAfter, IsNode, AreNodes}
+use Rattle.pst_image_rules.specs.Nodes.{no_node, no_stamp, node_at, stamp_of, slot_count, HasKind, FitsSlot, IsStamp, IsAfter, IsNode, AreNodes}
 use Rattle.pst_image_meaning.specs.Parts.{content_number, stamp_part, node_part, node_parts}
 use Rattle.pst_image_meaning.proofs.RowsParts.{bases_at, at_begin}
 

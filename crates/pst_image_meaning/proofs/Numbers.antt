@@ -17,7 +17,7 @@ use Rattle.pst_rows.specs.declared.content.Content.{Content}
 use Rattle.pst_rows.specs.declared.content.Content.TheVariants.{Number, Null, Free, Target as TargetOf, From as FromOf}
 use Rattle.pst_mirror.specs.Kinds.{HasKind as IsOfKind}
 use Rattle.pst_store_meaning.specs.Store.{width}
-use Rattle.pst_image_nodes.specs.Nodes.{entry, HasKind}
+use Rattle.pst_image_rules.specs.Nodes.{entry, HasKind}
 use Rattle.pst_image_meaning.specs.Parts.{content_number}
 use Rattle.pst_image_meaning.specs.Denoted.{pointer_content, entry_content, kind_content, content_of, IsShortContent}
 use Rattle.pst_image_meaning.specs.Laws.{NumbersBackLaw}

@@ -8,8 +8,8 @@ use Rattle.pst_order.specs.Places.{rank}
 use Rattle.pst_mirror.specs.Potential.{potential, excess as excess_of}
 use Rattle.pst_store_meaning.specs.Store.{Node, Stored, load_of, IsStore}
 use Rattle.pst_image_form.specs.declared.parts.NodePart.{NodePart}
-use Rattle.pst_image_tree.specs.Versions.{IsInRange}
-use Rattle.pst_image_mirror.specs.Capacity.{half, excess, AreWithinCapacity, IsBounded}
+use Rattle.pst_image_rules.specs.Versions.{IsInRange}
+use Rattle.pst_image_rules.specs.Capacity.{half, excess, AreWithinCapacity, IsBounded}
 use Rattle.pst_image_meaning.specs.Parts.{stamp_part, node_part, node_parts, version_part, parts_of}
 use Rattle.pst_image_meaning.specs.Left.{IsLeftStore, AreNumbers, AreSmall}
 use Rattle.pst_image_meaning.proofs.Nodes.{there, part_at}

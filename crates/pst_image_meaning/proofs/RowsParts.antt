@@ -11,9 +11,9 @@ use Rattle.pst_rows.proofs.TimelineLemmas.{base_below, at_stamp, edge_here, some
 use Rattle.pst_mirror.proofs.ValueLemmas.{value_inside}
 use Rattle.pst_store_meaning.specs.Store.{Node}
 use Rattle.pst_image_form.specs.declared.parts.StampPart.{StampPart}
-use Rattle.pst_image_mirror.specs.Segments.{first, is_at, begins, ends}
-use Rattle.pst_image_mirror.specs.Laws.{IsSegment}
-use Rattle.pst_image_mirror.proofs.Order.{begins_at_lo, begins_later}
+use Rattle.pst_image_rules.specs.Segments.{first, is_at, begins, ends}
+use Rattle.pst_image_rules.specs.Laws.{IsSegment}
+use Rattle.pst_image_rules.proofs.Order.{begins_at_lo, begins_later}
 use Rattle.pst_image_meaning.specs.Parts.{content_number, stamp_part, node_part}
 
 -- ---- bases and stamped values as numbers

@@ -23,9 +23,9 @@ use Rattle.pst_image_form.specs.declared.parts.StampPart.{StampPart}
 use Rattle.pst_image_form.specs.declared.parts.NodePart.{NodePart}
 use Rattle.pst_image_form.specs.declared.parts.ImageParts.{ImageParts}
 use Rattle.pst_image_form.specs.Bytes.{FitsNode}
-use Rattle.pst_image_nodes.specs.Nodes.{no_stamp, node_at, stamp_of, slot_count, IsAfter, IsNode}
-use Rattle.pst_image_mirror.specs.Segments.{IsSorted}
-use Rattle.pst_image_mirror.proofs.Order.{all_on}
+use Rattle.pst_image_rules.specs.Nodes.{no_stamp, node_at, stamp_of, slot_count, IsAfter, IsNode}
+use Rattle.pst_image_rules.specs.Segments.{IsSorted}
+use Rattle.pst_image_rules.proofs.Order.{all_on}
 use Rattle.pst_image_meaning.proofs.Nodes.{slice_get-there, of_node-there}
 use Rattle.pst_image_meaning.specs.Taken.{HasKinds}
 use Rattle.pst_image_meaning.specs.Denoted.{content_of, contents_from, stamp_of as stamp_made, node_of}

@@ -15,9 +15,9 @@ use Rattle.pst_store_meaning.specs.declared.place.Place.{Place}
 use Rattle.pst_store_meaning.specs.Store.{Node, Stored, arena, loads, bound}
 use Rattle.pst_image_form.specs.declared.parts.VersionPart.{VersionPart}
 use Rattle.pst_image_form.specs.declared.parts.ImageParts.{ImageParts}
-use Rattle.pst_image_tree.specs.Versions.{no_version, version_at, AreNested}
-use Rattle.pst_image_nodes.specs.Nodes.{node_at}
-use Rattle.pst_image_mirror.specs.Capacity.{excess, bound_of}
+use Rattle.pst_image_rules.specs.Versions.{no_version, version_at, AreNested}
+use Rattle.pst_image_rules.specs.Nodes.{node_at}
+use Rattle.pst_image_rules.specs.Capacity.{excess, bound_of}
 use Rattle.pst_image_meaning.specs.Parts.{version_part, version_parts}
 use Rattle.pst_image_meaning.specs.Versions.{AreVersionsNested}
 use Rattle.pst_image_meaning.specs.Left.{AreNamed, IsLeftStore, AreSmall}

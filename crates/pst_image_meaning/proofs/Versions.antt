@@ -9,7 +9,7 @@ use Rattle.pst_store_meaning.specs.declared.place.Place.{Place}
 use Rattle.pst_store_meaning.specs.Store.{Stored, begin_of, end_of}
 use Rattle.pst_store_meaning.proofs.Places.{slice_get-below}
 use Rattle.pst_image_form.specs.declared.parts.VersionPart.{VersionPart}
-use Rattle.pst_image_tree.specs.Versions.{AreNested, IsFurther, IsInside, IsRootVersion, version_at, parent_of, run_of, no_version}
+use Rattle.pst_image_rules.specs.Versions.{AreNested, IsFurther, IsInside, IsRootVersion, version_at, parent_of, run_of, no_version}
 use Rattle.pst_image_meaning.specs.Parts.{version_part, version_parts}
 use Rattle.pst_image_meaning.specs.Versions.{AreVersionsNested}
 use Rattle.pst_image_meaning.specs.LawsParts.{VersionsLaw}

@@ -20,8 +20,8 @@ use Rattle.pst_store_meaning.specs.Store.{Node, Stored, arena_of}
 use Rattle.pst_image_form.specs.declared.parts.StampPart.{StampPart}
 use Rattle.pst_image_form.specs.declared.parts.NodePart.{NodePart}
 use Rattle.pst_image_form.specs.declared.parts.ImageParts.{ImageParts}
-use Rattle.pst_image_nodes.specs.Nodes.{node_at}
-use Rattle.pst_image_nodes.specs.declared.ends.Chain.{Chain}
+use Rattle.pst_image_rules.specs.Nodes.{node_at}
+use Rattle.pst_image_rules.specs.declared.ends.Chain.{Chain}
 
 -- in a pointer slot: null, or the node whose number is one less
 abbrev pub pointer_content : ℕ → Content

@@ -5,7 +5,7 @@ use Rattle.pst_base.specs.declared.shape.TypeShape.{TypeShape}
 use Rattle.pst_base.specs.Shape.{type_at}
 use Rattle.pst_store_meaning.specs.Store.{Stored, arena, IsStore}
 use Rattle.pst_image_form.specs.declared.parts.NodePart.{NodePart}
-use Rattle.pst_image_nodes.specs.Nodes.{FitsSlot}
+use Rattle.pst_image_rules.specs.Nodes.{FitsSlot}
 use Rattle.pst_image_meaning.specs.Parts.{content_number, parts_of}
 use Rattle.pst_image_meaning.specs.Denoted.{content_of, arena_in, AreShort}
 

@@ -3,7 +3,7 @@ use Rattle.std.specs.Prelude.{◌≡◌, ℕ, ◌≤◌, ◌^◌, List, length, 
 use Rattle.pst_versions.specs.Rows.{first_row}
 use Rattle.pst_store_meaning.specs.Store.{Node, Stored, IsStore}
 use Rattle.pst_program.specs.Sound.{CountsWithin}
-use Rattle.pst_image_tree.specs.Versions.{AreNested}
+use Rattle.pst_image_rules.specs.Versions.{AreNested}
 use Rattle.pst_image_rules.specs.Rules.{IsJudged}
 use Rattle.pst_image_meaning.specs.Parts.{parts_of, version_parts}
 use Rattle.pst_image_meaning.specs.Versions.{AreVersionsNested}

@@ -6,8 +6,8 @@ use Rattle.pst_store_meaning.specs.declared.place.Place.{Place}
 use Rattle.pst_store_meaning.specs.Arena.{heap_at}
 use Rattle.pst_store_meaning.specs.Store.{Stored, arena, IsRested}
 use Rattle.pst_image_form.specs.declared.parts.ImageParts.{ImageParts}
-use Rattle.pst_image_nodes.specs.declared.ends.Chain.{Chain}
-use Rattle.pst_image_nodes.specs.Chains.{AreChains}
+use Rattle.pst_image_rules.specs.declared.ends.Chain.{Chain}
+use Rattle.pst_image_rules.specs.Chains.{AreChains}
 use Rattle.pst_image_meaning.specs.Parts.{version_part, parts_of}
 use Rattle.pst_image_meaning.specs.Left.{IsLeftStore}
 use Rattle.pst_image_meaning.specs.Forks.{AreForksOfVersions}

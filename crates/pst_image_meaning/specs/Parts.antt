@@ -13,7 +13,7 @@ use Rattle.pst_image_form.specs.declared.parts.VersionPart.{VersionPart}
 use Rattle.pst_image_form.specs.declared.parts.StampPart.{StampPart}
 use Rattle.pst_image_form.specs.declared.parts.NodePart.{NodePart}
 use Rattle.pst_image_form.specs.declared.parts.ImageParts.{ImageParts}
-use Rattle.pst_image_nodes.specs.Nodes.{entry}
+use Rattle.pst_image_rules.specs.Nodes.{entry}
 
 -- a content as a number: a number in two's complement, and else 0 where nothing is held
 abbrev pub content_number : Content → ℕ

@@ -4,8 +4,8 @@ use Rattle.std.proofs.lemmas.Bool.{cases_eq}
 use Rattle.pst_base.specs.declared.shape.TypeShape.{TypeShape}
 use Rattle.pst_image_form.specs.declared.parts.NodePart.{NodePart}
 use Rattle.pst_image_form.specs.declared.parts.ImageParts.{ImageParts}
-use Rattle.pst_image_tree.specs.Versions.{IsInRange}
-use Rattle.pst_image_nodes.specs.Nodes.{node_at, AreNodes}
+use Rattle.pst_image_rules.specs.Versions.{IsInRange}
+use Rattle.pst_image_rules.specs.Nodes.{node_at, AreNodes}
 use Rattle.pst_image_rules.specs.declared.rule.Rule.{Rule}
 use Rattle.pst_image_rules.specs.declared.rule.Rule.TheVariants.{Form, Text, Ranges, Versions, Nodes, Chains, Pointers, Entries, Capacity, Bound}
 use Rattle.pst_image_rules.specs.Rules.{number_of, Holds, HoldBelow, IsFirstFailed}

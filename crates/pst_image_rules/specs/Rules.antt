@@ -2,11 +2,11 @@
 use Rattle.std.specs.Prelude.{ℕ, ◌<◌, List, Option, Some, None, ⊤}
 use Rattle.pst_base.specs.declared.shape.TypeShape.{TypeShape}
 use Rattle.pst_image_form.specs.declared.parts.ImageParts.{ImageParts}
-use Rattle.pst_image_tree.specs.Versions.{IsInRange, AreNested}
-use Rattle.pst_image_nodes.specs.Nodes.{AreNodes}
-use Rattle.pst_image_nodes.specs.Chains.{AreChained}
-use Rattle.pst_image_mirror.specs.Mirror.{ArePointersEntered, AreEntriesPointed}
-use Rattle.pst_image_mirror.specs.Capacity.{AreWithinCapacity, IsBounded}
+use Rattle.pst_image_rules.specs.Versions.{IsInRange, AreNested}
+use Rattle.pst_image_rules.specs.Nodes.{AreNodes}
+use Rattle.pst_image_rules.specs.Chains.{AreChained}
+use Rattle.pst_image_rules.specs.Mirror.{ArePointersEntered, AreEntriesPointed}
+use Rattle.pst_image_rules.specs.Capacity.{AreWithinCapacity, IsBounded}
 use Rattle.pst_image_rules.specs.declared.rule.Rule.{Rule}
 use Rattle.pst_image_rules.specs.declared.rule.Rule.TheVariants.{Form, Text, Ranges, Versions, Nodes, Chains, Pointers, Entries, Capacity, Bound}
 

@@ -4,14 +4,12 @@ ghost use Rattle.std.specs.Prelude.{◌^◌, ◌<◌, length, IfOk};
 ghost use Rattle.pst_base.specs.Shape.{IsValid};
 ghost use Rattle.pst_image_rules.specs.Rules.{HoldBelow, IsJudged};
 
+use crate::capacity::{are_within_capacity, is_bounded};
 use crate::rule::Rule;
+use crate::sides::{are_entries_pointed, are_pointers_entered};
+use crate::{are_chained, are_nested, are_nodes, is_in_range};
 use pst_base::{NoMemory, Shape};
 use pst_image_form::ImageParts;
-use pst_image_mirror::{
-    are_entries_pointed, are_pointers_entered, are_within_capacity, is_bounded,
-};
-use pst_image_nodes::{are_chained, are_nodes};
-use pst_image_tree::{are_nested, is_in_range};
 use std::alloc::Global;
 
 /// The first rule that fails of those from `Pointers` on, or None where all hold.

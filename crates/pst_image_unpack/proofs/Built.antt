@@ -14,11 +14,11 @@ use Rattle.pst_store.specs.Calls.{AreCounted, IsKept}
 use Rattle.pst_image_form.specs.declared.parts.VersionPart.{VersionPart}
 use Rattle.pst_image_form.specs.declared.parts.ImageParts.{ImageParts}
 use Rattle.pst_image_form.specs.Bytes.{Fits, FitsNode}
-use Rattle.pst_image_tree.specs.Versions.{IsInRange, AreNested, IsOrderOfRuns}
-use Rattle.pst_image_nodes.specs.Nodes.{no_node, node_at, AreNodes}
-use Rattle.pst_image_nodes.specs.Chains.{HaveLives, EndBelow, AreInChains, AreChained, AreChains}
-use Rattle.pst_image_nodes.specs.declared.ends.Chain.{Chain}
-use Rattle.pst_image_mirror.specs.Capacity.{AreWithinCapacity}
+use Rattle.pst_image_rules.specs.Versions.{IsInRange, AreNested, IsOrderOfRuns}
+use Rattle.pst_image_rules.specs.Nodes.{no_node, node_at, AreNodes}
+use Rattle.pst_image_rules.specs.Chains.{HaveLives, EndBelow, AreInChains, AreChained, AreChains}
+use Rattle.pst_image_rules.specs.declared.ends.Chain.{Chain}
+use Rattle.pst_image_rules.specs.Capacity.{AreWithinCapacity}
 use Rattle.pst_image_rules.specs.declared.rule.Rule.TheVariants.{Ranges, Versions, Nodes, Chains, Capacity}
 use Rattle.pst_image_rules.specs.Rules.{IsJudged}
 use Rattle.pst_image_meaning.specs.Denoted.{nodes_of, places_of, relic_of}

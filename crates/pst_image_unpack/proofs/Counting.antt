@@ -11,7 +11,7 @@ use Rattle.std.proofs.lemmas.Map.Made.{length-le_from_is_member, is_member-Decid
 use Rattle.pst_base.proofs.Below.{get_or-listed, length-listed}
 use Rattle.pst_base.specs.Below.{listed}
 use Rattle.pst_image_form.specs.declared.parts.VersionPart.{VersionPart}
-use Rattle.pst_image_tree.specs.Versions.{run_of, AreInside, IsOrderOfRuns}
+use Rattle.pst_image_rules.specs.Versions.{run_of, AreInside, IsOrderOfRuns}
 use Rattle.pst_image_unpack.specs.Listing.{AreOfVersions}
 
 -- ---- numbers in lists

@@ -12,7 +12,7 @@ use Rattle.pst_store_meaning.specs.declared.place.Fork.{Fork}
 use Rattle.pst_store_meaning.specs.Store.{Stored}
 use Rattle.pst_store_meaning.proofs.Places.{slice_get-below, slice_get-map, slice_get-mapped}
 use Rattle.pst_image_form.specs.declared.parts.VersionPart.{VersionPart}
-use Rattle.pst_image_tree.specs.Versions.{no_version, version_at, parent_of, IsOrderOfRuns, AreNested}
+use Rattle.pst_image_rules.specs.Versions.{no_version, version_at, parent_of, IsOrderOfRuns, AreNested}
 use Rattle.pst_image_meaning.specs.Parts.{version_part}
 use Rattle.pst_image_meaning.specs.Forks.{IsForkFor, HasFork, AreForksOfVersions}
 use Rattle.pst_image_unpack.specs.Listing.{HasNumbers, HaveParents, place_in, places_in, no_place, row_in, rows_in, fork_in, forks_in}

@@ -8,8 +8,8 @@ use Rattle.pst_store_meaning.specs.declared.place.Fork.{Fork}
 use Rattle.pst_image_form.specs.declared.parts.VersionPart.{VersionPart}
 use Rattle.pst_image_form.specs.declared.parts.NodePart.{NodePart}
 use Rattle.pst_image_form.specs.declared.parts.StampPart.{StampPart}
-use Rattle.pst_image_tree.specs.Versions.{version_at, parent_of}
-use Rattle.pst_image_nodes.specs.Nodes.{no_stamp}
+use Rattle.pst_image_rules.specs.Versions.{version_at, parent_of}
+use Rattle.pst_image_rules.specs.Nodes.{no_stamp}
 
 -- stamped values of the first 256 slots
 abbrev pub AreOfFirst : List StampPart → Type 0

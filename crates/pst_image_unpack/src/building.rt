@@ -14,7 +14,7 @@ use crate::records::relics_of;
 use crate::versions::{forks_of, places_of, tree_of};
 use pst_base::{NoMemory, Shape};
 use pst_image_form::ImageParts;
-use pst_image_tree::order_of_runs;
+use pst_image_rules::order_of_runs;
 use pst_order::Walked;
 use pst_store::{Parts, Started, StoreOf};
 use pst_store_arena::Listed;

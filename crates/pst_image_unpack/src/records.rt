@@ -1,14 +1,14 @@
 //! Over which places the records of an image live.
 
 ghost use Rattle.std.specs.Prelude.{◌≡◌, ◌<◌, ◌^◌, IfOk, length, map};
-ghost use Rattle.pst_image_nodes.specs.Chains.{HaveLives, EndBelow, AreInChains, AreChains};
+ghost use Rattle.pst_image_rules.specs.Chains.{HaveLives, EndBelow, AreInChains, AreChains};
 ghost use Rattle.pst_image_meaning.specs.Denoted.{relic_of as relic_in};
-ghost use Rattle.pst_image_nodes.specs.declared.ends.Chain.{Chain as ItsChain};
+ghost use Rattle.pst_image_rules.specs.declared.ends.Chain.{Chain as ItsChain};
 ghost use Rattle.std.specs.Prelude.{List};
 
 use pst_base::NoMemory;
 use pst_image_form::NodePart;
-use pst_image_nodes::{Chain, chains_of};
+use pst_image_rules::{Chain, chains_of};
 use pst_order::Pos;
 use pst_store_meaning::place::Place;
 use std::alloc::Global;

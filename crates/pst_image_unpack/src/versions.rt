@@ -1,7 +1,7 @@
 //! Versions and forks. A version after 0 has the fork with the number that its run has among the runs of all versions.
 
 ghost use Rattle.std.specs.Prelude.{◌≡◌, ◌<◌, ◌^◌, ℕ, List, IfOk, length};
-ghost use Rattle.pst_image_tree.specs.Versions.{IsOrderOfRuns};
+ghost use Rattle.pst_image_rules.specs.Versions.{IsOrderOfRuns};
 ghost use Rattle.pst_image_unpack.specs.Listing.{AreOfVersions, HaveParents, HasNumbers, place_in, places_in, rows_in, forks_in};
 
 use pst_base::{NoMemory, VersionNo};

@@ -1,6 +1,6 @@
 use Rattle.std.proofs.Common.{refl}
-use Rattle.pst_image_mirror.specs.Mirror.{ArePointersEntered, AreEntriesPointed}
-use Rattle.pst_image_mirror.specs.Capacity.{AreWithinCapacity, IsBounded}
+use Rattle.pst_image_rules.specs.Mirror.{ArePointersEntered, AreEntriesPointed}
+use Rattle.pst_image_rules.specs.Capacity.{AreWithinCapacity, IsBounded}
 use Rattle.pst_image_rules.specs.declared.rule.Rule.TheVariants.{Pointers, Entries, Capacity, Bound}
 use Rattle.pst_image_rules.proofs.Judged.{holds_too, fails_first, are_typed, are_known, in_range, all_hold, never}
 use Rattle.pst_image_rules.proofs.judge.first_failed_later.Goals as goal

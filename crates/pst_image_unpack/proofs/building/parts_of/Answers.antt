@@ -4,8 +4,8 @@ use Rattle.pst_repair.proofs.SeenLemmas.{seen_count}
 use Rattle.pst_store_meaning.specs.declared.place.Place.{Place}
 use Rattle.pst_image_form.specs.declared.parts.VersionPart.{VersionPart}
 use Rattle.pst_image_form.specs.declared.parts.NodePart.{NodePart}
-use Rattle.pst_image_tree.specs.Versions.{AreInside, HaveOwnRuns}
-use Rattle.pst_image_nodes.specs.Chains.{AreChains, AreInChains, HaveLives, EndBelow}
+use Rattle.pst_image_rules.specs.Versions.{AreInside, HaveOwnRuns}
+use Rattle.pst_image_rules.specs.Chains.{AreChains, AreInChains, HaveLives, EndBelow}
 use Rattle.pst_image_meaning.specs.Denoted.{nodes_of, relic_of}
 use Rattle.pst_image_unpack.specs.Listing.{AreFew, AreOfVersions, HaveParents, no_place, rows_in, forks_in}
 use Rattle.pst_repair.specs.Seen.{seen}

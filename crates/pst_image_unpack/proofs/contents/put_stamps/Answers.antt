@@ -1,7 +1,7 @@
 use Rattle.std.proofs.Common.{◌<◌, ◌∙◌, subst}
 use Rattle.std.proofs.lemmas.List.{get_or_default}
 use Rattle.pst_image_form.specs.declared.parts.StampPart.{StampPart}
-use Rattle.pst_image_nodes.specs.Nodes.{no_stamp}
+use Rattle.pst_image_rules.specs.Nodes.{no_stamp}
 use Rattle.pst_image_unpack.proofs.contents.put_stamps.Goals as goal
 
 pub stamp_of-requires : goal.stamp_of-requires

@@ -1,5 +1,5 @@
 use Rattle.std.proofs.Common.{◌∙◌, ap, get_or, arith}
-use Rattle.pst_image_tree.specs.Versions.{version_at}
+use Rattle.pst_image_rules.specs.Versions.{version_at}
 use Rattle.pst_image_unpack.specs.Listing.{place_in}
 use Rattle.std.proofs.lemmas.List.{get_or_default}
 use Rattle.pst_image_unpack.proofs.Lists.{listed-step}

@@ -1,6 +1,6 @@
 use Rattle.std.proofs.Common.{◌≡◌, get_or}
 use Rattle.pst_base.specs.Below.{listed}
-use Rattle.pst_image_tree.specs.Versions.{version_at}
+use Rattle.pst_image_rules.specs.Versions.{version_at}
 use Rattle.pst_image_unpack.specs.Listing.{place_in}
 use Rattle.pst_image_unpack.proofs.versions.places_of.Given as goal
 

@@ -1,5 +1,0 @@
-pub mod Segments
-pub mod Mirror
-pub mod Capacity
-pub mod Sides
-pub mod Laws

@@ -1,5 +1,0 @@
-use Rattle.pst_image_nodes.specs.Heads.{AreChainsTo}
-use Rattle.pst_image_nodes.proofs.ends.chains_by.Given as goal
-
-abbrev pub invariant-loop-i : goal.invariant-loop-i
-invariant-loop-i l = AreChainsTo l.nodes l.marks l.i l.chains.items

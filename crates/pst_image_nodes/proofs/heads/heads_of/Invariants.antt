@@ -1,5 +1,0 @@
-use Rattle.pst_image_nodes.specs.Heads.{AreHeads}
-use Rattle.pst_image_nodes.proofs.heads.heads_of.Given as goal
-
-abbrev pub invariant-loop-i : goal.invariant-loop-i
-invariant-loop-i l = AreHeads l.nodes l.marks l.i l.heads.items

@@ -1,5 +1,0 @@
-use Rattle.pst_image_nodes.specs.Heads.{AreLinked, AreMarked}
-use Rattle.pst_image_nodes.proofs.links.marks.Given as goal
-
-abbrev pub invariant-loop-i : goal.invariant-loop-i
-invariant-loop-i l = record { linked : AreLinked l.nodes l.i; marked : AreMarked l.nodes l.i l.marks.items }
