@@ -1,7 +1,8 @@
 //! The cases of a file.
 
+use crate::case::Case;
 use crate::run::{Score, run_case};
-use pst_cli_case_files::{Case, body_of};
+use crate::text::body_of;
 use std::io;
 
 /// Runs the cases of a file, which may name programs of another file, and counts them.

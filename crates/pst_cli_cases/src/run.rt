@@ -1,9 +1,9 @@
 //! Running a case over inputs and outputs in memory.
 
+use crate::case::{Case, UNTOUCHED};
 use crate::turns::{fail_each, run_cuts};
 use pst_base::Counts;
 use pst_cli::{Status, number, persist};
-use pst_cli_case_files::{Case, UNTOUCHED};
 use pst_io::{MemSink, MemSource};
 use pst_line::calls::LineCalls;
 use pst_line::line_store::LineStore;

@@ -1,8 +1,8 @@
 //! A case again and again: with each read failing in turn, with each write, and with room for each number of bytes; and on each
 //! number of the first bytes of its input.
 
+use crate::case::{Case, Cut, Step, UNTOUCHED};
 use crate::run::{Devices, Score, Trial, Wanted, run_once, sizes};
-use pst_cli_case_files::{Case, Cut, Step, UNTOUCHED};
 use std::alloc::{AllocError, Global};
 use std::io;
 
