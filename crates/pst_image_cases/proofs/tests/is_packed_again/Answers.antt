@@ -1,7 +1,7 @@
 use Rattle.std.proofs.Common.{◌≡◌, ap, arith}
 use Rattle.pst_base.specs.declared.names.RunNo.{RunNo}
 use Rattle.pst_image_rules.specs.declared.rule.Rule.TheVariants.{Ranges}
-use Rattle.pst_image_unpack_cases.proofs.tests.is_packed_again.Goals as goal
+use Rattle.pst_image_cases.proofs.tests.is_packed_again.Goals as goal
 
 pub pack-requires-clause-numbers : goal.pack-requires-clause-numbers
 pack-requires-clause-numbers c =
