@@ -1,8 +1,0 @@
-//! Shapes, lists and words with what no clause says: that the calls which take memory succeed, and that the clauses mean what is
-//! meant.
-#![tactic(auto)]
-
-#[cfg(test)]
-mod lists;
-#[cfg(test)]
-mod shapes;

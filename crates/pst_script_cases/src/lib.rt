@@ -1,5 +1,0 @@
-//! Replies that no script brings about.
-#![tactic(auto)]
-
-#[cfg(test)]
-mod replies;
