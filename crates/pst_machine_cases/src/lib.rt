@@ -1,6 +1,16 @@
 //! A run of several calls, in slices, over the forest, with values worked out by hand.
+//!
+//! MERGE: one head is wanted; the above is that of `pst_machine_cases`, and the below of `pst_code_cases`.
+//!
+//! Code that is made by hand, since no program has it: which is valid, and how it is listed.
 #![tactic(auto)]
 
+#[cfg(test)]
+mod arrays;
+#[cfg(test)]
+mod listings;
+#[cfg(test)]
+mod made;
 #[cfg(test)]
 mod runs;
 #[cfg(test)]
@@ -9,3 +19,5 @@ mod samples;
 mod session;
 #[cfg(test)]
 mod speed;
+#[cfg(test)]
+mod validity;
