@@ -1,3 +1,6 @@
-pub mod Trying
-pub mod Started
+pub mod Repeats
+pub mod Rings
 pub mod Stamps
+pub mod Started
+pub mod StartedRings
+pub mod Trying

@@ -4,8 +4,8 @@ use Rattle.std.proofs.lemmas.List.Elements.{All-cons, All-nil, All-push}
 use Rattle.pst_base.specs.declared.names.Name.{Name}
 use Rattle.pst_versions.specs.State.{State, Forked, ValueStored}
 use Rattle.pst_versions.proofs.StateLemmas.{Grows_trans}
-use Rattle.pst_store_rings.specs.Rings.{HasRing, IsStamped}
-use Rattle.pst_store_rings.proofs.Rings.{rings_grow}
+use Rattle.pst_store_splits_cases.specs.Rings.{HasRing, IsStamped}
+use Rattle.pst_store_splits_cases.proofs.Rings.{rings_grow}
 
 module _ {P R : Type 0} where
   pub one_ring : (s : State P R) (first second : R) (p : P) (places : List P) → places ≡ p ∷ [] → HasRing s first second p → All (HasRing s first second) places

@@ -11,7 +11,7 @@ use Rattle.pst_base.proofs.WellFormed.{type_in-with_new}
 use Rattle.pst_versions.specs.Client.{HasRoomFor}
 use Rattle.pst_store_meaning.specs.declared.place.Place.{Place}
 use Rattle.pst_store_meaning.specs.Store.{Stored}
-use Rattle.pst_store_rings.proofs.Started.{HasOnePlace}
+use Rattle.pst_store_splits_cases.proofs.StartedRings.{HasOnePlace}
 use Rattle.pst_store_splits_cases.specs.Trials.{IsReady}
 use Rattle.pst_store.specs.Whole.{state_in}
 

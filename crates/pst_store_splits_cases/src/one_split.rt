@@ -2,14 +2,15 @@
 
 ghost use Rattle.std.specs.Prelude.{◌≡◌, ◌∷◌, [], All, IfOk};
 ghost use Rattle.pst_store_meaning.specs.Store.{state_of};
-ghost use Rattle.pst_store_rings.specs.Rings.{HasRing, IsStamped};
+ghost use Rattle.pst_store_splits_cases.specs.Rings.{HasRing, IsStamped};
 
+use crate::making::{FIRST, SECOND, Trouble, VALUE, start_ring, type_of};
+use crate::reading::{Reading, readings};
 use pst_base::{Kind, NoMemory, NodeId, Shape, VersionNo};
 use pst_order::Order;
 use pst_store::{Started, Store};
 use pst_store_arena::Arena;
 use pst_store_meaning::place::Place;
-use pst_store_rings::{FIRST, Reading, SECOND, Trouble, VALUE, readings, start_ring, type_of};
 use std::alloc::Global;
 
 /// The number of forks at which the first item's number is written, which stamps two values each time.

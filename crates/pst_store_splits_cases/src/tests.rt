@@ -4,12 +4,12 @@ ghost use Rattle.std.specs.Prelude.{◌≡◌, All, IfOk, IfSome, None};
 ghost use Rattle.pst_store_splits_cases.specs.Trials.{HoldsNumber, IsReady};
 ghost use Rattle.pst_store.specs.Whole.{state_in};
 
+use crate::making::{FIRST, ITEM, SECOND, has_kind, type_of};
 use pst_base::{Kind, NoMemory, NodeId, RunNo, Shape, SlotNo, TypeNo, VersionNo};
 use pst_order::Order;
 use pst_store::{Store, StoreOf};
 use pst_store_arena::FatNodes;
 use pst_store_meaning::place::Place;
-use pst_store_rings::{FIRST, ITEM, SECOND, has_kind, type_of};
 use pst_versions::{HeapAt, StoreFault, VersionedHeap, fork_and_link};
 use std::alloc::Global;
 

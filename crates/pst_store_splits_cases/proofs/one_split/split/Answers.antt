@@ -1,7 +1,7 @@
 use Rattle.std.proofs.Common.{All, sym, subst}
 use Rattle.pst_store_meaning.specs.Store.{state_of}
-use Rattle.pst_store_rings.specs.Rings.{HasRing}
-use Rattle.pst_store_rings.proofs.Rings.{rings_grow}
+use Rattle.pst_store_splits_cases.specs.Rings.{HasRing}
+use Rattle.pst_store_splits_cases.proofs.Rings.{rings_grow}
 use Rattle.pst_store_splits_cases.proofs.one_split.split.Goals as goal
 
 pub readings-requires-2 : goal.readings-requires-2

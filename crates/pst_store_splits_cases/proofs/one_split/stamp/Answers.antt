@@ -1,5 +1,5 @@
 use Rattle.std.proofs.Common.{rules}
-use Rattle.pst_store_rings.proofs.Rings.{version_published}
+use Rattle.pst_store_splits_cases.proofs.Rings.{version_published}
 use Rattle.pst_store_splits_cases.proofs.Stamps.{stamped}
 use Rattle.pst_store_splits_cases.proofs.one_split.stamp.Goals as goal
 

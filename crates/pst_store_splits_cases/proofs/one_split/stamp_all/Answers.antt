@@ -1,4 +1,4 @@
-use Rattle.pst_store_rings.proofs.Rings.{ring_grows}
+use Rattle.pst_store_splits_cases.proofs.Rings.{ring_grows}
 use Rattle.pst_store_splits_cases.proofs.Stamps.{one_ring, rings_stamped}
 use Rattle.pst_store_splits_cases.proofs.one_split.stamp_all.Goals as goal
 

@@ -1,6 +1,6 @@
 use Rattle.std.proofs.Common.{All}
 use Rattle.pst_store_meaning.specs.Store.{state_of}
-use Rattle.pst_store_rings.specs.Rings.{HasRing}
+use Rattle.pst_store_splits_cases.specs.Rings.{HasRing}
 use Rattle.pst_store_splits_cases.proofs.one_split.stamp_all.Given as goal
 
 -- the ring stands at the version and at the forks so far

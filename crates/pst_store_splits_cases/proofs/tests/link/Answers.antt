@@ -1,5 +1,5 @@
 use Rattle.std.proofs.Common.{refl}
-use Rattle.pst_store_rings.proofs.Started.{one_place, place_fresh, place_published, run_1}
+use Rattle.pst_store_splits_cases.proofs.StartedRings.{one_place, place_fresh, place_published, run_1}
 use Rattle.pst_store_splits_cases.proofs.tests.link.Goals as goal
 
 pub fork_and_link-requires-clause-published : goal.fork_and_link-requires-clause-published

@@ -1,4 +1,4 @@
-use Rattle.pst_store_rings.proofs.Started.{one_place, place_published}
+use Rattle.pst_store_splits_cases.proofs.StartedRings.{one_place, place_published}
 use Rattle.pst_store_splits_cases.proofs.tests.publish.Goals as goal
 
 pub fork-requires-clause-published : goal.fork-requires-clause-published

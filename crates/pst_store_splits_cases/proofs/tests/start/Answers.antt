@@ -1,7 +1,7 @@
 use Rattle.std.proofs.Common.{rules, ◌≡◌, Some}
 use Rattle.pst_base.specs.declared.names.Kind.TheVariants.{Int}
 use Rattle.pst_base.specs.Shape.{field_kind, root_type, type_at}
-use Rattle.pst_store_rings.proofs.Started.{one_place}
+use Rattle.pst_store_splits_cases.proofs.StartedRings.{one_place}
 use Rattle.pst_store_splits_cases.proofs.Started.{place_ready}
 use Rattle.pst_store_splits_cases.proofs.tests.start.Goals as goal
 
