@@ -1,27 +1,16 @@
-//! The script of the bench carried out, and summed up.
+//! The bench: a large script over the program of a ring (`pst_samples::ring`), carried out and summed up.
 //!
-//! Model: the lines of the script with a number (`bench_lines`), the history of a program after them, and the numbers that the
-//! replies say were printed (`printed_from`). The table of the bench (`BenchRow`) says by the status what is written of the
-//! summary, and what the store is left in.
+//! Model: the script is a list of bytes, a function of the number of versions on its path and of the bench's number
+//! (`specs/Script`); its lines (`bench_lines`), the history of a program after them, and the numbers that the replies say were printed
+//! (`printed_from`). The table of the bench (`BenchRow`) says by the status what is written of the summary, and what the store is left in.
 //!
-//! Contract: [`bench`] carries the script out for the program with a text, over a store, and writes the summary as one piece:
-//! how many versions there are, what `stats` answers, how many nodes the store has, and the sum of what was printed; or the line
-//! of the program's fault. Nothing is read.
+//! Contract: `bench_script` gives exactly the script for a path of 20,000 versions, or finds no memory; `scripts_by_hand` says what the
+//! definition gives for short paths. [`bench`] carries the script out for the program with a text, over a store, and writes the
+//! summary as one piece: how many versions there are, what `stats` answers, how many nodes the store has, and the sum of what was
+//! printed; or the line of the program's fault. Nothing is read.
 //!
 //!     let mut store: Store = Store::empty();
 //!     let status = bench(alloc, ring().as_bytes(), 1, sink, &mut store);
-//!
-//! MERGE: one head is wanted; the above is that of `pst_cli_bench`, and the below of `pst_bench`.
-//!
-//! The script of the bench: a large input over the program of a ring, which is `pst_samples::ring`.
-//!
-//! Model: the script is a list of bytes, a function of the number of versions on its path and of the bench's number
-//! (`specs/Script`).
-//!
-//! Contract: `bench_script` gives exactly that text for a path of 20,000 versions, or finds no memory. `scripts_by_hand` says
-//! what the definition gives for short paths.
-//!
-//!     let script = bench_script(alloc, 7)?;
 #![tactic(auto)]
 
 mod lines;

@@ -1,20 +1,8 @@
 //! Whole inputs with what is written for them, on the top call: the cases stand in the files of `data/`, which lie where
 //! this program runs. It says which case fails and what was written for it, and where no case passed; else it prints nothing.
 //!
-//! `data/programs` tells how the files are written.
-//!
-//! MERGE: one head is wanted; the above is that of `pst_cli_cases`, and the below of `pst_cli_case_files`.
-//!
-//! Cases as files write them: what a program is given, and what it has to write.
-//!
-//! Model: none of its own; it only reads what tests are told by.
-//!
-//! Contract: each call ends, and asks for nothing. [`Case::take_line`] takes the lines of a case one after another, in the
-//! form that `data/programs` of the crate of cases tells. A line that has no such form stands for itself or is left out, and
-//! a case that was not read as it was meant fails when it is run.
-//!
-//!     let mut case = Case::new(alloc);
-//!     case.take_line(alloc, programs, b"words: run")?;
+//! `data/programs` tells how the files are written. [`Case::take_line`] takes the lines of a case one after another; a line that has
+//! none of its forms stands for itself or is left out, and a case that was not read as it was meant fails when it is run.
 #![tactic(auto)]
 
 mod case;

@@ -1,29 +1,20 @@
-//! The text of a program served: its script answered, a page of it written, or the line of its fault; and the table of how much
-//! was read, written and held under each status.
+//! The text of a program served: its script answered by one of three sessions, a page of it written, or the line of its fault; and
+//! the table of how much was read, written and held under each status.
 //!
 //! Model: the output of an input for a job is a list of pieces (`pieces`): the replies to its script, or one page, or the line
 //! of the program's fault alone. The table (`Row`) says by the status how far the input was read, which of the pieces are
-//! written, and what is held then.
+//! written, and what is held then. A session, with what is held beside it, stands for histories of its program (the trait
+//! [`Session`](pst_cli_scripts::Session)).
 //!
-//! Contract: [`serve`] answers the script behind a program by a [`Session`](pst_cli_scripts::Session) that is begun for it,
-//! [`print`] writes a page, and both write the line of the fault of a text that is no program's, as [`refuse`] does. What they
-//! come to is a row of the table, by the lemmas of this crate. By law an input has at most one output for a job.
+//! Contract: [`serve`] answers the script behind a program by a session that is begun for it, [`print`] writes a page, and both write
+//! the line of the fault of a text that is no program's, as [`refuse`] does. What they come to is a row of the table, by the lemmas of
+//! this crate. By law an input has at most one output for a job. [`Running`] answers by the engine over a store of fat nodes,
+//! [`Replaying`] by executing each version's runs again, and both give the replies of a tree of versions; [`Lining`] answers by the
+//! store of a linear history, where only the newest version may be written. What is held is left with every version of the
+//! history, within the bound of its store.
 //!
 //!     let text = read_text(alloc, &mut lines, source)?;
 //!     let status = serve::<Replaying, S, K>(alloc, text, &mut (), &mut lines, source, sink);
-//!
-//! MERGE: one head is wanted; the above is that of `pst_cli_serving`, and the below of `pst_cli_sessions`.
-//!
-//! The three sessions: what answers the commands of a script, by a store, by replaying, or by the store of a linear history.
-//!
-//! Model: a session, with what is held beside it, stands for histories of its program (the trait [`Session`](pst_cli_scripts::Session)).
-//!
-//! Contract: [`Running`] answers by the engine over a store of fat nodes, [`Replaying`] by executing each version's runs again,
-//! and both give the replies of a tree of versions; [`Lining`] answers by the store of a linear history, where only the newest
-//! version may be written. What is held is left with every version of the history, within the bound of its store.
-//!
-//!     let mut session = Running::begin(alloc, program, store)?;
-//!     let reply = session.apply(alloc, store, &command)?;
 #![tactic(auto)]
 
 mod laws;

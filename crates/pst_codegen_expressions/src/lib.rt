@@ -1,24 +1,16 @@
-//! The code of expressions and conditions: what the compiler makes of a statement's operands and tests.
+//! The first pass of the compiler, which finds the temporary registers of a procedure, and the code of expressions and conditions.
 //!
-//! The model is `expr_code` and `test_code` of `pst_translation`, over the registers that a [`Layout`] gives: the parameters and
-//! locals of a procedure first, then its temporary ones. [`emit_expr`] adds exactly the code of an operand and answers the
-//! register that holds its value, and [`emit_test`] adds that of a condition, as a jump to where it comes out as wanted.
+//! The model is `table_of`, `expr_code` and `test_code` of `pst_translation`. A [`Table`] is a list of levels and kinds in the order in
+//! which the code first needs them, and knows the index of each; `table_of` gives that of a procedure whose expressions are operands
+//! and conditions of levels that fit 16 bits, as those of a well-typed program are. A [`Layout`] has the registers: the parameters and
+//! locals of a procedure first, then its temporary ones. [`emit_expr`] adds exactly the code of an operand and answers the register
+//! that holds its value, and [`emit_test`] adds that of a condition, as a jump to where it comes out as wanted.
 //!
 //! A jump is known before it is added: [`test_len`] is how many instructions a condition takes, wherever it stands. Want of memory
 //! is the one free answer, also where an index would not fit 32 bits.
 //!
-//! For example `x < 5`, to be left for index 7 where it does not hold, is `const r1 5`, `jumpge r0 r1 7`.
-//!
-//! MERGE: one head is wanted; the above is that of `pst_codegen_expressions`, and the below of `pst_codegen_registers`.
-//!
-//! The temporary registers that the code of a procedure needs: the first pass of the compiler.
-//!
-//! The model is `table_of` of `pst_translation`, a list of levels and kinds in the order in which the code first needs them. A
-//! [`Table`] is such a list, and knows the index of each; `table_of` gives that of a procedure whose expressions are operands
-//! and conditions of levels that fit 16 bits, as those of a well-typed program are.
-//!
-//! For example the code of `x = x + 1` needs two: the number of level 1, into which the 1 is loaded, and then that of level 0, for
-//! the sum.
+//! For example the code of `x = x + 1` needs two temporary registers: the number of level 1, into which the 1 is loaded, and that of
+//! level 0, for the sum. `x < 5`, to be left for index 7 where it does not hold, is `const r1 5`, `jumpge r0 r1 7`.
 #![tactic(auto)]
 
 mod conditions;

@@ -1,29 +1,15 @@
 //! Runs of a typed program on an ordinary heap, by its direct meaning.
 //!
-//! Model: the outcome of a list of calls (`pst_program`).
+//! Model: the outcome of a list of calls, and the values and answers of the direct meaning (`pst_program`). Beside the heap a run keeps
+//! a [`Tally`]; the two together are the world of the definitions, and an [`End`] with them is an ending.
 //!
-//! Contract: `evaluate` gives that outcome and leaves its heap, for every heap of the program's shape in which no record has the
+//! Contract: [`evaluate`] gives the outcome and leaves its heap, for every heap of the program's shape in which no record has the
 //! run's number. It asks for no typing. The list of calls goes on under one budget, one list of printed numbers and one
-//! numbering of records.
-//!
-//! What an expression gives and what a write does stands below, in `pst_eval`; here are statements, blocks and calls.
+//! numbering of records. Its parts: [`value`] gives what an expression gives, or the kind of its first trap from left to right;
+//! [`arguments`] and [`first_env`] the values that a call begins with; [`write`] does what a write of a field does, and takes no
+//! charge: it asks for a tally of which one charge was taken that nothing was done for, and leaves one from which the run may go on.
 //!
 //!     let outcome = evaluate(alloc, &program, &mut heap, &spec)?;
-//!
-//! MERGE: one head is wanted; the above is that of `pst_eval`, and the below of `pst_eval_values`.
-//!
-//! What the expressions of a typed program give on an ordinary heap, and single writes: the parts of its direct meaning that run
-//! no statement.
-//!
-//! Model: values and answers of the direct meaning (`pst_program`). Beside the heap a run keeps a [`Tally`]; the two together are
-//! the world of the definitions, and an [`End`] with them is an ending.
-//!
-//! Contract: [`value`] gives what an expression gives, or the kind of its first trap from left to right; [`arguments`] and
-//! [`first_env`] the values that a call begins with. [`write`] does what a write of a field does, and takes no charge: it asks for
-//! a tally of which one charge was taken that nothing was done for, and leaves one from which the run may go on.
-//!
-//!     let v = value(&expression, &env, &heap)?;
-//!     let end = write(name, slot, v, line, &mut heap, &mut tally);
 #![tactic(auto)]
 
 mod call;

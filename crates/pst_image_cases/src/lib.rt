@@ -1,8 +1,5 @@
-//! Images that are worked by hand: what they are read as, and which rule fails first.
-//!
-//! MERGE: one head is wanted; the above is that of `pst_image_cases`, and the below of `pst_image_unpack_cases`.
-//!
-//! Images taken and packed again, with what no clause says: that the calls which take memory succeed.
+//! Images that are worked by hand: what they are read as, and which rule fails first; and images taken and packed again, with what
+//! no clause says: that the calls which take memory succeed.
 #![tactic(auto)]
 
 #[cfg(test)]

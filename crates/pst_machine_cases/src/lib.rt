@@ -1,8 +1,5 @@
-//! A run of several calls, in slices, over the forest, with values worked out by hand.
-//!
-//! MERGE: one head is wanted; the above is that of `pst_machine_cases`, and the below of `pst_code_cases`.
-//!
-//! Code that is made by hand, since no program has it: which is valid, and how it is listed.
+//! Code that is made by hand, since no program has it: which is valid, and how it is listed; and a run of several calls, in slices,
+//! over the forest, with values worked out by hand.
 #![tactic(auto)]
 
 #[cfg(test)]

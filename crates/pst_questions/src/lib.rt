@@ -1,24 +1,18 @@
-//! Which version changed what a path reads.
+//! Two questions about a heap with versions: the dump of a place, and which version changed what a path reads.
 //!
-//! Model: a path is names joined by dots, as `first.next.key`: a root, and then fields. `resolved` gives its slots in a
-//! program; `reading` is what its last field holds in a heap, or none where a null is met before.
+//! Model: the records that the root record reaches are numbered from 0 in the order of their least access paths (`specs/Paths`), the
+//! shortest lists of slots that lead to them; the dump (`specs/Dump`) has one line each, in that order. A path is names joined by
+//! dots, as `first.next.key`: a root, and then fields. `resolved` gives its slots in a program; `reading` is what its last field holds
+//! in a heap, or none where a null is met before.
 //!
-//! Contract: `path_form` answers exactly whether bytes have the form of a path, and `resolve` gives exactly the slots of a valid
-//! one. `changed` gives the first version on the way to version 0 whose reading is not that of its parent.
+//! Contract: `dump` gives exactly that text, or finds no memory. By laws a heap has one dump, and the dumps of two well-formed heaps of
+//! one shape with numbers of 64 bits and record types of different names are equal exactly where one heap is the other one with its
+//! records renamed. `path_form` answers exactly whether bytes have the form of a path, and `resolve` gives exactly the slots of a
+//! valid one. `changed` gives the first version on the way to version 0 whose reading is not that of its parent.
 //!
 //!     if let Some(path) = resolve(alloc, &program, b"first.key")? {
 //!         let version = changed(&heap, &path, VersionNo(7));
 //!     }
-//!
-//! MERGE: one head is wanted; the above is that of `pst_changed`, and the below of `pst_dump`.
-//!
-//! The dump of a heap at a place: a text of all records that the root record reaches there.
-//!
-//! Model: the records are numbered from 0 in the order of their least access paths (`specs/Paths`), the shortest lists of slots
-//! that lead to them from the root record; the dump (`specs/Dump`) has one line each, in that order.
-//!
-//! Contract: `dump` gives exactly that text, or finds no memory. The laws say that a heap has one dump, and that the dumps
-//! of two heaps are equal exactly where one heap is the other one with its records renamed.
 //!
 //! For example a list of the numbers 7 and 5 is dumped so:
 //!

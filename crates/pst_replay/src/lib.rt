@@ -5,29 +5,15 @@
 //! history after it: for a version's heap it executes the runs on the path from version 0 again, each with its whole budget,
 //! and then the run that is asked for under the charges granted to it. So a line costs what the runs on one path cost, and
 //! `stats` costs that for each run so far. A procedure is looked up by its name where a line names it, and kept by its number
-//! beside the history, so that no run on a path asks for it again.
+//! beside the history, so that no run on a path asks for it again. `refused` gives the refusal of a command by the order of
+//! `pst_history`'s `refusal`, or none where it is to be answered; it takes no memory, executes nothing and changes nothing.
 //!
 //! ```text
-//! run 0 add 5      version 1      executes add 5
-//! open 1           run 2          executes nothing
-//! call 2 add 7     run 2 running  executes add 5, and add 7 up to its first charge
-//! close 2          version 2      executes add 5 and add 7
-//! ```
-//!
-//! MERGE: one head is wanted; the above is that of `pst_replay`, and the below of `pst_replay_refusals`.
-//!
-//! Which refusal a command gets, by the program and by what is kept of the history so far.
-//!
-//! Model: that of `pst_history`, whose definition `refusal` says what of a command is looked at first. What is kept is a
-//! [`Since`](pst_history::Since), with the number of its open runs beside it.
-//!
-//! Contract: [`refused`] gives the refusal of each of the eleven commands, or none where it is to be answered. It takes no memory,
-//! executes nothing and changes nothing.
-//!
-//! ```text
-//! run 7 add 5      versions 0 and 1    refused version
-//! run 0 add        add takes one       refused arguments
-//! step 1 100       run 1 is closed     refused run
+//! run 0 add 5      version 1            executes add 5
+//! open 1           run 2                executes nothing
+//! call 2 add 7     run 2 running        executes add 5, and add 7 up to its first charge
+//! close 2          version 2            executes add 5 and add 7
+//! run 7 add 5      refused version      executes nothing: there are versions 0 to 2
 //! ```
 #![tactic(auto)]
 
