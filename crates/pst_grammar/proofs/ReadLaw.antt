@@ -8,7 +8,7 @@ use Rattle.pst_grammar.specs.Syntax as tree
 use Rattle.pst_grammar.specs.declared.lexeme.Label.{Label}
 use Rattle.pst_grammar.specs.declared.lexeme.Sign.TheVariants as sign
 use Rattle.pst_grammar.specs.Lexemes as token
-use Rattle.pst_grammar.specs.Lexemes.{Lexeme, Operator, Plain, Leading, Unknown}
+use Rattle.pst_grammar.specs.Lexemes.{Lexeme, Operator, Plain, Leading}
 use Rattle.pst_grammar.specs.Depth.{height}
 use Rattle.pst_grammar.specs.Forms.{level, loosest_left, rank, IsFormed, IsPlace}
 use Rattle.pst_grammar.specs.Spelling.{Expr, Number, Null, Name, Parens, Field, Indexed, Negate, Not, Binary, expr, spelled, place_line}

@@ -5,7 +5,7 @@ use Rattle.std.proofs.lemmas.Option.{slice_get_within}
 use Rattle.std.proofs.lemmas.List.{length-map}
 use Rattle.pst_base.specs.declared.names.TypeNo.{TypeNo}
 use Rattle.pst_base.specs.declared.shape.TypeShape.{TypeShape}
-use Rattle.pst_base.specs.declared.shape.TheConstants.{MOST_ROOTS, MOST_LIMIT, MOST_ELEMENTS}
+use Rattle.pst_base.specs.declared.shape.TheConstants.{MOST_ROOTS, MOST_IN_DEGREE, MOST_ELEMENTS}
 use Rattle.pst_base.specs.Shape as shape
 use Rattle.pst_grammar.specs.Syntax as tree
 use Rattle.pst_grammar.specs.Depth as depth
@@ -93,7 +93,7 @@ fields_fit scope types limit most m sound laid known few = record {
 
 -- what holds of each entry of the shape but the root's
 record Fine (types : List TypeShape) (s : TypeShape) : Type 0 where
-  pub limit : (1 ≤ s.limit) × (s.limit ≤ MOST_LIMIT)
+  pub limit : (1 ≤ s.limit) × (s.limit ≤ MOST_IN_DEGREE)
   pub fields : FieldsFit types s MOST_ELEMENTS
 
 fine_entry : (scope : Scope) (p : NamedProgram) (g : Together scope scope p) (ty : TypeNo) → 0 < ty.0 → ty.0 < length p.shape → Fine p.shape (shape.type_at p.shape ty)

@@ -3,7 +3,7 @@ use Rattle.std.proofs.Common.{◌≡◌, ℕ, ◌+◌, ◌<◌, ◌≤◌, nat_l
 use Rattle.std.proofs.lemmas.Bool.{ltb-true, leb-true}
 use Rattle.std.proofs.lemmas.Slice.Eq.{bytes_eq-Decides}
 use Rattle.pst_base.specs.declared.shape.TypeShape.{TypeShape}
-use Rattle.pst_base.specs.declared.shape.TheConstants.{MOST_ROOTS, MOST_LIMIT, MOST_ELEMENTS}
+use Rattle.pst_base.specs.declared.shape.TheConstants.{MOST_ROOTS, MOST_IN_DEGREE, MOST_ELEMENTS}
 use Rattle.pst_grammar.specs.Syntax as tree
 use Rattle.pst_grammar.specs.Depth as depth
 use Rattle.pst_program.specs.Syntax as program
@@ -101,12 +101,12 @@ if_some : (b : Bool) (n m : ℕ) → cond b (Some n) None ≡ Some m → (b ≡ 
 if_some true n m e = (refl, cc)
 if_some false n m e = cc
 
-limits : (l : ℤ) (n : ℕ) → limit_of l ≡ Some n → (1 ≤ n) × (n ≤ MOST_LIMIT)
+limits : (l : ℤ) (n : ℕ) → limit_of l ≡ Some n → (1 ≤ n) × (n ≤ MOST_IN_DEGREE)
 limits (pos k) n e =
-    let p = if_some (nat_lt 0 k && nat_le k MOST_LIMIT) k n e in
-    let q = both_true (nat_lt 0 k) (nat_le k MOST_LIMIT) p.0 in
+    let p = if_some (nat_lt 0 k && nat_le k MOST_IN_DEGREE) k n e in
+    let q = both_true (nat_lt 0 k) (nat_le k MOST_IN_DEGREE) p.0 in
     let a = ltb-true 0 k q.0 in
-    let b = leb-true k MOST_LIMIT q.1 in
+    let b = leb-true k MOST_IN_DEGREE q.1 in
     (omega (arith, p.1), omega (arith, p.1))
 limits (negsuc k) n e = cc
 
@@ -116,7 +116,7 @@ pub record IsEntry (scope : Scope) (k : ℕ) (r : RecordType) (s : TypeShape) : 
   pub number : r.number.0 ≡ k
   pub limit : ℕ
   pub least : 1 ≤ limit
-  pub most : limit ≤ MOST_LIMIT
+  pub most : limit ≤ MOST_IN_DEGREE
   pub is : s ≡ shape_of scope limit r.members
   pub laid : IsLaid scope r.members
   pub few : HasFew r.members
