@@ -9,7 +9,7 @@ use Rattle.pst_image_form.specs.declared.fault.FormFault.{FormFault}
 use Rattle.pst_image_form.specs.declared.fault.FormFault.TheVariants.{Form, Memory}
 use Rattle.pst_image_form.specs.declared.parts.ImageParts.{ImageParts}
 use Rattle.pst_image_form.specs.Bytes.{number, counted, text_bytes, version_bytes, stamp_bytes, node_bytes, counts_bytes, magic, body_bytes, image_bytes, FitsVersion, FitsStamp, FitsNode, FitsCounts, Fits64, Fits, HasForm, FormIsOne}
-use Rattle.pst_image_form.specs.Reading.{Fails, IsMemory, read_number, read_32, below, both, read_counted, read_text, make_version, make_stamp, make_counts, read_counts, make_node, make_image, read_version, read_stamp, read_node, read_body, read_front}
+use Rattle.pst_image_form.specs.Reading.{Fails, IsMemory, read_number, read_32, below, both, read_counted, read_text, make_version, make_stamp, make_counts, read_counts, make_node, make_image, read_version, read_stamp, read_contents, read_node, read_body, read_front}
 use Rattle.pst_image_form.proofs.Codes.{IsBytes, IsBytes-drop, IsCode, test_some, some_is, number_code, below_code, both_code, counted_code, made_code, text_code}
 
 code32 : IsCode read_32 number (λ n. n < 2 ^ 32)
@@ -48,7 +48,7 @@ node_fields =
     (both_code _ _ _ _ _ _ number_code (both_code _ _ _ _ _ _ (counted_code (2 ^ 16) _ _ _ (lit≤ tt) number_code) (counted_code (2 ^ 64) _ _ _ (lit≤ tt) stamp_code)))))))
 
 pub node_code : IsCode read_node node_bytes FitsNode
-unfolding read_node
+unfolding read_node read_contents
 node_code = made_code _ _ _ _ _ make_node (λ k. (k.name.run.0, (k.name.ordinal, (k.ty.0, (k.lo, (k.hi, (k.later, (k.bases, k.stamps)))))))) (record {
   same = λ k. refl;
   written = λ p. refl;
