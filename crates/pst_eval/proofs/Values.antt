@@ -69,7 +69,8 @@ both_none h n s slot k l e f = ap (λ o. content o h n s) e ∙ sym (ap (λ o. c
 pub load_kept : (shape : List TypeShape) (h : Heap) (slot s : ℕ) (v : Value) → IsValid shape → s ≡ min slot (2 ^ 16 - 1) → load shape h s v ≡ load shape h slot v
 load_kept shape h slot s (ARecord n) valid is =
     kept (λ x. load shape h x (ARecord n) ≡ load shape h slot (ARecord n)) slot s is (λ _. refl) (λ above.
-    ap Gives (both_none h n (2 ^ 16 - 1) slot (kind_in shape h n (2 ^ 16 - 1)) (kind_in shape h n slot) (no_kind shape h n (2 ^ 16 - 1) valid (omega arith)) (no_kind shape h n slot valid (omega arith))))
+    ap Gives (both_none h n (2 ^ 16 - 1) slot (kind_in shape h n (2 ^ 16 - 1)) (kind_in shape h n slot)
+    (no_kind shape h n (2 ^ 16 - 1) valid (omega arith)) (no_kind shape h n slot valid (omega arith))))
 load_kept shape h slot s ANull valid is = refl
 load_kept shape h slot s (ANumber x) valid is = refl
 load_kept shape h slot s (ATruth b) valid is = refl

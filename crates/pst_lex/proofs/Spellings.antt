@@ -9,7 +9,9 @@ use Rattle.std.proofs.lemmas.Option.{slice_get_within}
 use Rattle.pst_lex.specs.declared.types.TokenKind.{TokenKind}
 use Rattle.pst_lex.specs.declared.types.TokenKind.TheVariants as kind
 use Rattle.pst_lex.specs.declared.words.Mark.{Mark}
-use Rattle.pst_lex.specs.declared.words.Mark.TheVariants.{Record, Val, Ptr, Root, Proc, Query, Var, New, Call, Print, If, Else, While, Return, Null, And, Or, Not, Int, OpenBrace, CloseBrace, OpenParen, CloseParen, Semicolon, Colon, Comma, Dot, Assign, Equal, NotEqual, Less, LessEqual, Greater, GreaterEqual, Plus, Minus, Star, Slash, Percent}
+use Rattle.pst_lex.specs.declared.words.Mark.TheVariants.{Record, Val, Ptr, Root, Proc, Query, Var, New, Call, Print, If, Else, While, Return, Null, And, Or}
+use Rattle.pst_lex.specs.declared.words.Mark.TheVariants.{Not, Int, OpenBrace, CloseBrace, OpenParen, CloseParen, Semicolon, Colon, Comma, Dot, Assign, Equal}
+use Rattle.pst_lex.specs.declared.words.Mark.TheVariants.{NotEqual, Less, LessEqual, Greater, GreaterEqual, Plus, Minus, Star, Slash, Percent}
 use Rattle.pst_lex.specs.Bytes.{is_word, is_letter, is_digit, is_symbol, is_pair, gap_step, StartsWithLetter, StartsWithDigit}
 use Rattle.pst_lex.specs.Words.{mark_text, keywords, Word, Fixed, Name, Number, spelling, word_of}
 use Rattle.pst_lex.specs.Lexing.{IsWord}
@@ -77,7 +79,8 @@ same (a ∷ v) (b ∷ w) = (a == b) && same v w
 
 -- the symbols
 abbrev symbols : List Mark
-symbols = OpenBrace ∷ CloseBrace ∷ OpenParen ∷ CloseParen ∷ Semicolon ∷ Colon ∷ Comma ∷ Dot ∷ Assign ∷ Equal ∷ NotEqual ∷ Less ∷ LessEqual ∷ Greater ∷ GreaterEqual ∷ Plus ∷ Minus ∷ Star ∷ Slash ∷ Percent ∷ []
+symbols = OpenBrace ∷ CloseBrace ∷ OpenParen ∷ CloseParen ∷ Semicolon ∷ Colon ∷ Comma ∷ Dot ∷ Assign ∷ Equal ∷ NotEqual ∷ Less ∷ LessEqual ∷ Greater ∷
+    GreaterEqual ∷ Plus ∷ Minus ∷ Star ∷ Slash ∷ Percent ∷ []
 
 -- the keyword or symbol that is spelled so
 abbrev named : List ℕ → Option Mark

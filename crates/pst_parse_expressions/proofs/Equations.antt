@@ -215,4 +215,27 @@ going-other j b n e (seen.Plain s) ts never nor = absurd (nor s refl)
 going-other j zero n e l ts never nor = refl
 going-other j (suc c) n e l ts never nor = refl
 
-pub ruleset equations = (read-none, read-number, read-name, read-null, read-open, read-open_deep, read-minus, read-minus_deep, read-not, read-not_deep, read-not_wrong, read-leading, going-end, going-operator, going-operator_deep, going-operator_ends, going-dot, going-dot_deep, going-dot_ends, selected-first, selected-field, selected-index)
+pub ruleset equations = (
+  read-none,
+  read-number,
+  read-name,
+  read-null,
+  read-open,
+  read-open_deep,
+  read-minus,
+  read-minus_deep,
+  read-not,
+  read-not_deep,
+  read-not_wrong,
+  read-leading,
+  going-end,
+  going-operator,
+  going-operator_deep,
+  going-operator_ends,
+  going-dot,
+  going-dot_deep,
+  going-dot_ends,
+  selected-first,
+  selected-field,
+  selected-index,
+)

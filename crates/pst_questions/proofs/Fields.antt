@@ -58,7 +58,8 @@ is_pointer : (o : Option TypeNo) (ty : TypeNo) → o ≡ Some ty → IsPointer (
 is_pointer o ty e = subst (λ (o : Option TypeNo). IsPointer (option_map Pointer o)) (sym e) tt
 
 -- a slot past the numbers that is one of the pointers
-pointer_kind : (shape : List TypeShape) (h : Heap) (n : Name) (ty : TypeNo) (slot : ℕ) → type_in h n ≡ Some ty → (type_at shape ty).values ≤ slot → slot < (type_at shape ty).values + length (type_at shape ty).targets → IsPointer (kind_in shape h n slot)
+pointer_kind : (shape : List TypeShape) (h : Heap) (n : Name) (ty : TypeNo) (slot : ℕ) → type_in h n ≡ Some ty → (type_at shape ty).values ≤ slot
+    → slot < (type_at shape ty).values + length (type_at shape ty).targets → IsPointer (kind_in shape h n slot)
 pointer_kind shape h n ty slot t from below =
     let t' : TypeShape = type_at shape ty in
     let there = slice_get-get_or t'.targets (slot - t'.values) root_type (omega arith) in
@@ -74,10 +75,12 @@ pub int_field : (shape : List TypeShape) (h : Heap) (n : Name) (fields : TypeSha
 int_field shape h n fields slot e l = (let t = typed shape h n fields e in int_kind shape h n t.ty slot t.typed (subst (λ (t : TypeShape). slot < t.values) (sym t.fields_are) l))
 
 -- a slot of a pointer
-pub pointer_field : (shape : List TypeShape) (h : Heap) (n : Name) (fields : TypeShape) (slot : ℕ) → fields_in shape h n ≡ Some fields → fields.values ≤ slot → slot < fields.values + length fields.targets → IsPointer (kind_in shape h n slot)
+pub pointer_field : (shape : List TypeShape) (h : Heap) (n : Name) (fields : TypeShape) (slot : ℕ) → fields_in shape h n ≡ Some fields
+    → fields.values ≤ slot → slot < fields.values + length fields.targets → IsPointer (kind_in shape h n slot)
 pointer_field shape h n fields slot e from below =
     let t = typed shape h n fields e in
-    pointer_kind shape h n t.ty slot t.typed (subst (λ (t : TypeShape). t.values ≤ slot) (sym t.fields_are) from) (subst (λ (t : TypeShape). slot < t.values + length t.targets) (sym t.fields_are) below)
+    pointer_kind shape h n t.ty slot t.typed (subst (λ (t : TypeShape). t.values ≤ slot) (sym t.fields_are) from)
+    (subst (λ (t : TypeShape). slot < t.values + length t.targets) (sym t.fields_are) below)
 
 -- ---- one slot after another
 
@@ -98,11 +101,14 @@ pointer_next slot (Some r) from l =
 pub drop-pointers : (h : Heap) (n : Name) (first slot : ℕ) → length (values_in h n) ≡ first → first ≤ slot → slot - first < length (pointers_in h n)
     → drop (slot - first) (pointers_in h n) ≡ pointer_in h n slot ∷ drop (slot + 1 - first) (pointers_in h n)
 drop-pointers h n first slot e from l =
-    subst (λ (k : ℕ). k ≤ slot → slot - k < length (pointers_in h n) → drop (slot - k) (pointers_in h n) ≡ pointer_in h n slot ∷ drop (slot + 1 - k) (pointers_in h n)) e (pointer_next slot (get h n)) from l
+    subst (λ (k : ℕ). k ≤ slot → slot - k < length (pointers_in h n)
+    → drop (slot - k) (pointers_in h n) ≡ pointer_in h n slot ∷ drop (slot + 1 - k) (pointers_in h n)) e (pointer_next slot (get h n)) from l
 
 -- ---- the type of a record, among those of a program
 
-pub fields_read : (shape types : List TypeShape) (h : Heap) (n : Name) (ty : TypeNo) (i : ℕ) (t : TypeShape) → type_in h n ≡ Some ty → shape ≡ types → i ≡ ty.0 → i < length types → t ≡ get_or types i t → fields_in shape h n ≡ Some t
+pub fields_read : (shape types : List TypeShape) (h : Heap) (n : Name) (ty : TypeNo) (i : ℕ) (t : TypeShape) → type_in h n ≡ Some ty → shape ≡ types
+    → i ≡ ty.0 → i < length types → t ≡ get_or types i t → fields_in shape h n ≡ Some t
 fields_read shape types h n ty i t typed same is l e =
-    let at : t ≡ type_at shape ty = e ∙ get_or_default types i t no_type l ∙ ap (λ k. get_or types k no_type) is ∙ sym (unwrap_or-slice_get types ty.0 no_type) ∙ ap (λ (shape : List TypeShape). type_at shape ty) (sym same) in
+    let at : t ≡ type_at shape ty = e ∙ get_or_default types i t no_type l ∙ ap (λ k. get_or types k no_type) is
+    ∙ sym (unwrap_or-slice_get types ty.0 no_type) ∙ ap (λ (shape : List TypeShape). type_at shape ty) (sym same) in
     ap (option_map (type_at shape)) typed ∙ ap Some (sym at)

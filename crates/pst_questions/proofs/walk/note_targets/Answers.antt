@@ -26,7 +26,8 @@ loop-slot-preserved g c =
 pub returns-clause-names : goal.returns-clause-names
 returns-clause-names g c =
     let s = g.H.HeapAt.state c.args.heap.now in
-    let has = fields_of s.shape (s.heap c.args.at) (s.name c.args.r) c.args.fields.now (c.known.ensures.well_formed c.args.at (c.known.ensures.placed c.args.at c.args.r c.requires.fields.live)) c.requires.fields.fields_are in
+    let has = fields_of s.shape (s.heap c.args.at) (s.name c.args.r) c.args.fields.now
+    (c.known.ensures.well_formed c.args.at (c.known.ensures.placed c.args.at c.args.r c.requires.fields.live)) c.requires.fields.fields_are in
     let count = has.pointers in
     let listed : length c.as_slice.result.now ≡ length c.args.fields.now.targets = ap length c.as_slice.ensures in
     let past = c.loop-slot-test.false in

@@ -17,7 +17,8 @@ loop-number-init g c =
     let es = c.in_ok-note.ensures ∙ ap (λ es. insert_entry same_name es root_name c.root.result) c.new-found.ensures in
     record {
       walked = subst (WalkedOn (s.heap c.args.at) 0) (sym (ap (map (λ e. e.0)) es)) (WalkedOn-none (s.heap c.args.at));
-      entries = subst (All (IsEntry s c.args.at)) (sym es) (AreEntries-noted s c.args.at [] root_name c.root.result (record { live = c.root.ensures.live; name = c.root.ensures.name }) (All-nil (IsEntry s c.args.at)));
+      entries = subst (All (IsEntry s c.args.at)) (sym es) (AreEntries-noted s c.args.at [] root_name c.root.result
+          (record { live = c.root.ensures.live; name = c.root.ensures.name }) (All-nil (IsEntry s c.args.at)));
     }
 
 pub type_of-requires : goal.type_of-requires
