@@ -35,13 +35,15 @@ def read(path):
         return text.read()
 
 
+def read_named():
+    """The crates in the order of crates.txt, with the libraries that each names, those of the kit too."""
+    lines = (line.partition('#')[0].partition(':') for line in read('crates.txt').splitlines())
+    return {name.split()[0]: below.split() for name, colon, below in lines if colon}
+
+
 def read_crates():
     """The crates, lowest first, with those of the repository that each names."""
-    named, crates = {}, {}
-    for line in read('crates.txt').splitlines():
-        name, colon, below = line.partition('#')[0].partition(':')
-        if colon:
-            named[name.split()[0]] = below.split()
+    named, crates = read_named(), {}
 
     def visit(name):
         if name in named and name not in crates:
