@@ -1,6 +1,6 @@
-//! The whole script for one number.
+//! The whole script of the bench for one number.
 
-use super::bench_script;
+use pst_cli_bench::bench_script;
 use std::test::Fail;
 
 #[test]

@@ -1,6 +1,6 @@
 //! The texts stand there whole.
 
-use super::{list, ring, tree};
+use pst_samples::{list, ring, tree};
 
 #[test]
 fn each_text_has_its_lines_and_ends_with_a_line_feed(rt: HostRuntime) {

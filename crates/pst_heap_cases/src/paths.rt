@@ -1,9 +1,9 @@
 //! What no clause says: that the calls which take memory succeed, and that the clauses mean what is meant. What is generic over
 //! a heap of versions is run where such a heap stands.
 
-use crate::{PathStep, path_form, resolve};
 use pst_base::{Kind, NoMemory, Shape, SlotNo, Targets, Text, TypeNo, TypeShape};
 use pst_program::{FieldName, FieldNames, Program, TypeEntry, TypeNames, TypedProcs};
+use pst_questions::{PathStep, path_form, resolve};
 use std::alloc::Global;
 
 /// A record type with this name and these fields: an array has a number of elements.
