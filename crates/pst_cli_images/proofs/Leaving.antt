@@ -20,7 +20,6 @@ use Rattle.pst_image_form.specs.Bytes.{Fits, image_bytes}
 use Rattle.pst_image_rules.specs.Rules.{IsJudged}
 use Rattle.pst_image_meaning.specs.Parts.{parts_of}
 use Rattle.pst_image_meaning.specs.Left.{IsLeftStore, AreNumbers}
-use Rattle.pst_image_engine.proofs.Left.{left_rules_law}
 use Rattle.pst_program.specs.declared.program.Program.{Program}
 use Rattle.pst_program.specs.View.{routines_of}
 use Rattle.pst_translation.specs.Compiled.{code_of}
@@ -29,16 +28,6 @@ use Rattle.pst_image_meaning.specs.Denoted.{arena_in}
 use Rattle.pst_cli_images.specs.Packing.{IsImage}
 
 module _ {H : Type 0} (m : Meaning) (parts : Parts) (engine : Engine H NodeId Place) (h : History) where
-  -- an empty store holds no version
-  empty_stands : EngineStands (record { meaning = m; parts = parts }) engine (state_in None) h → ⊥
-  empty_stands e = let many = e.versions.many in let base = e.sound.start.same in omega (arith, many, base)
-
-  pub leaves : (o : Option Stored) (next : RunNo) → next ≡ engine.next_run → IfSome o IsStore → EngineStands (record { meaning = m; parts = parts }) engine (state_in o) h → CountsWithin (state_in o).counts (2 ^ 50) → IsSomeAnd o (λ s. IsLeftStore s next.0)
-  leaves None next same k e few = absurd (empty_stands e)
-  leaves (Some s) next same k e few =
-      let counted : CountsWithin (counts_of m h) (2 ^ 50) = let Q : Counts → Type 0 = λ c. CountsWithin c (2 ^ 50) in subst Q e.counts few in
-      subst (λ (n : RunNo). IsLeftStore s n.0) (sym same) (left_rules_law H m (machine_runs parts) engine.active.items.items engine.budget engine.next_run.0 s h k e counted)
-
   pub numbers : (o : Option Stored) (next : RunNo) (budget : ℕ) → next ≡ engine.next_run → budget ≡ engine.budget → EngineStands (record { meaning = m; parts = parts }) engine (state_in o) h → AreNumbers next.0 budget
   numbers o next budget n b e =
       let same_next : next.0 ≡ next_run h = ap (λ (r : RunNo). r.0) n ∙ e.same_next in
