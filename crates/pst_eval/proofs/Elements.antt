@@ -6,7 +6,7 @@ use Rattle.pst_base.specs.Shape.{IsValid}
 use Rattle.pst_program.specs.declared.meaning.Value.{Value}
 use Rattle.pst_program.specs.Value.{Env}
 use Rattle.pst_program.specs.Meaning.{World, write, write_kind}
-use Rattle.pst_eval.proofs.Values.{kept, no_kind}
+use Rattle.pst_eval.proofs.ValueElements.{kept, no_kind}
 
 pub write_kept : (shape : List TypeShape) (n : Name) (slot s : ℕ) (v : Value) (line : ℕ) (env : Env) (w : World) → IsValid shape
     → s ≡ min slot (2 ^ 16 - 1) → write shape n s v line env w ≡ write shape n slot v line env w

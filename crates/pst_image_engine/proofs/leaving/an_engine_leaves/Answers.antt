@@ -1,5 +1,5 @@
 use Rattle.std.proofs.Common.{refl}
-use Rattle.pst_image_engine.proofs.Leaving.{leaves}
+use Rattle.pst_image_engine.proofs.Engines.{leaves}
 use Rattle.pst_image_engine.proofs.leaving.an_engine_leaves.Goals as goal
 
 pub returns : goal.returns

@@ -3,7 +3,7 @@ use Rattle.std.specs.List.{flat_map}
 use Rattle.std.proofs.lemmas.Result.{on_ok_weaker}
 use Rattle.pst_questions.specs.Dump.{value_word}
 use Rattle.pst_questions.specs.Walk.{names_of, record_of, values_of, pointers_of, pointer_word}
-use Rattle.pst_questions.proofs.Fields.{known_type, fields_read}
+use Rattle.pst_questions.proofs.FieldLemmas.{known_type, fields_read}
 use Rattle.pst_questions.proofs.Lines.{words, line_text-is}
 use Rattle.pst_questions.proofs.text.put_line.Goals as goal
 

@@ -3,7 +3,7 @@ use Rattle.std.specs.List.{flat_map}
 use Rattle.std.proofs.lemmas.List.{drop_all, append-nil}
 use Rattle.pst_base.specs.Heap.{pointer_in}
 use Rattle.pst_questions.specs.Walk.{names_of, pointers_of, pointer_word}
-use Rattle.pst_questions.proofs.Fields.{fields_of, pointer_field, drop-pointers}
+use Rattle.pst_questions.proofs.FieldLemmas.{fields_of, pointer_field, drop-pointers}
 use Rattle.pst_questions.proofs.Lines.{line_put}
 use Rattle.pst_questions.proofs.text.put_targets.Goals as goal
 

@@ -6,7 +6,7 @@ use Rattle.std.proofs.lemmas.List.{drop_all, append-nil}
 use Rattle.pst_base.specs.Heap.{value_in}
 use Rattle.pst_questions.specs.Dump.{value_word}
 use Rattle.pst_questions.specs.Walk.{values_of}
-use Rattle.pst_questions.proofs.Fields.{fields_of, int_field, drop-values}
+use Rattle.pst_questions.proofs.FieldLemmas.{fields_of, int_field, drop-values}
 use Rattle.pst_questions.proofs.Lines.{line_put}
 use Rattle.pst_questions.proofs.text.put_values.Goals as goal
 

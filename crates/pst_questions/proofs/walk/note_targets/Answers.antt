@@ -1,7 +1,7 @@
 use Rattle.std.proofs.Common.{◌≡◌, ◌+◌, ◌-◌, length, drop, ap, sym, ◌∙◌, arith}
 use Rattle.std.proofs.lemmas.List.{drop_all}
 use Rattle.pst_questions.specs.Walk.{names_of, pointers_of, noted, all_noted}
-use Rattle.pst_questions.proofs.Fields.{fields_of, drop-pointers}
+use Rattle.pst_questions.proofs.FieldLemmas.{fields_of, drop-pointers}
 use Rattle.pst_questions.proofs.walk.note_targets.Goals as goal
 
 pub loop-slot-preserved : goal.loop-slot-preserved

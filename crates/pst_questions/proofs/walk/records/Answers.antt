@@ -6,7 +6,7 @@ use Rattle.indexmap.specs.IndexMap.{insert_entry}
 use Rattle.pst_base.specs.Name.{root_name, same_name}
 use Rattle.pst_questions.specs.Walk.{entries_of, names_of, IsEntry}
 use Rattle.pst_questions.proofs.Entries.{noted_at, AreEntries-noted}
-use Rattle.pst_questions.proofs.Fields.{known_type, fields_read}
+use Rattle.pst_questions.proofs.FieldLemmas.{known_type, fields_read}
 use Rattle.pst_questions.proofs.Walked.{WalkedOn}
 use Rattle.pst_questions.proofs.Numbered.{WalkedOn-none, WalkedOn-next, AreNumbered-all}
 use Rattle.pst_questions.proofs.walk.records.Goals as goal

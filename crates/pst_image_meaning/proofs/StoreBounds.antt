@@ -24,7 +24,7 @@ use Rattle.pst_image_meaning.specs.Left.{AreNamed, IsLeftStore, AreSmall}
 use Rattle.pst_image_meaning.proofs.Nodes.{slice_get-there, part_in}
 use Rattle.pst_image_meaning.proofs.Versions.{versions_law}
 use Rattle.pst_image_meaning.specs.Denoted.{stamp_of as stamp_made}
-use Rattle.pst_image_meaning.proofs.Parts.{excess_is}
+use Rattle.pst_image_meaning.proofs.PartBounds.{excess_is}
 use Rattle.pst_image_meaning.proofs.Given.{Given}
 use Rattle.pst_image_meaning.proofs.Back.{place_count, node_count, node_is, part_there, version_count, versions_shown, nodes_shown}
 use Rattle.pst_image_meaning.proofs.ChainsStore.{name_is, root_named}
