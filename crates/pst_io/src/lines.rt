@@ -3,7 +3,7 @@ ghost use Rattle.std.specs.Prelude.{◌≡◌, ◌≢◌, ◌<◌, ◌≤◌, �
 ghost use Rattle.pst_io.specs.Causes.{Rose};
 ghost use Rattle.pst_io.specs.Text.{line_text, whole_lines};
 ghost use Rattle.pst_io.specs.Input.{Hands, Gives, Reads, ReadsPast, IsOver, NeedsNoRead, IsCutOff, HandsTo, HandsPast, bytes_read, pending};
-ghost use Rattle.pst_io.specs.Lines.{LinesState, IsOpen, not_begun, unread};
+ghost use Rattle.pst_io.specs.Lines.{LinesState, IsOpen, GoesOn, not_begun, unread};
 ghost use Rattle.std.specs.Io.KnownBytes.{IsAtEnd};
 
 use crate::fault::LinesFault;
@@ -107,6 +107,20 @@ impl Lines {
         ensures open { OnOk result (IsOpen self.new (S.left source.new)) }
         ensures goes_on { result ≡ Ok true → self.old.input.handed < self.new.input.handed }
         ensures later { S.faults source.old ≤ S.faults source.new }
+    {
+        self.go_on(source)
+    }
+
+    // Goes on to the next line, as `next` does: what comes of it is said as one.
+    #[inline(always)]
+    fn go_on<S: Source>(&mut self, source: &mut S) -> Result<bool, LinesFault>
+        requires { IsOpen self.old (S.left source.old) }
+        ensures goes { GoesOn result self.old (S.left source.old) self.new (S.left source.new) }
+        ensures no_read { NeedsNoRead self.old.input → IsOk result × (source.new ≡ source.old) }
+        ensures within { bytes_read self.new.input ≤ self.new.input.most }
+        ensures limit { self.new.input.most ≡ self.old.input.most }
+        ensures later { S.faults source.old ≤ S.faults source.new }
+        ensures fault { result ≡ Err LinesFault.Failed → Rose (S.faults source.old) (S.faults source.new) }
     {
         self.input.skip(self.taken);
         self.line_end = 0;

@@ -1,4 +1,4 @@
-use Rattle.std.proofs.Common.{◌≡◌, ◌∙◌, ◌≤◌, Err, ◌+◌, ◌-◌, [], ap, sym, refl, arith, inl, inr, length, take, append-nil, length-append, length-take, length-drop, pos_of_ne-zero}
+use Rattle.std.proofs.Common.{Err, [], ap, sym, refl, arith, inl, inr, length, take, append-nil, length-append, length-take, length-drop, pos_of_ne-zero}
 use Rattle.pst_io.proofs.Handing.{hands_none, hands_kept, hands_on}
 use Rattle.pst_io.proofs.input.Input.hand.Goals as goal
 

@@ -1,4 +1,4 @@
-use Rattle.std.proofs.Common.{◌≡◌, ◌≤◌, ◌<◌, ◌+◌, ◌-◌, ◌⊎◌, length, IsTrue, cond}
+use Rattle.std.proofs.Common.{◌≡◌, ◌≤◌, ◌<◌, ◌+◌, ◌-◌, ◌⊎◌, length, cond}
 use Rattle.pst_io.specs.declared.room.TheConstants.{MOST_READ}
 use Rattle.pst_io.specs.Input.{HandsTo, EndsWhereSeen, bytes_read}
 use Rattle.pst_io.proofs.input.Input.hand.Given as goal
