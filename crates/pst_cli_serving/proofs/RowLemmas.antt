@@ -31,7 +31,7 @@ use Rattle.pst_cli_serving.proofs.Counting.{bytes_of-append, lines_least, lines_
 use Rattle.pst_cli_serving.proofs.Serving.{job_of_page}
 
 abbrev pub fresh : InputState
-fresh = record { handed = 0; held = []; ended = false }
+fresh = record { handed = 0; held = []; ended = false; most = MOST_INPUT }
 
 -- ---- how much was read of an input that is told
 
@@ -117,9 +117,10 @@ abbrev pub LongFront : (P : Option CutInput → Type 0) → List ℕ → Option 
 LongFront P input left = (MOST_INPUT < length input) × (left ≡ Some (drop (MOST_INPUT + 1) input)) × P (cut (whole_lines (take MOST_INPUT input)))
 
 long_front : (P : Option CutInput → Type 0) (c : InputState) (input rest : List ℕ) (more : ℕ) (left : Option (List ℕ)) (lines : List (List ℕ)) → Gives fresh (Some input) c (Some rest) lines → IsCutOff c
-    → Consumes (Some rest) left (more ∷ []) → bytes_read c ≡ MOST_INPUT → P (cut lines) → LongFront P input left
+    → Consumes (Some rest) left (more ∷ []) → bytes_read c ≡ c.most → P (cut lines) → LongFront P input left
 long_front P c input rest more None lines g off past full p = absurd past
-long_front P c input rest more (Some y) lines g off past full p =
+long_front P c input rest more (Some y) lines g off past whole p =
+    let full : bytes_read c ≡ MOST_INPUT = whole ∙ g.hands.limit in
     let f = front c input rest lines g in
     let bytes = g.hands.bytes in
     let one_more : Front input y (MOST_INPUT + 1) (bytes ++ more ∷ []) = record {
@@ -132,7 +133,7 @@ long_front P c input rest more (Some y) lines g off past full p =
     )
 
 pub long_by : (P : Option CutInput → Type 0) (c : InputState) (input : List ℕ) (before : Option (List ℕ)) (more : ℕ) (left : Option (List ℕ)) (lines : List (List ℕ)) → Gives fresh (Some input) c before lines → IsCutOff c
-    → Consumes before left (more ∷ []) → bytes_read c ≡ MOST_INPUT → P (cut lines) → LongFront P input left
+    → Consumes before left (more ∷ []) → bytes_read c ≡ c.most → P (cut lines) → LongFront P input left
 long_by P c input None more left lines g off past full p = absurd g.hands.consumed
 long_by P c input (Some rest) more left lines g off past full p = long_front P c input rest more left lines g off past full p
 

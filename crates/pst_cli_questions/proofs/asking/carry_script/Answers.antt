@@ -12,6 +12,7 @@ carrying-init g c = record {
   given = λ m h stands. ([], gives_none _ _, stands);
   about = refl;
   near = c.requires.near;
+  limit = refl;
   opened = c.requires.open;
   later = grind arith;
 }
@@ -50,6 +51,7 @@ carrying-preserved g c =
           );
       about = c.in-Ok.ensures.about ∙ c.carrying.invariant.about;
       near = still_near c.carrying.lines.input c.next.new.self.input c.carrying.invariant.near (r.ahead is);
+      limit = r.limit ∙ c.carrying.invariant.limit;
       opened = r.open;
       later = grind arith;
     }

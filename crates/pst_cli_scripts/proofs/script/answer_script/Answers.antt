@@ -1,4 +1,4 @@
-use Rattle.std.proofs.Common.{ap, refl, arith, Ok, Err, [], ◌∷◌, ◌++◌}
+use Rattle.std.proofs.Common.{◌∙◌, ap, refl, arith, Ok, Err, [], ◌∷◌, ◌++◌}
 use Rattle.std.proofs.KnownBytes.{Appends-nil, Appends-trans}
 use Rattle.pst_io.proofs.Handing.{gives_none, gives_then}
 use Rattle.pst_cli_scripts.specs.Pieces.{state_after}
@@ -11,6 +11,7 @@ pub answering-init : goal.answering-init
 answering-init g c = record {
   given = λ m h stands. ([], [], gives_none _ _, Appends-nil _, refl, stands);
   near = c.requires.near;
+  limit = refl;
   opened = c.requires.open;
   later = grind arith;
   sink_later = grind arith;
@@ -53,6 +54,7 @@ answering-preserved g c =
             state_more (script_of g.X.Session.rules m) h (g.X.Session.stands c.answer_line.new.session c.answer_line.new.held m) given line (rw c.line.ensures at (c.in-Ok.ensures.stands m (state_after (script_of g.X.Session.rules m) h given) now)),
           );
       near = still_near c.answering.lines.input c.next.new.self.input c.answering.invariant.near (r.ahead is);
+      limit = r.limit ∙ c.answering.invariant.limit;
       opened = r.open;
       later = grind arith;
       sink_later = grind arith;
