@@ -113,14 +113,16 @@ module _ (first : List ℕ) (named : NamedProgram) (h : History) (behind : List 
       ∙ sym (ap (λ (o : Opening). suc (length o.versions)) start)
 
   -- the image at the front is that one, of that program, and the lines begin behind it
-  on_this : (P : NamedProgram → ImageParts → List ℕ → Type 0) {g : NamedProgram} {q : ImageParts} {len : ℕ} → IsAccepted (first ++ behind) q g len → P g q (drop len (first ++ behind)) → P named keeps.parts behind
+  on_this : (P : NamedProgram → ImageParts → List ℕ → Type 0) {g : NamedProgram} {q : ImageParts} {len : ℕ} → IsAccepted (first ++ behind) q g len
+      → P g q (drop len (first ++ behind)) → P named keeps.parts behind
   on_this P {g} {q} {len} a w =
       let mine = keeps.accepted behind in
       let (same, far) = one_form (first ++ behind) keeps.parts q (length first) len mine.form a.form in
       let own : IsOwnText keeps.parts.text g = subst (λ (x : ImageParts). IsOwnText x.text g) (sym same) a.text in
       let one : named ≡ g = one_text keeps.parts.text named g mine.text own in
       let rest : drop len (first ++ behind) ≡ behind = ap (λ (l : ℕ). drop l (first ++ behind)) (sym far) ∙ drop-append_seam first behind in
-      subst (λ (b : List ℕ). P named keeps.parts b) rest (subst (λ (x : ImageParts). P named x (drop len (first ++ behind))) (sym same) (subst (λ (x : NamedProgram). P x q (drop len (first ++ behind))) (sym one) w))
+      subst (λ (b : List ℕ). P named keeps.parts b) rest (subst (λ (x : ImageParts). P named x (drop len (first ++ behind))) (sym same)
+      (subst (λ (x : NamedProgram). P x q (drop len (first ++ behind))) (sym one) w))
 
   -- the history behind it is that of the opening that is taken up
   is_new : left_behind named keeps.parts behind ≡ new
@@ -159,7 +161,11 @@ module _ (first : List ℕ) (named : NamedProgram) (h : History) (behind : List 
 pub repacked_keeps_law : RepackedKeepsLaw
 repacked_keeps_law first named h behind image keeps (was, store, rest, (reads, (c, (next, is, written)))) =
     let Left : NamedProgram → ImageParts → List ℕ → Type 0 = λ g q b. IsLeft (meaning g) store (left_behind g q b) × IsImage store q.text g.shape (left_behind g q b) image in
-    let there : Left c.named c.image (drop c.len (first ++ behind)) = (c.left, subst (λ (x : List ℕ). IsImage store c.image.text c.named.shape (left_behind c.named c.image (drop c.len (first ++ behind))) x) (sym written) is) in
+    let there : Left c.named c.image (drop c.len (first ++ behind)) = (
+      c.left,
+      subst (λ (x : List ℕ). IsImage store c.image.text c.named.shape (left_behind c.named c.image (drop c.len (first ++ behind))) x)
+          (sym written) is,
+    ) in
     let here : Left named keeps.parts behind = on_this first named h behind keeps Left c.accepted there in
     let New : History → Type 0 = λ x. IsLeft (meaning named) store x × IsImage store keeps.parts.text named.shape x image in
     let (left, i) = subst New (is_new first named h behind keeps) here in
@@ -171,7 +177,9 @@ never_refused_again_law first named h behind out keeps (was, store, rest, (reads
     (λ much.
     let c = much.0 in
     let Much : NamedProgram → ImageParts → List ℕ → Type 0 = λ g q b. CountsWithin (counts_of (meaning g) (left_behind g q b)) (2 ^ 50) → ⊥ in
-    on_this first named h behind keeps Much c.accepted much.1 (subst (λ (x : History). CountsWithin (counts_of (meaning named) x) (2 ^ 50)) (sym (is_new first named h behind keeps)) (few first named h behind keeps)))
+    on_this first named h behind keeps Much c.accepted much.1
+    (subst (λ (x : History). CountsWithin (counts_of (meaning named) x) (2 ^ 50)) (sym (is_new first named h behind keeps))
+    (few first named h behind keeps)))
     w
 
 -- ---- a script behind an image that keeps a history

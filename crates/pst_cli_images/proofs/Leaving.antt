@@ -28,7 +28,8 @@ use Rattle.pst_image_meaning.specs.Denoted.{arena_in}
 use Rattle.pst_cli_images.specs.Packing.{IsImage}
 
 module _ {H : Type 0} (m : Meaning) (parts : Parts) (engine : Engine H NodeId Place) (h : History) where
-  pub numbers : (o : Option Stored) (next : RunNo) (budget : ℕ) → next ≡ engine.next_run → budget ≡ engine.budget → EngineStands (record { meaning = m; parts = parts }) engine (state_in o) h → AreNumbers next.0 budget
+  pub numbers : (o : Option Stored) (next : RunNo) (budget : ℕ) → next ≡ engine.next_run → budget ≡ engine.budget
+      → EngineStands (record { meaning = m; parts = parts }) engine (state_in o) h → AreNumbers next.0 budget
   numbers o next budget n b e =
       let same_next : next.0 ≡ next_run h = ap (λ (r : RunNo). r.0) n ∙ e.same_next in
       let same_budget : budget ≡ h.budget = b ∙ e.same_budget in
@@ -39,8 +40,10 @@ module _ {H : Type 0} (m : Meaning) (parts : Parts) (engine : Engine H NodeId Pl
         budget_high = (let high = e.sound.budget.1 in omega (arith, same_budget, high));
       }
 
-  pub imaged : (o : Option Stored) (next : RunNo) (budget : ℕ) (text image : List ℕ) → next ≡ engine.next_run → budget ≡ engine.budget → EngineStands (record { meaning = m; parts = parts }) engine (state_in o) h
-      → IsSomeAnd o (λ s. image ≡ image_bytes (parts_of s text next.0 budget)) → IsSomeAnd o (λ s. Fits (parts_of s text next.0 budget)) → IsSomeAnd o (λ s. IsJudged s.shape (parts_of s text next.0 budget) None)
+  pub imaged : (o : Option Stored) (next : RunNo) (budget : ℕ) (text image : List ℕ) → next ≡ engine.next_run → budget ≡ engine.budget
+      → EngineStands (record { meaning = m; parts = parts }) engine (state_in o) h
+      → IsSomeAnd o (λ s. image ≡ image_bytes (parts_of s text next.0 budget)) → IsSomeAnd o (λ s. Fits (parts_of s text next.0 budget))
+      → IsSomeAnd o (λ s. IsJudged s.shape (parts_of s text next.0 budget) None)
       → IsSomeAnd o (λ s. arena_in s.shape (parts_of s text next.0 budget) ≡ arena s) → IsImage o text m.shape h image
   imaged None next budget text image n c e b f j d = absurd b
   imaged (Some s) next budget text image n c e b f j d =
@@ -60,9 +63,11 @@ module _ {H : Type 0} (m : Meaning) (parts : Parts) (engine : Engine H NodeId Pl
       }
 
 -- the image that comes is that of each history for which session and store stand
-pub image_for_each : {H E : Type 0} (program : Program) (engine : Engine H NodeId Place) (o : Option Stored) (next : RunNo) (budget : ℕ) (text : List ℕ) (r : Result (List ℕ) E) → next ≡ engine.next_run → budget ≡ engine.budget
+pub image_for_each : {H E : Type 0} (program : Program) (engine : Engine H NodeId Place) (o : Option Stored) (next : RunNo) (budget : ℕ)
+    (text : List ℕ) (r : Result (List ℕ) E) → next ≡ engine.next_run → budget ≡ engine.budget
     → IfOk r (λ image. IsSomeAnd o (λ s. image ≡ image_bytes (parts_of s text next.0 budget))) → IfOk r (λ _. IsSomeAnd o (λ s. Fits (parts_of s text next.0 budget)))
     → IfOk r (λ _. IsSomeAnd o (λ s. arena_in s.shape (parts_of s text next.0 budget) ≡ arena s)) → IsSomeAnd o (λ s. IsJudged s.shape (parts_of s text next.0 budget) None)
     → IfOk r (λ image. (m : Meaning) (h : History) → IsRunning program engine o m h → IsImage o text m.shape h image)
-image_for_each program engine o next budget text (Ok image) n b is fits denotes rules = λ m h running. imaged m (code_of (routines_of program)) engine h o next budget text image n b running.stands is fits rules denotes
+image_for_each program engine o next budget text (Ok image) n b is fits denotes rules =
+    λ m h running. imaged m (code_of (routines_of program)) engine h o next budget text image n b running.stands is fits rules denotes
 image_for_each program engine o next budget text (Err e) n b is fits denotes rules = tt

@@ -65,7 +65,8 @@ record Packed (input image : List ℕ) : Type 0 where
   left : IsLeft (meaning named) store (left_by (meaning named) (cut_of input).script)
   is : IsImage store (canonical syntax) named.shape (left_by (meaning named) (cut_of input).script) image
 
-packed_by : (input image : List ℕ) (old new : Option Stored) (verdict : Verdict) → Judged (cut_of input).text verdict → PacksWhole (kept_in old new Run) new (cut_of input).script verdict image → Packed input image
+packed_by : (input image : List ℕ) (old new : Option Stored) (verdict : Verdict) → Judged (cut_of input).text verdict
+    → PacksWhole (kept_in old new Run) new (cut_of input).script verdict image → Packed input image
 packed_by input image old new (Refused fault) j w = absurd w
 packed_by input image old new (Accepted syntax named) j (left, (written, is, same)) = record {
   syntax = syntax;

@@ -82,7 +82,8 @@ checks items others named same e =
 
 pub canonical_law : CanonicalLaw
 canonical_law text syntax named ((tokens, lexes, (p, e, shallow, spells)), typed) =
-    let written : AreWords (program_words p) = subst AreWords (sym (ap words_of spells ∙ seen_words tokens.list)) (are_words text (lexing.words_of tokens.list) (its_words text tokens.list tokens.end lexes).0) in
+    let written : AreWords (program_words p) = subst AreWords (sym (ap words_of spells ∙ seen_words tokens.list))
+    (are_words text (lexing.words_of tokens.list) (its_words text tokens.list tokens.end lexes).0) in
     let (ts, end, again) = placed (program_words p) (canonical syntax) 0 1 (has_its_tokens syntax p e written) in
     let (q, flat, spells', apart) = reads_back syntax 63 15 p e written shallow ts end again in
     let (named', typed', alike) = checks syntax.items (program q).items named (ap (λ x. x.items) apart) typed in

@@ -22,7 +22,9 @@ module _ {H : Type 0} (m : Meaning) (parts : Parts) (engine : Engine H NodeId Pl
   empty_stands : EngineStands (record { meaning = m; parts = parts }) engine (state_in None) h → ⊥
   empty_stands e = let many = e.versions.many in let base = e.sound.start.same in omega (arith, many, base)
 
-  pub leaves : (o : Option Stored) (next : RunNo) → next ≡ engine.next_run → IfSome o IsStore → EngineStands (record { meaning = m; parts = parts }) engine (state_in o) h → CountsWithin (state_in o).counts (2 ^ 50) → IsSomeAnd o (λ s. IsLeftStore s next.0)
+  pub leaves : (o : Option Stored) (next : RunNo) → next ≡ engine.next_run → IfSome o IsStore
+      → EngineStands (record { meaning = m; parts = parts }) engine (state_in o) h → CountsWithin (state_in o).counts (2 ^ 50)
+      → IsSomeAnd o (λ s. IsLeftStore s next.0)
   leaves None next same k e few = absurd (empty_stands e)
   leaves (Some s) next same k e few =
       let counted : CountsWithin (counts_of m h) (2 ^ 50) = let Q : Counts → Type 0 = λ c. CountsWithin c (2 ^ 50) in subst Q e.counts few in

@@ -49,7 +49,8 @@ module _ (s : Stored) (p : ImageParts) (h : Given s p) where
 
   first_is : (row : VersionRow Place) → slice_get s.versions 0 ≡ Some row → row ≡ first_row s.start
   first_is row e =
-      let is : version_at p.versions 0 ≡ version_part (λ n. n) row = ap (λ (vs : List VersionPart). version_at vs 0) (sym h.made.versions) ∙ part_in (version_part (λ n. n)) no_version s.versions 0 row e in
+      let is : version_at p.versions 0 ≡ version_part (λ n. n) row = ap (λ (vs : List VersionPart). version_at vs 0) (sym h.made.versions)
+      ∙ part_in (version_part (λ n. n)) no_version s.versions 0 row e in
       let parent : row.parent.0 ≡ 0 = sym (ap (λ (v : VersionPart). v.parent.0) is) ∙ h.nested.root.parent in
       let run : row.run.0 ≡ 0 = sym (ap (λ (v : VersionPart). v.run.0) is) ∙ h.nested.root.run in
       let place = h.made.first row e in
@@ -64,7 +65,8 @@ module _ (s : Stored) (p : ImageParts) (h : Given s p) where
   pub versions : AreVersionsNested s p.next_run.0
   versions =
       let nested : AreNested (version_parts s) (length s.places) p.next_run.0 =
-      subst (λ (n : ℕ). AreNested (version_parts s) n p.next_run.0) (sym (place_count s p h)) (subst (λ (vs : List VersionPart). AreNested vs p.places p.next_run.0) (sym (versions_shown s p h)) h.nested) in
+      subst (λ (n : ℕ). AreNested (version_parts s) n p.next_run.0) (sym (place_count s p h))
+      (subst (λ (vs : List VersionPart). AreNested vs p.places p.next_run.0) (sym (versions_shown s p h)) h.nested) in
       (versions_law s p.next_run.0 two root_row).1 nested
 
   -- ---- nodes
@@ -72,7 +74,8 @@ module _ (s : Stored) (p : ImageParts) (h : Given s p) where
   pub bounded : length s.nodes + potential (loads s) ≤ bound s.counts
   bounded =
       let sum : sum_by (excess s.shape) p.nodes ≡ potential (loads s) = ap (sum_by (excess s.shape)) (sym (nodes_shown s p h)) ∙ excess_is s.shape r s.nodes in
-      let most : length p.nodes + sum_by (excess s.shape) p.nodes ≤ bound_of s.counts = subst (λ (c : Counts). length p.nodes + sum_by (excess s.shape) p.nodes ≤ bound_of c) (sym h.made.counts) h.bounded in
+      let most : length p.nodes + sum_by (excess s.shape) p.nodes ≤ bound_of s.counts =
+      subst (λ (c : Counts). length p.nodes + sum_by (excess s.shape) p.nodes ≤ bound_of c) (sym h.made.counts) h.bounded in
       omega (arith, most, sum, node_count s p h)
 
   pub small : AreSmall s

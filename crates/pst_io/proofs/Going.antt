@@ -1,5 +1,6 @@
 -- Going on to the next line of an input.
-use Rattle.std.proofs.Common.{◌≡◌, ℕ, ◌+◌, ◌<◌, ◌≤◌, Bool, true, false, ltb, ltb-true, ltb-false, List, [], ◌++◌, length, take, drop, refl, ap, ◌∙◌, subst, arith, Option, None, Some, Result, Ok, Err, IsTrue, append-nil, length-drop}
+use Rattle.std.proofs.Common.{◌≡◌, ℕ, ◌+◌, ◌<◌, ◌≤◌, Bool, true, false, ltb, ltb-true, ltb-false, List, [], ◌++◌, length, take, drop, refl, ap, ◌∙◌, subst}
+use Rattle.std.proofs.Common.{arith, Option, None, Some, Result, Ok, Err, IsTrue, append-nil, length-drop}
 use Rattle.std.specs.Prelude.{◌↔◌, max, is_err, OnOk, OnErr, IfErr}
 use Rattle.std.specs.Io.KnownBytes.{Consumes, IsAtEnd, prepend_known}
 use Rattle.std.proofs.lemmas.List.{drop_all, nil_from_length}

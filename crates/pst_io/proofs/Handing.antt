@@ -1,5 +1,6 @@
 -- What was handed out of an input, one time after another.
-use Rattle.std.proofs.Common.{◌≡◌, ◌⊎◌, inl, inr, ℕ, ◌+◌, ◌-◌, ◌<◌, ◌≤◌, Bool, cond, true, false, List, [], ◌∷◌, ◌++◌, length, take, drop, refl, sym, ap, ◌∙◌, subst, arith, None, Some, IsTrue, append-nil, append_assoc, length-append, length-take, take-append-drop}
+use Rattle.std.proofs.Common.{◌≡◌, ◌⊎◌, inl, inr, ℕ, ◌+◌, ◌-◌, ◌<◌, ◌≤◌, Bool, cond, true, false, List, [], ◌∷◌, ◌++◌, length, take, drop, refl, sym, ap, ◌∙◌}
+use Rattle.std.proofs.Common.{subst, arith, None, Some, IsTrue, append-nil, append_assoc, length-append, length-take, take-append-drop}
 use Rattle.std.specs.declared.option.Option.{Option}
 use Rattle.std.specs.Io.KnownBytes.{Consumes, IsAtEnd, Keeps, prepend_known}
 use Rattle.std.proofs.KnownBytes.{Consumes-nil, Consumes-trans, Consumes-kept}
@@ -47,7 +48,8 @@ hands_on a left b left' c d left'' old text new n p few is put more =
     }
 
 -- a source that failed keeps what it has
-pub hands_kept : (a : InputState) (left : Option (List ℕ)) (b : InputState) (left' left'' : Option (List ℕ)) (text : List ℕ) → Hands a left b left' text → Keeps left' left'' → Hands a left b left'' text
+pub hands_kept : (a : InputState) (left : Option (List ℕ)) (b : InputState) (left' left'' : Option (List ℕ)) (text : List ℕ)
+    → Hands a left b left' text → Keeps left' left'' → Hands a left b left'' text
 hands_kept a left b left' left'' text p same = record { bytes = p.bytes; consumed = Consumes-kept left left' left'' p.bytes p.consumed same; kept = p.kept; counted = p.counted; limit = p.limit }
 
 -- the text that was handed out, and what was pending behind it

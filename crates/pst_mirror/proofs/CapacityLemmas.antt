@@ -18,7 +18,8 @@ capacity_few shape ty valid there =
     (λ (root : ty.0 ≡ 0).
     let limit : (type_at shape root_type).limit ≡ 1 = valid.root_limit in
     let fields : element_count (type_at shape root_type) ≤ MOST_ROOTS = valid.root_fields in
-    subst (λ (n : ℕ). let t : TypeShape = unwrap_or (slice_get shape n) no_type in (2 ≤ capacity t) × (capacity t ≤ 2 * MOST_SLOTS)) (sym root) (few (type_at shape root_type) (omega arith) (omega arith) (omega arith)))
+    subst (λ (n : ℕ). let t : TypeShape = unwrap_or (slice_get shape n) no_type in (2 ≤ capacity t) × (capacity t ≤ 2 * MOST_SLOTS)) (sym root)
+    (few (type_at shape root_type) (omega arith) (omega arith) (omega arith)))
     (λ (other : ty.0 ≡ 0 → ⊥).
     let some : 0 < ty.0 = omega (arith, other) in
     few (type_at shape ty) (valid.limits ty some there).0 (valid.limits ty some there).1 (valid.elements ty some there))
