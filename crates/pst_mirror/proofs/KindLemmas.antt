@@ -17,7 +17,8 @@ pointer_field t g u e = elim (nat_lt g t.values) as (λ b. nat_lt g t.values ≡
     → cond b (Some Int) (option_map Pointer (slice_get t.targets (g - t.values))) ≡ Some (Pointer u) → (t.values ≤ g) × (g < element_count t)) [
       | true ↦ λ x h. absurd (cc)
       | false ↦ λ x h. let low : t.values ≤ g = ltb-false g t.values x in
-          elim (slice_get t.targets (g - t.values)) as (λ (o : Option TypeNo). slice_get t.targets (g - t.values) ≡ o → option_map Pointer o ≡ Some (Pointer u) → (t.values ≤ g) × (g < element_count t)) [
+          elim (slice_get t.targets (g - t.values)) as (λ (o : Option TypeNo).
+          slice_get t.targets (g - t.values) ≡ o → option_map Pointer o ≡ Some (Pointer u) → (t.values ≤ g) × (g < element_count t)) [
             | None ↦ λ y k. absurd (cc)
             | Some v ↦ λ y k. let w : g - t.values < length t.targets = slice_get_within t.targets (g - t.values) v y in (low, omega arith)
           ] refl h
