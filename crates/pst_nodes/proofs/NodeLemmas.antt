@@ -7,7 +7,7 @@ use Rattle.pst_rows.specs.declared.row.Row.{Row}
 use Rattle.pst_rows.specs.declared.content.Content.{Content}
 use Rattle.pst_order.specs.Places.{rank}
 use Rattle.pst_rows.specs.Values.{RowValue, edge_in, content_in, IsValue, IsValueSet, IsValueCut, IsValueReplaced, IsValueSplit}
-use Rattle.pst_rows.specs.Rows.{IsRow, content_at, row_edge, shown, width_of, stamped_count}
+use Rattle.pst_rows.specs.Rows.{IsRow, content_at, row_edge, shown, width_of, stamped_count, HasSplitRoom}
 use Rattle.pst_rows.specs.Changes.{slot_count, IsRowCut, IsRowSet, IsRowReplaced, IsRowSplit, IsSameRow, HasMore, missing, needed, IsSegmentAround}
 use Rattle.pst_mirror.specs.Mirror.{Chart, is_there}
 use Rattle.pst_mirror.proofs.MirrorLemmas.{there_is}
@@ -250,6 +250,17 @@ module _ {A : Type 0} (f : Node → A) (ns : List Node) (x : ℕ) (node left rig
       (λ (q : i ≡ x). ap (λ (k : ℕ). get_or (map f (set ns x left ++ right ∷ [])) k d) q ∙ at_left ∙ e ∙ sym (at_map f ns x node d there read) ∙ ap (λ (k : ℕ). get_or (map f ns) k d) (sym q))
       (λ (ne : i ≡ x → ⊥). at_others i ne nz)
       (cases_eq i x)
+
+-- the room of the halves of a row, in the list
+pub split_room : (ns : List Node) (x z : ℕ) (node left right : Node) → x < length ns → node ≡ get_or ns x node → z ≡ length ns
+    → (ys : List Node) → ys ≡ set ns x left ++ right ∷ [] → HasSplitRoom node.row left.row right.row
+    → (d : Row) → HasSplitRoom (row_at ns x d) (row_at ys x d) (row_at ys z d)
+split_room ns x z node left right l read last ys are h d =
+    subst (λ (w : Row). HasSplitRoom w (row_at ys x d) (row_at ys z d)) (sym (the_row ns x node l read d))
+    (subst (λ (zs : List Node). HasSplitRoom node.row (row_at zs x d) (row_at zs z d)) (sym are)
+    (subst (λ (w : Row). HasSplitRoom node.row w (row_at (set ns x left ++ right ∷ []) z d)) (sym (at_left (λ (n : Node). n.row) ns x node left right l d))
+    (subst (λ (k : ℕ). HasSplitRoom node.row left.row (row_at (set ns x left ++ right ∷ []) k d)) (sym last)
+    (subst (λ (w : Row). HasSplitRoom node.row left.row w) (sym (at_right (λ (n : Node). n.row) ns x node left right l d)) h))))
 
 module _ (qs : List ℕ) (ns : List Node) (x : ℕ) (node left right : Node) (there : x < length ns) (read : node ≡ get_or ns x node) (s : Pos) (h : IsRowSplit (rank qs) node.row left.row right.row s)
     (left_name : left.header.name ≡ node.header.name) (left_ty : left.header.ty ≡ node.header.ty) (left_later : option_map (λ i. i.0) left.header.later ≡ Some (length ns)) (left_link : left.header.link ≡ node.header.link)

@@ -5,7 +5,7 @@ use Rattle.pst_rows.proofs.OfPartsLemmas.{IsSumMore, before_none, added_none, ad
 use Rattle.pst_rows.proofs.parts.add_up.Goals as goal
 
 pub loop-slot-init : goal.loop-slot-init
-loop-slot-init c = record { sum = sym (before_none c.args.cells.now.stamps); added = added_none c.args.cells.now.slots c.args.cells.now.stamps c.requires; stamps = refl }
+loop-slot-init c = record { sum = sym (before_none c.args.cells.now.stamps); added = added_none c.args.cells.now.slots c.args.cells.now.stamps c.requires; stamps = refl; capacity = refl }
 
 pub overflow_add-before : goal.overflow_add-before
 overflow_add-before c =
@@ -26,4 +26,5 @@ loop-slot-preserved c =
       sum = more.next;
       added = added_more old mid c.set_start.new.self.slots stamps c.loop-slot.slot c.loop-slot.before c.loop-slot.invariant.sum c.loop-slot.invariant.added c.set_start.ensures.slots;
       stamps = c.set_start.ensures.stamps ∙ c.loop-slot.invariant.stamps;
+      capacity = c.set_start.ensures.capacity ∙ c.loop-slot.invariant.capacity;
     }

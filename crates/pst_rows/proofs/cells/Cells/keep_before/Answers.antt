@@ -1,5 +1,4 @@
-use Rattle.std.proofs.Common.{◌≡◌, ◌++◌, List, take, drop, filter, nat_lt, ap, ◌∙◌, arith}
-use Rattle.pst_order.specs.Places.{rank}
+use Rattle.std.proofs.Common.{◌++◌, List, take, ap, ◌∙◌, arith}
 use Rattle.pst_rows.specs.declared.content.Stamp.{Stamp}
 use Rattle.pst_rows.proofs.EndLemmas.{slots-kept, front-kept}
 use Rattle.pst_rows.proofs.cells.Cells.keep_before.Goals as goal

@@ -1,9 +1,9 @@
 //! What no clause says: that the calls which take memory succeed, and how large a node is.
 
-use crate::header::Header;
-use crate::links::{Link, Links};
-use crate::node::{Node, Nodes};
 use pst_base::{Name, NoMemory, NodeId, RunNo, Targets, TypeNo, TypeShape};
+use pst_nodes::header::Header;
+use pst_nodes::links::{Link, Links};
+use pst_nodes::node::{Node, Nodes};
 use pst_order::Pos;
 use pst_rows::Row;
 use std::alloc::Global;

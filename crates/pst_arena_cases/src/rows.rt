@@ -1,12 +1,8 @@
 //! A row of parts by hand: seven slots, of which two have two stamped values and one has one.
 
-use crate::cells::Cells;
-use crate::content::{Content, Stamp};
-use crate::parts::cells_of;
-use crate::row::Row;
 use pst_base::{NoMemory, NodeId, SlotNo};
 use pst_order::Pos;
-use std::alloc::Global;
+use pst_rows::{Content, Row, Stamp};
 
 // A stamped value.
 fn stamp(slot: u8, place: u32, content: Content) -> Stamp {
@@ -35,32 +31,6 @@ fn stamps() -> [Stamp; 5] {
         stamp(5, 7, Content::Free),
         stamp(5, 9, Content::From(NodeId(9), SlotNo(3))),
     ]
-}
-
-// Where the stamps of each slot begin.
-fn starts_of(alloc: Global, cells: &Cells) -> Result<Vec<u32>, NoMemory> {
-    let mut starts = Vec::new(alloc);
-    for slot in 0..cells.width() {
-        starts.push(cells.start(slot))?;
-    }
-    Ok(starts)
-}
-
-#[test]
-fn each_slot_begins_behind_those_before_it(rt: HostRuntime) -> Result<(), NoMemory> {
-    let alloc = rt.alloc();
-    let starts = starts_of(alloc, &cells_of(alloc, &bases(), &stamps())?)?;
-    assert!(rt; starts.as_slice() == [0, 0, 2, 2, 3, 3, 5].as_slice());
-    Ok(())
-}
-
-#[test]
-fn stamps_of_slots_that_are_not_there_count_for_none(rt: HostRuntime) -> Result<(), NoMemory> {
-    let alloc = rt.alloc();
-    let bases = [Content::Null, Content::Free];
-    let starts = starts_of(alloc, &cells_of(alloc, &bases, &stamps())?)?;
-    assert!(rt; starts.as_slice() == [0, 0].as_slice());
-    Ok(())
 }
 
 #[test]
