@@ -1,5 +1,6 @@
 -- Lists in pieces: where each piece starts, an element put into a piece, and a piece that is cut in two.
-use Rattle.std.proofs.Common.{◌≡◌, ℕ, zero, suc, ◌+◌, ◌-◌, ◌*◌, ◌^◌, ◌<◌, ◌≤◌, Bool, true, false, cond, List, [], ◌∷◌, ◌++◌, length, get_or, map, take, drop, set, insert, All, ⊎_elim, leb, leb-true, leb-false, refl, sym, ap, ◌∙◌, subst, add-one, arith}
+use Rattle.std.proofs.Common.{◌≡◌, ℕ, zero, suc, ◌+◌, ◌-◌, ◌*◌, ◌^◌, ◌<◌, ◌≤◌, Bool, true, false, cond, List, [], ◌∷◌, ◌++◌, length, get_or, map, take, drop}
+use Rattle.std.proofs.Common.{set, insert, All, ⊎_elim, leb, leb-true, leb-false, refl, sym, ap, ◌∙◌, subst, add-one, arith}
 use Rattle.std.specs.List.{concat}
 use Rattle.std.specs.Vec.{vec_capacity}
 use Rattle.std.specs.declared.vec.Vec.{Vec}
@@ -7,7 +8,8 @@ use Rattle.std.specs.declared.alloc.Global.{Global}
 use Rattle.std.specs.List.Sorted.{IsPartitionPoint, IsNonDecreasing}
 use Rattle.std.proofs.lemmas.List.Sorted.{IsNonDecreasingBy-from_default}
 use Rattle.std.proofs.lemmas.Bool.{cases_lt}
-use Rattle.std.proofs.lemmas.List.{append_assoc, length-append, length-set, length-drop, length-take-le, get_or_append_left, get_or-append-add, take-append-drop, nil_from_length, get_or_read, get_or_default}
+use Rattle.std.proofs.lemmas.List.{append_assoc, length-append, length-set, length-drop, length-take-le, get_or_append_left, get_or-append-add}
+use Rattle.std.proofs.lemmas.List.{take-append-drop, nil_from_length, get_or_read, get_or_default}
 use Rattle.std.proofs.lemmas.List.Elements.{All-head, All-tail, All-cons, All-append, All-set, All-take, All-drop}
 use Rattle.std.proofs.lemmas.List.Edits.{length-insert, insert-append_left, insert-append_right}
 use Rattle.pst_roots.specs.Pieces.{starts_from, IsPiece, AreCut, IsStartBefore, IsPieceAt, FallsInto, halved}
@@ -93,7 +95,8 @@ starts_suc n (p ∷ ps) =
     ap (λ (qs : List ℕ). suc n ∷ qs) (ap (λ (m : ℕ). starts_from m ps) next ∙ starts_suc (n + length p) ps)
 
 -- the starts where a piece gets one element more
-pub starts_grown : (n : ℕ) (ps : List (List ℕ)) (k : ℕ) (q : List ℕ) → k < length ps → length q ≡ length (get_or ps k []) + 1 → starts_from n (set ps k q) ≡ take (suc k) (starts_from n ps) ++ map suc (drop (suc k) (starts_from n ps))
+pub starts_grown : (n : ℕ) (ps : List (List ℕ)) (k : ℕ) (q : List ℕ) → k < length ps → length q ≡ length (get_or ps k []) + 1
+    → starts_from n (set ps k q) ≡ take (suc k) (starts_from n ps) ++ map suc (drop (suc k) (starts_from n ps))
 starts_grown n [] k q l e = absurd (omega arith)
 starts_grown n (p ∷ ps) zero q l e =
     let next : n + length q ≡ suc (n + length p) = omega (arith, e) in
@@ -130,7 +133,8 @@ module _ (a b : List ℕ) where
   length_cut (p ∷ ps) (suc k) l = ap suc (length_cut ps k (omega arith))
 
   -- the starts of them
-  pub starts_cut : (n : ℕ) (ps : List (List ℕ)) (k : ℕ) → k < length ps → length a + length b ≡ length (get_or ps k []) → starts_from n (insert (set ps k a) (suc k) b) ≡ insert (starts_from n ps) (suc k) (get_or (starts_from n ps) k 0 + length a)
+  pub starts_cut : (n : ℕ) (ps : List (List ℕ)) (k : ℕ) → k < length ps → length a + length b ≡ length (get_or ps k [])
+      → starts_from n (insert (set ps k a) (suc k) b) ≡ insert (starts_from n ps) (suc k) (get_or (starts_from n ps) k 0 + length a)
   starts_cut n [] k l e = absurd (omega arith)
   starts_cut n (p ∷ ps) zero l e =
       let next : (n + length a) + length b ≡ n + length p = omega (arith, e) in
@@ -287,7 +291,8 @@ module _ (pieces pieces' : Vec (List ℕ) Global) (starts starts' : Vec ℕ Glob
       ∙ ap (starts_from 0) (sym pieces_are) in
       let same_starts : length starts'.items ≡ length starts.items = many_starts pieces'.items starts'.items are ∙ same ∙ sym (many_starts pieces.items starts.items cut.starts_are) in
       record {
-        each = subst (λ (ps : List (List ℕ)). All IsPiece ps) (sym pieces_are) (All-set IsPiece pieces.items at q (record { some = omega (arith, longer); most = omega (arith, longer, room) }) cut.each);
+        each = subst (λ (ps : List (List ℕ)). All IsPiece ps) (sym pieces_are)
+            (All-set IsPiece pieces.items at q (record { some = omega (arith, longer); most = omega (arith, longer, room) }) cut.each);
         starts_are = are;
         empty = subst (λ (ps : List (List ℕ)). All (λ piece. piece ≡ []) ps) (sym pool_is) cut.empty;
         few = omega (arith, same, ap length pool_is, cut.few);
@@ -301,7 +306,9 @@ pub record IsPutBehind (ps : List (List ℕ)) (index at y : ℕ) (piece : List �
   pub longer : length piece ≡ length (get_or ps at []) + 1
 
 -- a node put into the piece that an index falls into, by the piece and the start that were read
-pub put_behind : (ps : List (List ℕ)) (starts : List ℕ) → starts ≡ starts_from 0 ps → (index at y : ℕ) → FallsInto ps starts index at → (old : List ℕ) → old ≡ get_or ps at old → (start : ℕ) → start ≡ get_or starts at start → (piece : List ℕ) → piece ≡ insert old ((index - start) + 1) y → IsPutBehind ps index at y piece
+pub put_behind : (ps : List (List ℕ)) (starts : List ℕ) → starts ≡ starts_from 0 ps → (index at y : ℕ) → FallsInto ps starts index at → (old : List ℕ)
+    → old ≡ get_or ps at old → (start : ℕ) → start ≡ get_or starts at start → (piece : List ℕ) → piece ≡ insert old ((index - start) + 1) y
+    → IsPutBehind ps index at y piece
 put_behind ps starts are index at y falls old old_read start read piece is =
     let part : List ℕ = get_or ps at [] in
     let start_is : start ≡ get_or starts at 0 = start_read ps starts are at start falls.there read in
@@ -350,7 +357,14 @@ module _ (ps ps' : List (List ℕ)) (starts starts' : List ℕ) (are : starts �
       ∙ sym (start_at ps starts are at falls.there)
 
   second_start : get_or starts' (suc at) 0 ≡ get_or starts at 0 + 512
-  second_start = omega (arith, start_at ps' starts' are' (suc at) (omega (arith, more, falls.there)), before_next ps' at (omega (arith, more, falls.there)), start_at ps' starts' are' at (omega (arith, more, falls.there)), first_is, first_start)
+  second_start = omega (
+    arith,
+    start_at ps' starts' are' (suc at) (omega (arith, more, falls.there)),
+    before_next ps' at (omega (arith, more, falls.there)),
+    start_at ps' starts' are' at (omega (arith, more, falls.there)),
+    first_is,
+    first_start,
+  )
 
   same_held : concat ps' ≡ concat ps
   unfolding part
@@ -381,7 +395,8 @@ full_read ps each at l piece e n count many =
 
 -- the same, by what was read of the starts and of the piece
 pub cut_halves : (ps ps' : List (List ℕ)) (starts starts' : List ℕ) → starts ≡ starts_from 0 ps → starts' ≡ starts_from 0 ps' → All IsPiece ps → (seen : List ℕ) → seen ≡ starts
-    → (index at : ℕ) → index < length (concat ps) → IsPieceAt seen index at → (piece : List ℕ) → piece ≡ get_or ps at piece → (n : ℕ) → n ≡ length piece → 1024 ≤ n → ps' ≡ halved ps at → AreHalves ps ps' starts' index at
+    → (index at : ℕ) → index < length (concat ps) → IsPieceAt seen index at → (piece : List ℕ) → piece ≡ get_or ps at piece → (n : ℕ)
+    → n ≡ length piece → 1024 ≤ n → ps' ≡ halved ps at → AreHalves ps ps' starts' index at
 cut_halves ps ps' starts starts' are are' each seen same index at l found piece e n count many halves =
     let falls = falls_into ps starts are seen same index at l found in
     are_halves ps ps' starts starts' are are' index at falls (full_read ps each at falls.there piece e n count many) halves

@@ -7,13 +7,18 @@ use Rattle.pst_nodes.proofs.NodeLemmas.{is_row, here, cut_in_two_at, split_room}
 use Rattle.pst_nodes.proofs.node.Nodes.split_off.Goals as goal
 
 pub split_off-requires-clause-row : goal.split_off-requires-clause-row
-split_off-requires-clause-row g c = is_row c.args.self.now.list.items c.args.id.0 c.index_mut-node.result.now c.requires.there c.index_mut-node.ensures.value (g.O.Order.places c.args.order.now) c.requires.rows
+split_off-requires-clause-row g c = is_row c.args.self.now.list.items c.args.id.0 c.index_mut-node.result.now c.requires.there
+    c.index_mut-node.ensures.value (g.O.Order.places c.args.order.now) c.requires.rows
 
 pub split_off-requires-clause-after : goal.split_off-requires-clause-after
-split_off-requires-clause-after g c = here c.args.self.now.list.items c.args.id.0 c.index_mut-node.result.now c.requires.there c.index_mut-node.ensures.value (λ w. (rank (g.O.Order.places c.args.order.now)) w.lo.0 < (rank (g.O.Order.places c.args.order.now)) c.args.at.0) c.requires.after
+split_off-requires-clause-after g c = here c.args.self.now.list.items c.args.id.0 c.index_mut-node.result.now c.requires.there
+    c.index_mut-node.ensures.value (λ w. (rank (g.O.Order.places c.args.order.now)) w.lo.0 < (rank (g.O.Order.places c.args.order.now)) c.args.at.0)
+    c.requires.after
 
 pub split_off-requires-clause-before : goal.split_off-requires-clause-before
-split_off-requires-clause-before g c = here c.args.self.now.list.items c.args.id.0 c.index_mut-node.result.now c.requires.there c.index_mut-node.ensures.value (λ w. (rank (g.O.Order.places c.args.order.now)) c.args.at.0 < (rank (g.O.Order.places c.args.order.now)) w.hi.0) c.requires.before
+split_off-requires-clause-before g c = here c.args.self.now.list.items c.args.id.0 c.index_mut-node.result.now c.requires.there
+    c.index_mut-node.ensures.value (λ w. (rank (g.O.Order.places c.args.order.now)) c.args.at.0 < (rank (g.O.Order.places c.args.order.now)) w.hi.0)
+    c.requires.before
 
 pub returns-clause-split : goal.returns-clause-split
 returns-clause-split g c =
