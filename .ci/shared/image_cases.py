@@ -168,6 +168,9 @@ def wanted_of_paid(fields: Dict[str, int]) -> Iterator[Wanted]:
     for counts, right in [((12, 0, 0), True), ((11, 0, 0), False), ((0, 2, 0), True), ((0, 1, 2), False), ((0, 0, 6), True), ((1, 0, 5), False),
                           ((0, 0, 0), False), ((5, 1, 0), False), ((6, 1, 0), True), (3 * (MOST_COUNT,), True)]:
         paid = dict(zip(('records', 'pointers', 'values'), counts))
+        yield f'{paid}', None if right else 9, image_model.image_of(TEXT, {**fields, **paid})
+
+
 # Two types without fields, so that a node of the one has as many slots as a node of the other; and one that may point to itself.
 BARE = b"""record A 1 { }
 record B 1 { }
@@ -199,9 +202,6 @@ def wanted_of_bare() -> Iterator[Wanted]:
     yield 'a pointer to itself without an entry', 6, bare(LOOPED, [whole], root, (1, 0, 1, 1, 3, 0, 3, 2, 0, 0, 0))
     yield 'one more stamped value than the root record may have', 8, bare(b'', [whole], (*root[:-1], 3, *itertools.chain(*((0, *s) for s in stamps))))
     yield 'a record that lives up to the last place', None, bare(BARE, [whole], root, (1, 0, 1, 1, 7, 0, *free))
-
-
-        yield f'{paid}', None if right else 9, image_model.image_of(TEXT, {**fields, **paid})
 
 
 def hot(writes: int, splits: bool) -> image_model.Store:
