@@ -3,12 +3,16 @@ changed, those of stores with a record that is written again and again, and thos
 
 The rules that are wanted were found by reading the images and the rules, not by asking a checker.
 """
+import itertools
 import random
 import struct
+from typing import Dict, Iterator, Optional, Sequence, Tuple
 
-import image_model
-from image_rules import ENTRY, MAGIC, MOST_BUDGET, MOST_COUNT, MOST_RUN, U16, U32
+from shared import image_model
+from shared.image_rules import ENTRY, MAGIC, MOST_BUDGET, MOST_COUNT, MOST_RUN, U16, U32
 
+# An image with what it is, and the rule that it fails first, or None.
+Wanted = Tuple[str, Optional[int], bytes]
 EMPTY = [0, 1000000, 1, 1, 0, 0, 2, 1, 0, 0, 0, 1, 1, 0, 0, 0, 0, 1, 0, 1, 0, 0]
 TEXT = b"""record N 2 { val key: int; ptr next: N; ptr other: M; }
 record M 3 { val key: int; }
@@ -18,12 +22,12 @@ root size: int;
 ROOT, ONE, CELL, TWO = (0, 0), (1, 0), (1, 1), (2, 0)
 
 
-def scene():
+def scene() -> image_model.Store:
     """Five versions of two records, of which version 2 adds a third; the root record and the record `ONE` have two nodes each. A run that
     is left has made a record, which is in no version."""
     store = image_model.Store(TEXT)
 
-    def version(parent, made, writes):
+    def version(parent: int, made: Sequence[int], writes: Sequence[Tuple[image_model.Name, int, image_model.Held]]) -> None:
         run = store.fork(parent)
         for number in made:
             store.allocate(run, number)
@@ -51,7 +55,7 @@ DUMPS = [b'0 root: 0 null\n',
          b'0 root: 0 @1\n1 N: 7 null null\n']
 
 
-def entry(x, f):
+def entry(x: int, f: int) -> int:
     return (x + 1) * ENTRY + f
 
 
@@ -88,17 +92,17 @@ RESPELLED = [(1, b'next: N', b'next: O'), (1, b'N 2', b'N 0'), (1, b'int; ptr', 
              (4, b'M 3', b'M 2'), (4, b'M 3', b'M 9'), (4, b'ptr other: M', b'ptr other: N'), (None, b'size', b'long')]
 
 
-def wanted_of_changes(fields):
+def wanted_of_changes(fields: Dict[str, int]) -> Iterator[Wanted]:
     """Images with what is wanted of them: the scene's with one number or one piece of the text changed."""
     for rule, changes in CHANGED:
         for name, values in changes.items():
             for value in values:
                 yield f'{name} {fields[name]}, now {value}', rule, image_model.image_of(TEXT, {**fields, name: value})
     for rule, old, new in RESPELLED:
-        yield f'{old} for {new}', rule, image_model.image_of(TEXT.replace(old, new, 1), fields)
+        yield f'{old!r} for {new!r}', rule, image_model.image_of(TEXT.replace(old, new, 1), fields)
 
 
-def wanted_of_types():
+def wanted_of_types() -> Iterator[Wanted]:
     """A record of the first type of `CROWDED` is written in some versions, so that its node has more stamped values than one of the second
     type may have. Nothing points to it, and it points to nothing: so with the number of its type changed all else holds."""
     for writes in (2, 3, 4):
@@ -116,31 +120,31 @@ def wanted_of_types():
             yield f'{writes} writes of slot {slot}, of another type', 8, image_model.image_of(CROWDED, {**fields, 'node 1 type': 2})
 
 
-def wanted_of_records(fields):
+def wanted_of_records(fields: Dict[str, int]) -> Iterator[Wanted]:
     """The scene's image, whose 7 nodes and their potential of 5 are paid for by records alone, and less of them."""
     for records in range(13):
         paid = image_model.image_of(TEXT, {**fields, 'records': records, 'pointers': 0, 'values': 0})
         yield f'{records} records', None if records == 12 else 9, paid
 
 
-def empty_image(numbers=EMPTY):
+def empty_image(numbers: Sequence[int] = EMPTY) -> bytes:
     return MAGIC + struct.pack(f'>{len(numbers)}Q', *numbers)
 
 
-def wanted_of_empty():
+def wanted_of_empty() -> Iterator[Wanted]:
     """The image of an empty store, with one number changed."""
     for at, number, rule in [(6, 3, 2), (17, 0, 4), (20, 128, 4), (13, 1, 5), (3, 0, 9), (3, 7, None)]:
         yield f'an empty store, number {at} now {number}', rule, empty_image([*EMPTY[:at], number, *EMPTY[at + 1:]])
 
 
-def one_changed():
+def one_changed() -> Iterator[Wanted]:
     """Images in which one number, or one piece of the text, is not that of a good one: at least ten for each rule."""
     fields = image_model.fields_of(scene())
     for wanted in (wanted_of_changes(fields), wanted_of_types(), wanted_of_records(fields), wanted_of_empty()):
         yield from wanted
 
 
-def wanted_of_texts(fields):
+def wanted_of_texts(fields: Dict[str, int]) -> Iterator[Wanted]:
     """Images of another length, or with another text and its length: what is wanted of them."""
     data = image_model.image_of(TEXT, fields)
     yield 'an empty store', None, empty_image()
@@ -149,17 +153,17 @@ def wanted_of_texts(fields):
         yield f'the first {length} bytes', 0, data[:length]
     yield 'another opening', 0, data.replace(b'G01', b'G02', 1)
     for text in (TEXT[:-1], TEXT + b'\n', b'# N\n' + TEXT, TEXT + b'%%\n', b'language 3\n' + TEXT, TEXT + b'proc p() { }\n', TEXT[1:], b'\0'):
-        yield f'the text {text}', 1, image_model.image_of(text, {**fields, 'length': len(text)})
+        yield f'the text {text!r}', 1, image_model.image_of(text, {**fields, 'length': len(text)})
     for text in (b'', b'language 2\n', TEXT[:TEXT.index(b'root')]):
-        yield f'the text {text}', 4, image_model.image_of(text, {**fields, 'length': len(text)})
+        yield f'the text {text!r}', 4, image_model.image_of(text, {**fields, 'length': len(text)})
     text = b'language 2\n' + TEXT + b'proc p() {\n}\n'
-    yield f'the text {text}', None, image_model.image_of(text, {**fields, 'length': len(text)})
+    yield f'the text {text!r}', None, image_model.image_of(text, {**fields, 'length': len(text)})
     for part in ('version', 'node'):
         rest = {name: value for name, value in fields.items() if not name.startswith(f'{part} ')}
         yield f'no {part}', 2, image_model.image_of(TEXT, {**rest, f'{part}s': 0})
 
 
-def wanted_of_paid(fields):
+def wanted_of_paid(fields: Dict[str, int]) -> Iterator[Wanted]:
     """The scene's image, paid for in other ways, and what is wanted of it."""
     for counts, right in [((12, 0, 0), True), ((11, 0, 0), False), ((0, 2, 0), True), ((0, 1, 2), False), ((0, 0, 6), True), ((1, 0, 5), False),
                           ((0, 0, 0), False), ((5, 1, 0), False), ((6, 1, 0), True), (3 * (MOST_COUNT,), True)]:
@@ -167,7 +171,40 @@ def wanted_of_paid(fields):
         yield f'{paid}', None if right else 9, image_model.image_of(TEXT, {**fields, **paid})
 
 
-def hot(writes, splits):
+# Two types without fields, so that a node of the one has as many slots as a node of the other; and one that may point to itself.
+BARE = b"""record A 1 { }
+record B 1 { }
+"""
+LOOPED = b"""record N 2 { ptr next: N; }
+"""
+
+
+def bare(text: bytes, versions: Sequence[Sequence[int]], *nodes: Sequence[int]) -> bytes:
+    """An image of eight places with few numbers in it: three runs took one, and nine records pay for what there is."""
+    numbers = [1000000, 4, 9, 0, 0, 8, len(versions), *itertools.chain(*versions), len(nodes), *itertools.chain(*nodes)]
+    return MAGIC + struct.pack('>Q', len(text)) + text + struct.pack(f'>{len(numbers)}Q', *numbers)
+
+
+def wanted_of_bare() -> Iterator[Wanted]:
+    """Images that break one rule by one thing, in ways that the scene can't; the last two records live longer than any version."""
+    whole, free = (0, 0, 0, 7), (1, 0, 0)
+    root = (0, 0, 0, 0, 7, 0, *free)
+    stamps = [(2, 0), (3, 0), (4, 0)]
+    yield 'a version of the next run', 3, bare(b'', [whole, (0, 4, 1, 2)], root)
+    yield 'nothing stamped in a slot that is not there', 4, bare(b'', [whole], (*root[:-1], 1, 5, 3, 0))
+    yield 'a later node that is not there', 5, bare(b'', [whole], (0, 0, 0, 0, 7, 5, *free))
+    yield 'a root record of another type', 5, bare(BARE, [whole], (0, 0, 1, 0, 7, 0, *free))
+    yield 'a later node of another type', 5, bare(BARE, [whole], root, (1, 0, 1, 1, 3, 3, *free), (1, 0, 2, 3, 5, 0, *free))
+    yield 'a gap in the life of the root record', 5, bare(b'', [whole], (0, 0, 0, 0, 3, 2, *free), (0, 0, 0, 4, 7, 0, *free))
+    yield 'a root record that ends early', 5, bare(b'', [whole], (0, 0, 0, 0, 6, 0, *free))
+    yield 'a record of run 0', 5, bare(BARE, [whole], root, (0, 5, 1, 1, 3, 0, *free))
+    yield 'a record of type 0', 5, bare(BARE, [whole], root, (1, 0, 0, 1, 3, 0, *free))
+    yield 'a pointer to itself without an entry', 6, bare(LOOPED, [whole], root, (1, 0, 1, 1, 3, 0, 3, 2, 0, 0, 0))
+    yield 'one more stamped value than the root record may have', 8, bare(b'', [whole], (*root[:-1], 3, *itertools.chain(*((0, *s) for s in stamps))))
+    yield 'a record that lives up to the last place', None, bare(BARE, [whole], root, (1, 0, 1, 1, 7, 0, *free))
+
+
+def hot(writes: int, splits: bool) -> image_model.Store:
     """A store in which one record is written in so many versions, each from the one before."""
     store = image_model.Store(TEXT, splits)
     for version in range(writes):
@@ -180,7 +217,7 @@ def hot(writes, splits):
     return store
 
 
-def wanted_of_hot():
+def wanted_of_hot() -> Iterator[Wanted]:
     """A node of `N` has room for 8 stamped values, and each version behind the first stamps two."""
     for writes in (2, 5, 6, 7, 8, 9, 14, 30):
         for splits in (False, True):
@@ -189,7 +226,7 @@ def wanted_of_hot():
             yield f'{writes} writes, {"" if splits else "not "}split', wanted, image_model.image_of(TEXT, image_model.fields_of(store))
 
 
-def wanted_of_left():
+def wanted_of_left() -> Iterator[Wanted]:
     """Runs that made records and left them: these live over no version. They hold each other, and their nodes are split."""
     store = image_model.Store(TEXT)
     for _ in range(3):
@@ -202,14 +239,14 @@ def wanted_of_left():
     yield 'records that live over no version', None, image_model.image_of(TEXT, image_model.fields_of(store))
 
 
-def others():
+def others() -> Iterator[Wanted]:
     """Images that are other ones by more than a number."""
     fields = image_model.fields_of(scene())
-    for wanted in (wanted_of_texts(fields), wanted_of_paid(fields), wanted_of_hot(), wanted_of_left()):
+    for wanted in (wanted_of_texts(fields), wanted_of_paid(fields), wanted_of_bare(), wanted_of_hot(), wanted_of_left()):
         yield from wanted
 
 
-def made_up_store(draw):
+def made_up_store(draw: random.Random) -> image_model.Store:
     """A store with made-up runs, and some that are left."""
     store = image_model.Store(TEXT)
     for _ in range(draw.choice([5, 10, 20])):

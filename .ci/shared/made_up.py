@@ -1,5 +1,7 @@
 """Made-up programs, in their canonical form, and the commands of made-up scripts."""
+import random
 import re
+from typing import Dict, Iterable, Iterator, List, Optional, Tuple
 
 # Numbers at which sums, products and quotients are odd.
 ODD = [0, 1, 2, 3, 7, 10, 255, 256, 65536, 2147483648, 3037000500, 4611686018427387904, 9223372036854775806, 9223372036854775807]
@@ -7,13 +9,17 @@ COMPARISONS = ['==', '!=', '<', '<=', '>', '>=']
 KEYWORDS = 'record val ptr root proc query var new call print if else while return null and or not int'.split()
 
 
+# Names with their kinds: `int` or a record type.
+Fields = List[Tuple[str, str]]
+
+
 class Procedure:
     """A procedure's head: what it is called with, and what it gives."""
 
-    def __init__(self, name, query, parameters, result):
+    def __init__(self, name: str, query: bool, parameters: Fields, result: Optional[str]) -> None:
         self.name, self.query, self.parameters, self.result = name, query, parameters, result
 
-    def is_callable(self):
+    def is_callable(self) -> bool:
         """Whether a script can call it: each parameter is a number."""
         return all(kind == 'int' for _, kind in self.parameters)
 
@@ -21,13 +27,13 @@ class Procedure:
 class Program:
     """A typed program, of language 2 now and then. `text` is its canonical form; no statement of it is refused."""
 
-    def __init__(self, draw):
+    def __init__(self, draw: random.Random) -> None:
         self.draw = draw
-        self.arrays = {}
+        self.arrays: Dict[Tuple[str, str], int] = {}
         self.language = draw.choice([1, 1, 2])
-        self.records = {}
-        self.roots = []
-        self.procedures = []
+        self.records: Dict[str, Tuple[int, Fields]] = {}
+        self.roots: Fields = []
+        self.procedures: List[Procedure] = []
         self.make_records()
         self.make_roots()
         self.make_heads()
@@ -38,12 +44,12 @@ class Program:
             lines += Body(self, procedure).lines()
         self.text = ''.join(line + '\n' for line in lines)
 
-    def chance(self, part):
+    def chance(self, part: float) -> bool:
         return self.draw.random() < part
 
     # ---- declarations
 
-    def make_records(self):
+    def make_records(self) -> None:
         names = ['N', 'Knot', 'cell_2'][:self.draw.choice([1, 1, 2, 2, 3])]
         for name in names:
             fields = [(f'v{k}', 'int') for k in range(self.draw.choice([0, 1, 1, 2, 3]))]
@@ -52,7 +58,7 @@ class Program:
             self.records[name] = (self.draw.choice([1, 1, 2, 2, 3, 4, 16]), fields)
             self.make_arrays(name, fields)
 
-    def make_arrays(self, name, fields):
+    def make_arrays(self, name: str, fields: Fields) -> None:
         """Makes arrays of some fields of language 2; a type has at most 64 elements."""
         left = 64 - len(fields)
         for field, _ in fields if self.language == 2 else []:
@@ -61,21 +67,21 @@ class Program:
                 self.arrays[name, field] = elements
                 left -= elements - 1
 
-    def record_line(self, name):
+    def record_line(self, name: str) -> str:
         limit, fields = self.records[name]
         inside = ''.join(f'{"val" if kind == "int" else "ptr"} {field}: {kind}{self.size_text(name, field)}; ' for field, kind in fields)
         return f'record {name} {limit} {{ {inside}}}'
 
-    def size_text(self, name, field):
+    def size_text(self, name: str, field: str) -> str:
         return f' * {self.arrays[name, field]}' if (name, field) in self.arrays else ''
 
-    def make_roots(self):
+    def make_roots(self) -> None:
         self.roots = [(f'sum{k}', 'int') for k in range(self.draw.choice([0, 1, 1, 2]))]
         for k, name in enumerate(self.records):
             self.roots += [(f'top{k}{end}', name) for end in self.draw.choice([[''], ['', '_b'], ['', '_b', '_c']])]
         self.draw.shuffle(self.roots)
 
-    def make_heads(self):
+    def make_heads(self) -> None:
         kinds = ['int', 'int', 'int', *self.records]
         for k in range(self.draw.randrange(3, 8)):
             query = k > 0 and self.chance(0.35)
@@ -93,14 +99,14 @@ class Program:
 class Body:
     """The text of a procedure."""
 
-    def __init__(self, program, procedure):
+    def __init__(self, program: Program, procedure: Procedure) -> None:
         self.program, self.procedure, self.draw = program, procedure, program.draw
         self.chance = program.chance
-        self.locals = []
-        self.names = {}
+        self.locals: Fields = []
+        self.names: Dict[str, List[str]] = {}
         for name, kind in program.roots + procedure.parameters:
             self.names.setdefault(kind, []).append(name)
-        self.own = {}
+        self.own: Dict[str, List[str]] = {}
         for name, kind in procedure.parameters:
             self.own.setdefault(kind, []).append(name)
         for kind in ['int', *program.records]:
@@ -108,13 +114,13 @@ class Body:
                 self.declare(f'{"i" if kind == "int" else "r" + kind}{k}', kind)
         self.left = self.draw.choice([3, 6, 10, 16])
 
-    def declare(self, name, kind):
+    def declare(self, name: str, kind: str) -> str:
         self.locals.append((name, kind))
         self.names.setdefault(kind, []).append(name)
         self.own.setdefault(kind, []).append(name)
         return name
 
-    def lines(self):
+    def lines(self) -> Iterator[str]:
         p = self.procedure
         inside = self.inside()
         if p.result and self.chance(0.8):
@@ -126,7 +132,7 @@ class Body:
         yield from inside
         yield '}'
 
-    def inside(self):
+    def inside(self) -> List[str]:
         """The statements: made up, or those of one of the procedures that every program has."""
         name = self.procedure.name
         if name.startswith('grow'):
@@ -137,7 +143,7 @@ class Body:
             return ['  while a0 > 0 {', '    print a0;', '    a0 = a0 - 1;', '  }']
         return self.beginning() + self.block(2, 0)
 
-    def beginning(self):
+    def beginning(self) -> List[str]:
         """Lets most pointers hold a record, so that not every run traps for want of one."""
         lines = []
         for name, kind in self.locals:
@@ -147,7 +153,7 @@ class Body:
                 lines.append(f'  {name} = {f"new {kind}" if fresh else self.draw.choice(roots)};')
         return lines
 
-    def growing(self):
+    def growing(self) -> List[str]:
         """Makes a record, fills it, and hangs it where it can be found."""
         kind = list(self.program.records)[int(self.procedure.name[4:])]
         made = self.declare('made', kind)
@@ -160,7 +166,7 @@ class Body:
                 lines.append(f'  {root} = {made};')
         return lines + [f'  {root} = {made};' for root, of in self.program.roots if of == kind][:1]
 
-    def seeing(self):
+    def seeing(self) -> List[str]:
         """Prints what the roots hold, and what hangs from them."""
         lines = []
         for root, of in self.program.roots:
@@ -181,7 +187,7 @@ class Body:
 
     # ---- statements
 
-    def block(self, indent, depth):
+    def block(self, indent: int, depth: int) -> List[str]:
         lines = []
         for _ in range(self.draw.choice([0, 1, 2, 3, 4]) if depth else 5):
             if self.left > 0:
@@ -189,7 +195,7 @@ class Body:
                 lines += [' ' * indent + line for line in self.statement(indent, depth)]
         return lines
 
-    def statement(self, indent, depth):
+    def statement(self, indent: int, depth: int) -> List[str]:
         kind = self.draw.random()
         if kind < 0.16 and depth < 4:
             return self.choice_of_blocks(indent, depth)
@@ -207,17 +213,17 @@ class Body:
             return self.make()
         return self.assignment(self.names) if kind < 0.86 else self.store()
 
-    def inner(self, indent, depth):
+    def inner(self, indent: int, depth: int) -> List[str]:
         """The lines of a block inside a statement, which the statement's own indent is put before."""
         return [line[indent:] for line in self.block(indent + 2, depth + 1)]
 
-    def choice_of_blocks(self, indent, depth):
+    def choice_of_blocks(self, indent: int, depth: int) -> List[str]:
         lines = [f'if {self.truth(2)} {{'] + self.inner(indent, depth)
         if self.chance(0.5):
             lines += ['} else {'] + self.inner(indent, depth)
         return lines + ['}']
 
-    def loop(self, indent, depth):
+    def loop(self, indent: int, depth: int) -> List[str]:
         lists = [(kind, field) for kind in self.own for field, of in self.fields(kind) if of == kind]
         if lists and self.chance(0.4):
             kind, field = self.draw.choice(lists)
@@ -232,20 +238,20 @@ class Body:
             test += f' and {self.comparison(1)}'
         return [f'while {test} {{'] + self.inner(indent, depth) + [f'  {step}', '}']
 
-    def assignment(self, names):
+    def assignment(self, names: Dict[str, List[str]]) -> List[str]:
         kind = self.draw.choice([kind for kind in names if names[kind]] or ['int'])
         if not names.get(kind):
             return ['print 0;']
         return [f'{self.draw.choice(names[kind])} = {self.whole(kind, 3)};']
 
-    def make(self):
+    def make(self) -> List[str]:
         kinds = [kind for kind in self.program.records if self.own.get(kind)]
         if not kinds:
             return self.assignment(self.names)
         kind = self.draw.choice(kinds)
         return [f'{self.draw.choice(self.own[kind])} = new {kind};']
 
-    def store(self):
+    def store(self) -> List[str]:
         kinds = [kind for kind in self.program.records if self.names.get(kind) and self.fields(kind)]
         if not kinds:
             return self.assignment(self.names)
@@ -260,7 +266,7 @@ class Body:
             return [f'if {place} != null {{', f'  {write}', '}']
         return [write]
 
-    def call(self):
+    def call(self) -> List[str]:
         allowed = [p for p in self.program.procedures if p.query or not self.procedure.query]
         called = self.draw.choice(allowed)
         given = ', '.join(self.whole(kind, 2) for _, kind in called.parameters)
@@ -274,10 +280,10 @@ class Body:
 
     # ---- expressions
 
-    def fields(self, kind):
+    def fields(self, kind: str) -> Fields:
         return self.program.records[kind][1] if kind != 'int' else []
 
-    def field(self, kind, pointer, field, depth):
+    def field(self, kind: str, pointer: str, field: str, depth: int) -> str:
         """A field of what a pointer to records of a type leads to: of an array one element, most often one that is there."""
         elements = self.program.arrays.get((kind, field))
         if elements is None:
@@ -290,18 +296,18 @@ class Body:
             index = self.sum(max(depth - 1, 0))
         return f'{pointer}.{field}({index})'
 
-    def places(self, kind, pointer):
+    def places(self, kind: str, pointer: str) -> Iterator[Tuple[str, str]]:
         """All that a record holds, with its kinds: each element of an array."""
         for field, of in self.fields(kind):
             elements = self.program.arrays.get((kind, field))
             for index in range(elements or 1):
                 yield f'{pointer}.{field}' + (f'({index})' if elements else ''), of
 
-    def whole(self, kind, depth):
+    def whole(self, kind: str, depth: int) -> str:
         """An expression that fits a place of this kind."""
         return self.sum(depth) if kind == 'int' else 'null' if self.chance(0.2) else self.pointer(kind, depth)
 
-    def pointer(self, kind, depth):
+    def pointer(self, kind: str, depth: int) -> str:
         if depth > 0 and self.chance(0.1):
             return f'({self.pointer(kind, depth - 1)})'
         steps = [(of, field) for of in self.program.records for field, to in self.fields(of) if to == kind and self.names.get(of)]
@@ -310,17 +316,17 @@ class Body:
             return self.field(of, self.pointer(of, depth - 1) if depth > 1 else self.draw.choice(self.names[of]), field, depth)
         return self.draw.choice(self.names.get(kind) or ['null'])
 
-    def sum(self, depth):
+    def sum(self, depth: int) -> str:
         if depth > 0 and self.chance(0.35):
             return f'{self.sum(depth - 1)} {self.draw.choice("+-")} {self.term(depth - 1)}'
         return self.term(depth)
 
-    def term(self, depth):
+    def term(self, depth: int) -> str:
         if depth > 0 and self.chance(0.25):
             return f'{self.term(depth - 1)} {self.draw.choice("*/%")} {self.unary(depth - 1)}'
         return self.unary(depth)
 
-    def unary(self, depth):
+    def unary(self, depth: int) -> str:
         if self.chance(0.08):
             return f'-{self.unary(depth)}'
         if depth > 0 and self.chance(0.15):
@@ -334,24 +340,24 @@ class Body:
             return self.field(kind, pointer, field, depth) if not is_null(pointer) else '5'
         return self.draw.choice(self.names.get('int') or ['4'])
 
-    def truth(self, depth):
+    def truth(self, depth: int) -> str:
         if depth > 0 and self.chance(0.2):
             return f'{self.truth(depth - 1)} or {self.conjunct(depth - 1)}'
         return self.conjunct(depth)
 
-    def conjunct(self, depth):
+    def conjunct(self, depth: int) -> str:
         if depth > 0 and self.chance(0.25):
             return f'{self.conjunct(depth - 1)} and {self.negation(depth - 1)}'
         return self.negation(depth)
 
-    def negation(self, depth):
+    def negation(self, depth: int) -> str:
         if self.chance(0.12):
             return f'not {self.negation(depth)}'
         if depth > 0 and self.chance(0.15):
             return f'({self.truth(depth - 1)})'
         return self.comparison(depth)
 
-    def comparison(self, depth):
+    def comparison(self, depth: int) -> str:
         kinds = [kind for kind in self.program.records if self.names.get(kind)]
         if not kinds or self.chance(0.6):
             return f'{self.sum(depth)} {self.draw.choice(COMPARISONS)} {self.sum(depth)}'
@@ -363,18 +369,19 @@ class Body:
         return f'{sides[0]} {self.draw.choice(COMPARISONS[:2])} {sides[1]}'
 
 
-def is_null(pointer):
+def is_null(pointer: str) -> bool:
     """Whether a pointer is null in parentheses, or a field of that."""
     return re.match(r'\(*null', pointer) is not None
 
 
-def tokens_of(text):
+def tokens_of(text: str) -> List[str]:
     return re.findall(r'[A-Za-z_][A-Za-z_0-9]*|[0-9]+|==|!=|<=|>=|\S', text)
 
 
-def spread(draw, text):
+def spread(draw: random.Random, text: str) -> str:
     """The same program with other blanks, line feeds and comments between its tokens."""
-    pieces, before = [], ';'
+    pieces: List[str] = []
+    before = ';'
     for token in tokens_of(text):
         tight = before in '(){};,.' or token in '(){};,.'
         blank = draw.choice(['', '', '', ' ']) if tight else draw.choice([' ', ' ', ' ', '  ', '\n'])
@@ -385,7 +392,7 @@ def spread(draw, text):
     return ''.join(pieces)
 
 
-def spoil_line(draw, text):
+def spoil_line(draw: random.Random, text: str) -> str:
     """The text with a line taken out, repeated or moved, or with a head or a limit exchanged."""
     lines = text.splitlines(keepends=True)
     at = draw.randrange(len(lines))
@@ -405,7 +412,7 @@ def spoil_line(draw, text):
     return ''.join(lines)
 
 
-def spoil_name(draw, text):
+def spoil_name(draw: random.Random, text: str) -> str:
     """The text with a name in another name's place, so that it reads as a program whose types do not fit."""
     tokens = re.split('([A-Za-z_0-9]+)', text)
     names = [at for at, token in enumerate(tokens) if re.match('[A-Za-z_]', token) and token not in KEYWORDS]
@@ -414,7 +421,7 @@ def spoil_name(draw, text):
     return ''.join(tokens)
 
 
-def spoil_token(draw, text):
+def spoil_token(draw: random.Random, text: str) -> str:
     """The text with tokens or bytes taken out, put in or exchanged."""
     tokens = re.findall(r'\s+|[A-Za-z_][A-Za-z_0-9]*|[0-9]+|==|!=|<=|>=|\S', text)
     for _ in range(draw.choice([1, 1, 1, 2, 5])):
@@ -434,7 +441,7 @@ def spoil_token(draw, text):
     return ''.join(tokens)
 
 
-def spoil(draw, text):
+def spoil(draw: random.Random, text: str) -> str:
     """The text with a change after which it is most likely no program."""
     return draw.choice([spoil_line, spoil_name, spoil_token])(draw, text)
 
@@ -442,15 +449,16 @@ def spoil(draw, text):
 class Script:
     """The commands of a script. What there is by then is learnt from the replies."""
 
-    def __init__(self, draw, procedures):
+    def __init__(self, draw: random.Random, procedures: Iterable[Procedure]) -> None:
         self.draw = draw
         self.procs = [(p.name, len(p.parameters)) for p in procedures if not p.query and p.is_callable()]
         self.procs += [call for call in self.procs if call[0].startswith('grow')] * 2
         self.queries = [(p.name, len(p.parameters)) for p in procedures if p.query and p.is_callable()]
         self.others = [p.name for p in procedures if not p.is_callable()] + ['nothing', 'Do0', 'new', 'x' * 33]
-        self.versions, self.runs, self.opened = 1, 0, []
+        self.versions, self.runs = 1, 0
+        self.opened: List[int] = []
 
-    def learn(self, replies):
+    def learn(self, replies: Iterable[bytes]) -> None:
         for reply in replies:
             words = reply.split()
             if words[:1] == [b'version']:
@@ -461,7 +469,7 @@ class Script:
                 self.opened.remove(int(words[1]))
         self.opened = self.opened[-80:]
 
-    def number(self):
+    def number(self) -> object:
         kind = self.draw.random()
         if kind < 0.7:
             return self.draw.randrange(-3, 9)
@@ -469,7 +477,7 @@ class Script:
             return self.draw.choice([1, -1]) * self.draw.choice(ODD)
         return self.draw.choice(['-9223372036854775808', '9223372036854775808', '-9223372036854775809', '-0', '07', '+1', '1x', '9' * 40])
 
-    def call(self, query=False):
+    def call(self, query: bool = False) -> str:
         kind = self.draw.random()
         names = self.queries if query else self.procs
         if kind < 0.03 or not names:
@@ -479,18 +487,18 @@ class Script:
             count = self.draw.randrange(10)
         return ' '.join([name, *(str(self.number()) for _ in range(count))])
 
-    def version(self):
+    def version(self) -> object:
         kind = self.draw.random()
         if kind < 0.03:
             return self.draw.choice([self.versions, self.versions + 1, 4294967295, 4294967296, '00', '-1'])
         return max(0, self.versions - 1 - self.draw.randrange(8)) if kind < 0.6 else self.draw.randrange(self.versions)
 
-    def run(self):
+    def run(self) -> object:
         if not self.opened or self.draw.random() < 0.05:
             return self.draw.choice([0, 1, self.runs, self.runs + 1, 4294967295, 4294967296, '01'])
         return self.draw.choice(self.opened[-self.draw.randrange(1, 9):])
 
-    def command(self):
+    def command(self) -> str:
         kind = self.draw.random()
         if not self.opened and 0.54 <= kind < 0.9 and self.draw.random() < 0.9:
             kind = self.draw.random() * 0.54
@@ -514,7 +522,7 @@ class Script:
             return self.draw.choice(['versions', 'stats', 'query 0 see', f'query {self.version()} see'])
         return self.spoilt()
 
-    def odd_begin(self):
+    def odd_begin(self) -> List[str]:
         """Commands that come to a limit: on open runs, on the calls of a run, or on printed numbers. Mostly none."""
         kind = self.draw.random()
         if kind < 0.02:
@@ -525,7 +533,7 @@ class Script:
             return ['budget 1000000', 'open 0 flood 65530', f'call 1 flood {self.draw.randrange(4, 9)}', 'step 1 500000', 'close 1', 'budget 300']
         return []
 
-    def spoilt(self):
+    def spoilt(self) -> str:
         """A line of no form, or one with blanks and bytes that a form has not."""
         kind = self.draw.random()
         if kind < 0.4:

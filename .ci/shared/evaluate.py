@@ -9,8 +9,15 @@ import functools
 import re
 import sys
 from collections import Counter
+from typing import Any, Callable, Container, Counter as Counts, Dict, List, Optional, Sequence, Tuple
 
-from image_rules import heap_of, types_of
+from shared.declarations import Field, declarations_of
+from shared.image_rules import Heap, Held, Image, Name, Type, heap_of, types_of
+
+# The locals of a call; what an expression gives, by a run and its locals; and what a statement does, which gives what is returned, if anything.
+Env = Dict[str, Any]
+Value = Callable[['Run', Env], Any]
+Statement = Callable[['Run', Env], Optional[List[Any]]]
 
 LEAST, GREATEST = -1 << 63, (1 << 63) - 1
 MOST_ACTIVE = 256
@@ -27,13 +34,13 @@ class Trap(Exception):
 
 # ---- numbers
 
-def limited(number):
+def limited(number: int) -> int:
     if not LEAST <= number <= GREATEST:
         raise Trap('overflow')
     return number
 
 
-def quotient(a, b):
+def quotient(a: int, b: int) -> int:
     """The quotient, rounded towards zero."""
     if b == 0:
         raise Trap('divide')
@@ -46,7 +53,7 @@ COMPARISONS = {'==': lambda a, b: a == b, '!=': lambda a, b: a != b, '<': lambda
                '>': lambda a, b: a > b, '>=': lambda a, b: a >= b}
 
 
-def applied(op, left, right):
+def applied(op: Callable[[Any, Any], Any], left: Value, right: Value) -> Value:
     return lambda run, env: op(left(run, env), right(run, env))
 
 
@@ -55,14 +62,17 @@ def applied(op, left, right):
 class Procedure:
     """A procedure: its name, the names and kinds of its parameters and then of its locals, what it gives, and its statements."""
 
-    def __init__(self, is_query):
-        self.is_query, self.kinds, self.parameters, self.result, self.body = is_query, {}, 0, None, []
+    def __init__(self, is_query: bool) -> None:
+        self.is_query, self.parameters = is_query, 0
+        self.kinds: Dict[str, str] = {}
+        self.result: Optional[str] = None
+        self.body: List[Statement] = []
 
-    def takes(self):
+    def takes(self) -> List[str]:
         """The kinds of its parameters."""
         return list(self.kinds.values())[:self.parameters]
 
-    def first_env(self, arguments):
+    def first_env(self, arguments: Sequence[Any]) -> Env:
         """The locals as they begin: the arguments, and 0 or null."""
         env = {name: 0 if kind == 'int' else None for name, kind in self.kinds.items()}
         return {**env, **dict(zip(env, arguments))}
@@ -72,55 +82,49 @@ class Program:
     """A program by its canonical text. `fields` has of each type and field the first slot, the kind, and the number of elements or None;
     type numbers stand by their names, and the root record's by `root`."""
 
-    def __init__(self, text):
-        self.types = types_of(text)
-        text = text.decode('ascii')
+    def __init__(self, data: bytes) -> None:
+        self.types, text = types_of(data), data.decode('ascii')
         self.tokens = [(token, number) for number, line in enumerate(text.splitlines(), 1)
                        for token in re.findall(r'\w+|==|!=|<=|>=|\S', line)]
         self.at = 0
-        self.fields, self.procedures, self.numbers = {}, {}, {}
-        self.declare(text)
+        self.fields: Dict[Tuple[str, str], Tuple[int, str, Optional[int]]] = {}
+        self.procedures: Dict[str, Procedure] = {}
+        roots, records = declarations_of(text)
+        self.numbers = {record.name: number for number, record in enumerate(records, 1)}
+        self.place('', roots)
+        for record in records:
+            self.place(record.name, record.fields)
         while self.at < len(self.tokens):
             self.declaration()
 
     # ---- declarations
 
-    def declare(self, text):
-        """The slots of all fields: first those of numbers, and then those of pointers."""
-        roots = re.findall(r'^root (\w+): (\w+)()();$', text, re.M)
-        self.numbers = {name: number for number, name in enumerate(re.findall(r'^record (\w+)', text, re.M), 1)}
-        inside = re.findall(r'^record (\w+) \d+ \{ (.*)\}$', text, re.M)
-        self.place('', roots)
-        for name, fields in inside:
-            self.place(name, re.findall(r'(?:val|ptr) (\w+): (\w+)( \* (\d+))?;', fields))
-
-    def place(self, owner, fields):
+    def place(self, owner: str, fields: Sequence[Field]) -> None:
+        """The slots of the fields of a record type: first those of numbers, and then those of pointers."""
         slot = 0
-        for is_wanted in (lambda kind: kind == 'int', lambda kind: kind != 'int'):
-            for name, kind, is_array, elements in fields:
-                if is_wanted(kind):
-                    self.fields[owner, name] = slot, kind, int(elements) if is_array else None
-                    slot += int(elements or 1)
+        for name, kind, elements in sorted(fields, key=lambda it: it.kind != 'int'):
+            self.fields[owner, name] = slot, kind, elements
+            slot += elements or 1
 
-    def peek(self, ahead=0):
+    def peek(self, ahead: int = 0) -> str:
         return self.tokens[self.at + ahead][0]
 
-    def take(self):
+    def take(self) -> str:
         self.at += 1
         return self.tokens[self.at - 1][0]
 
-    def skip(self, *tokens):
+    def skip(self, *tokens: str) -> None:
         for token in tokens:
             if self.take() != token:
                 raise ValueError(f'{token} is wanted at {self.tokens[self.at - 1]}')
 
-    def is_next(self, token):
+    def is_next(self, token: str) -> bool:
         """Takes a token where it comes next."""
         found = self.at < len(self.tokens) and self.peek() == token
         self.at += found
         return found
 
-    def declaration(self):
+    def declaration(self) -> None:
         """Goes past `language 2`, records and roots, which are known by then, and reads a procedure."""
         word = self.take()
         if word in ('proc', 'query'):
@@ -132,7 +136,7 @@ class Program:
             while self.take() != end:
                 pass
 
-    def procedure(self, is_query):
+    def procedure(self, is_query: bool) -> None:
         self.own = Procedure(is_query)
         self.procedures[self.take()] = self.own
         self.skip('(')
@@ -148,31 +152,31 @@ class Program:
             self.skip(';')
         self.own.body = self.rest_of_block()
 
-    def kinds_of_one(self):
+    def kinds_of_one(self) -> None:
         name = self.take()
         self.skip(':')
         self.own.kinds[name] = self.take()
 
     # ---- statements, each with its charge
 
-    def block(self):
+    def block(self) -> List[Statement]:
         self.skip('{')
         return self.rest_of_block()
 
-    def rest_of_block(self):
-        statements = []
+    def rest_of_block(self) -> List[Statement]:
+        statements: List[Statement] = []
         while not self.is_next('}'):
             statements.append(self.statement())
         return statements
 
-    def statement(self):
+    def statement(self) -> Statement:
         line, word = self.tokens[self.at][1], self.peek()
         if word == 'while':
             self.take()
             return looped(line, self.expression()[0], self.block())
         return charged(line, self.plain_statement(word))
 
-    def plain_statement(self, word):
+    def plain_statement(self, word: str) -> Statement:
         if word == 'if':
             self.take()
             condition, first = self.expression()[0], self.block()
@@ -181,7 +185,7 @@ class Program:
         self.skip(';')
         return done
 
-    def simple_statement(self, word):
+    def simple_statement(self, word: str) -> Statement:
         if word == 'print':
             self.take()
             return printed(self.expression()[0])
@@ -198,16 +202,17 @@ class Program:
             return made(word, self.numbers[self.take()])
         return self.assignment()
 
-    def call(self, result):
+    def call(self, result: Optional[str]) -> Statement:
         self.skip('call')
-        name, arguments = self.take(), []
+        name = self.take()
+        arguments: List[Value] = []
         self.skip('(')
         while not self.is_next(')'):
             self.is_next(',')
             arguments.append(self.expression()[0])
         return called(self.procedures, name, arguments, result)
 
-    def assignment(self):
+    def assignment(self) -> Statement:
         """An assignment to a local, a root, a field or an element."""
         name = self.take()
         if self.is_next('='):
@@ -224,31 +229,31 @@ class Program:
 
     # ---- expressions: each as a function, with its kind
 
-    def chain(self, operand, operators, combine):
+    def chain(self, operand: Callable[[], Tuple[Value, str]], operators: Container[str], combine: Callable[[str, Value, Value], Tuple[Value, str]]) -> Tuple[Value, str]:
         whole, kind = operand()
         while self.peek() in operators:
             whole, kind = combine(self.take(), whole, operand()[0])
         return whole, kind
 
-    def expression(self):
+    def expression(self) -> Tuple[Value, str]:
         return self.chain(self.conjunct, ['or'], lambda _, a, b: (lambda run, env: a(run, env) or b(run, env), 'truth'))
 
-    def conjunct(self):
+    def conjunct(self) -> Tuple[Value, str]:
         return self.chain(self.negation, ['and'], lambda _, a, b: (lambda run, env: a(run, env) and b(run, env), 'truth'))
 
-    def negation(self):
+    def negation(self) -> Tuple[Value, str]:
         if self.is_next('not'):
             operand = self.negation()[0]
             return lambda run, env: not operand(run, env), 'truth'
         return self.chain(self.sum, COMPARISONS, lambda op, a, b: (applied(COMPARISONS[op], a, b), 'truth'))
 
-    def sum(self):
+    def sum(self) -> Tuple[Value, str]:
         return self.chain(self.term, SUMS, lambda op, a, b: (applied(SUMS[op], a, b), 'int'))
 
-    def term(self):
+    def term(self) -> Tuple[Value, str]:
         return self.chain(self.unary, TERMS, lambda op, a, b: (applied(TERMS[op], a, b), 'int'))
 
-    def unary(self):
+    def unary(self) -> Tuple[Value, str]:
         if self.is_next('-'):
             operand = self.unary()[0]
             return lambda run, env: limited(-operand(run, env)), 'int'
@@ -258,7 +263,7 @@ class Program:
             whole, kind = loaded(whole, slot, self.index(elements)), of
         return whole, kind
 
-    def atom(self):
+    def atom(self) -> Tuple[Value, str]:
         token = self.take()
         if token == '(':
             inside = self.expression()
@@ -271,14 +276,14 @@ class Program:
             return lambda run, env: number, 'int'
         return self.named(token)
 
-    def named(self, name):
+    def named(self, name: str) -> Tuple[Value, str]:
         """A local, or a root."""
         if name in self.own.kinds:
             return lambda run, env: env[name], self.own.kinds[name]
         slot, kind, _ = self.fields['', name]
         return lambda run, env: run.heap[ROOT][1][slot], kind
 
-    def index(self, elements):
+    def index(self, elements: Optional[int]) -> Optional[Value]:
         """The index of an element, where the field is an array: it traps where there is no such element."""
         if elements is None:
             return None
@@ -286,7 +291,7 @@ class Program:
         inside = self.expression()[0]
         self.skip(')')
 
-        def index(run, env):
+        def index(run: 'Run', env: Env) -> int:
             at = inside(run, env)
             if not 0 <= at < elements:
                 raise Trap('index')
@@ -295,36 +300,37 @@ class Program:
 
 
 @functools.lru_cache(maxsize=16)
-def program_of(text):
+def program_of(text: bytes) -> Program:
     return Program(text)
 
 
 # ---- what statements and fields do
 
-def object_of(name):
+def object_of(name: Optional[Name]) -> Name:
     if name is None:
         raise Trap('null')
     return name
 
 
-def loaded(pointer, slot, index):
+def loaded(pointer: Value, slot: int, index: Optional[Value]) -> Value:
     if index is None:
         return lambda run, env: run.heap[object_of(pointer(run, env))][1][slot]
+    at = index
 
-    def load(run, env):
+    def load(run: 'Run', env: Env) -> Held:
         name = object_of(pointer(run, env))
-        return run.heap[name][1][slot + index(run, env)]
+        return run.heap[name][1][slot + at(run, env)]
     return load
 
 
-def charged(line, does):
-    def do(run, env):
+def charged(line: int, does: Statement) -> Statement:
+    def do(run: 'Run', env: Env) -> Optional[List[Any]]:
         run.charge(line)
         return does(run, env)
     return do
 
 
-def all_of(statements, run, env):
+def all_of(statements: Sequence[Statement], run: 'Run', env: Env) -> Optional[List[Any]]:
     for statement in statements:
         left = statement(run, env)
         if left is not None:
@@ -332,9 +338,9 @@ def all_of(statements, run, env):
     return None
 
 
-def looped(line, condition, body):
+def looped(line: int, condition: Value, body: Sequence[Statement]) -> Statement:
     """A loop takes a charge before each evaluation of its condition."""
-    def do(run, env):
+    def do(run: 'Run', env: Env) -> Optional[List[Any]]:
         run.charge(line)
         while condition(run, env):
             left = all_of(body, run, env)
@@ -345,40 +351,40 @@ def looped(line, condition, body):
     return do
 
 
-def chosen(condition, first, other):
+def chosen(condition: Value, first: Sequence[Statement], other: Sequence[Statement]) -> Statement:
     return lambda run, env: all_of(first if condition(run, env) else other, run, env)
 
 
-def returned(value):
+def returned(value: Value) -> Statement:
     return lambda run, env: [value(run, env)]
 
 
-def printed(value):
+def printed(value: Value) -> Statement:
     return lambda run, env: run.print(value(run, env))
 
 
-def set_local(name, value):
-    def do(run, env):
+def set_local(name: str, value: Value) -> Statement:
+    def do(run: 'Run', env: Env) -> None:
         env[name] = value(run, env)
     return do
 
 
-def stored(pointer, slot, index, value):
-    def do(run, env):
+def stored(pointer: Value, slot: int, index: Optional[Value], value: Value) -> Statement:
+    def do(run: 'Run', env: Env) -> None:
         name = object_of(pointer(run, env))
         at = slot + (index(run, env) if index else 0)
         run.write(name, at, value(run, env))
     return do
 
 
-def made(name, number):
-    def do(run, env):
+def made(name: str, number: int) -> Statement:
+    def do(run: 'Run', env: Env) -> None:
         env[name] = run.allocate(number)
     return do
 
 
-def called(procedures, name, arguments, result):
-    def do(run, env):
+def called(procedures: Dict[str, Procedure], name: str, arguments: Sequence[Value], result: Optional[str]) -> Statement:
+    def do(run: 'Run', env: Env) -> None:
         left = run.call(procedures[name], [argument(run, env) for argument in arguments])
         if result is not None:
             env[result] = left
@@ -388,53 +394,55 @@ def called(procedures, name, arguments, result):
 class Run:
     """A run or a query over a heap of its own: what it has counted, and what it has printed. `line` is that of its last charge."""
 
-    def __init__(self, types, heap, number, budget):
+    def __init__(self, types: Sequence[Type], heap: Heap, number: int, budget: int) -> None:
         self.types, self.number, self.charges, self.line = types, number, budget, 0
         self.heap = {name: (of, list(contents)) for name, (of, contents) in heap.items()}
         self.records = self.pointers = self.values = self.active = 0
-        self.printed, self.in_degrees = [], None
+        self.printed: List[int] = []
+        self.in_degrees: Optional[Counts[Optional[Name]]] = None
 
-    def charge(self, line):
+    def charge(self, line: int) -> None:
         self.line = line
         if self.charges == 0:
             raise Trap('budget')
         self.charges -= 1
 
-    def print(self, number):
+    def print(self, number: int) -> None:
         if len(self.printed) == MOST_PRINTED:
             raise Trap('output')
         self.printed.append(number)
 
-    def allocate(self, number):
+    def allocate(self, number: int) -> Name:
         it, name = self.types[number], (self.number, self.records)
         self.heap[name] = number, [0] * it.values + [None] * len(it.targets)
         self.records += 1
         return name
 
-    def write(self, name, slot, content):
+    def write(self, name: Name, slot: int, content: Held) -> None:
         """Writes a field. A pointer to a record whose in-degree, apart from this field, is at its limit traps."""
         number, contents = self.heap[name]
         if not self.types[number].is_pointer(slot):
             self.values += 1
         else:
-            self.count_in_degrees()
-            self.in_degrees[contents[slot]] -= 1
-            if content is not None and self.in_degrees[content] == self.limit_of(content):
+            degrees = self.count_in_degrees()
+            degrees[contents[slot]] -= 1
+            if content is not None and degrees[content] == self.limit_of(content):
                 raise Trap('indegree')
-            self.in_degrees[content] += 1
+            degrees[content] += 1
             self.pointers += 1
         contents[slot] = content
 
-    def limit_of(self, name):
+    def limit_of(self, name: Name) -> int:
         it = self.types[self.heap[name][0]]
         return it.slots - it.contents
 
-    def count_in_degrees(self):
-        """Counts how many fields hold each record, once for the run."""
+    def count_in_degrees(self) -> Counts[Optional[Name]]:
+        """How many fields hold each record, which is counted once for the run."""
         if self.in_degrees is None:
             self.in_degrees = Counter(held for of, contents in self.heap.values() for held in contents[self.types[of].values:])
+        return self.in_degrees
 
-    def call(self, procedure, arguments):
+    def call(self, procedure: Procedure, arguments: Sequence[Any]) -> Any:
         """Carries a procedure out, and gives its result."""
         if self.active == MOST_ACTIVE:
             raise Trap('depth')
@@ -449,23 +457,23 @@ class Run:
 class History:
     """Versions with their heaps, which answers lines that run, that ask, that set the budget and that list; all others are refused."""
 
-    def __init__(self, text, budget, next_run, counts, parents, heaps):
+    def __init__(self, text: bytes, budget: int, next_run: int, counts: Sequence[int], parents: List[int], heaps: List[Heap]) -> None:
         self.program, self.budget, self.next_run = program_of(text), budget, next_run
         self.counts, self.parents, self.heaps = list(counts), parents, heaps
 
     @classmethod
-    def opening(cls, text):
+    def opening(cls, text: bytes) -> 'History':
         """That of a program whose script has not begun."""
         it = types_of(text)[0]
         return cls(text, 1000000, 1, (1, 0, 0), [0], [{ROOT: (0, [0] * it.values + [None] * len(it.targets))}])
 
     @classmethod
-    def of_image(cls, image):
+    def of_image(cls, image: Image) -> 'History':
         """That of an image that no rule refuses."""
         heaps = [heap_of(image, version) for version in range(len(image.versions))]
         return cls(image.text, image.budget, image.next_run, image.counts, [it.parent for it in image.versions], heaps)
 
-    def reply(self, line):
+    def reply(self, line: bytes) -> str:
         """What is replied to a line."""
         form, *words = re.sub(rb'[ \t\r]+', b' ', line.strip(b' \t\r')).decode('latin-1').split(' ')
         if not form or form.startswith('#'):
@@ -482,7 +490,7 @@ class History:
             return f'records {records} pointers {pointers} values {values} bound {records + 6 * pointers + 2 * values}\n'
         return 'refused line\n'
 
-    def carried_out(self, is_run, version, procedure, arguments):
+    def carried_out(self, is_run: bool, version: int, procedure: Procedure, arguments: Sequence[Any]) -> str:
         """The reply to a run or a query, which is over a heap of its own; a run that does not trap makes a version."""
         if is_run and self.next_run > MOST_RUNS:
             return 'refused runs\n'
