@@ -19,7 +19,7 @@ pub mod Places
 pub mod Rebuilt
 pub mod RowsParts
 pub mod RowsStore
-pub mod Rules
+pub mod StoreRules
 pub mod Shown
 pub mod StoreBounds
 pub mod Versions

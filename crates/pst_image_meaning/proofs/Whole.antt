@@ -20,7 +20,7 @@ use Rattle.pst_image_meaning.specs.Chains.{ChainsGive}
 use Rattle.pst_image_meaning.specs.Taken.{HasKinds, IsTaken}
 use Rattle.pst_image_meaning.specs.Rules.{TakenIsStoreLaw}
 use Rattle.pst_image_meaning.proofs.Built.{built_law}
-use Rattle.pst_image_meaning.proofs.Rules.{chains_law}
+use Rattle.pst_image_meaning.proofs.StoreRules.{chains_law}
 use Rattle.pst_image_meaning.proofs.Held.{at_all}
 
 -- ---- kinds
