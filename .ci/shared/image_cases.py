@@ -177,6 +177,12 @@ record B 1 { }
 """
 LOOPED = b"""record N 2 { ptr next: N; }
 """
+# One whose pointer has a slot other than 0, and one with arrays.
+KEYED = b"""record N 2 { val key: int; ptr next: N; }
+"""
+PAIRED = b"""language 2
+record N 2 { val keys: int * 3; ptr next: N * 2; }
+"""
 
 
 def bare(text: bytes, versions: Sequence[Sequence[int]], *nodes: Sequence[int]) -> bytes:
@@ -200,6 +206,9 @@ def wanted_of_bare() -> Iterator[Wanted]:
     yield 'a record of run 0', 5, bare(BARE, [whole], root, (0, 5, 1, 1, 3, 0, *free))
     yield 'a record of type 0', 5, bare(BARE, [whole], root, (1, 0, 0, 1, 3, 0, *free))
     yield 'a pointer to itself without an entry', 6, bare(LOOPED, [whole], root, (1, 0, 1, 1, 3, 0, 3, 2, 0, 0, 0))
+    yield 'an entry of no node', 4, bare(KEYED, [whole], root, (1, 0, 1, 1, 3, 0, 4, 0, 0, 1, 0, 0))
+    yield 'a record with arrays', None, bare(PAIRED, [whole], root, (1, 0, 1, 1, 3, 0, 7, *(7 * [0]), 0))
+    yield 'a node of 65,536 slots', 0, bare(b'', [whole], (*root[:6], U16, *(U16 * [0]), 0))
     yield 'one more stamped value than the root record may have', 8, bare(b'', [whole], (*root[:-1], 3, *itertools.chain(*((0, *s) for s in stamps))))
     yield 'a record that lives up to the last place', None, bare(BARE, [whole], root, (1, 0, 1, 1, 7, 0, *free))
 
