@@ -1,5 +1,5 @@
 -- Images by themselves: no two rules fail first, packing what was taken gives the same bytes, and what is packed is taken.
-use Rattle.std.proofs.Common.{◌≡◌, ◌⊎◌, ℕ, List, None, ◌++◌, take, drop, length, refl, sym, ap, ◌∙◌, subst, inl, inr, arith}
+use Rattle.std.proofs.Common.{◌≡◌, ◌⊎◌, ℕ, List, [], ◌∷◌, get_or, None, ◌++◌, take, drop, length, refl, sym, ap, ◌∙◌, subst, inl, inr, arith}
 use Rattle.std.proofs.lemmas.Bool.{cases_eq, cases_lt}
 use Rattle.std.proofs.Math.Seq.{take-append_seam, drop-append_seam}
 use Rattle.pst_base.specs.declared.shape.TypeShape.{TypeShape}
@@ -17,16 +17,7 @@ use Rattle.pst_image_unpack.proofs.Deciding.{one_text}
 
 -- the rule with a number
 abbrev rule_at : ℕ → Rule
-rule_at 0 = Form
-rule_at 1 = Text
-rule_at 2 = Ranges
-rule_at 3 = Versions
-rule_at 4 = Nodes
-rule_at 5 = Chains
-rule_at 6 = Pointers
-rule_at 7 = Entries
-rule_at 8 = Capacity
-rule_at n = Bound
+rule_at n = get_or (Form ∷ Text ∷ Ranges ∷ Versions ∷ Nodes ∷ Chains ∷ Pointers ∷ Entries ∷ Capacity ∷ Bound ∷ []) n Form
 
 numbered : (rule : Rule) → rule_at (number_of rule) ≡ rule
 numbered Form = refl
@@ -57,16 +48,16 @@ later_same p one other f g =
 
 -- a rule behind the text fails of parts whose text is a program's
 later : (p : ImageParts) (rule : Rule) → FailsIn p rule → (rule ≡ Text → ⊥) → FailsLater p rule
-later p Form f no = absurd f
-later p Text f no = absurd (no refl)
-later p Ranges f no = f
-later p Versions f no = f
-later p Nodes f no = f
-later p Chains f no = f
-later p Pointers f no = f
-later p Entries f no = f
-later p Capacity f no = f
-later p Bound f no = f
+later p Form f behind = absurd f
+later p Text f behind = absurd (behind refl)
+later p Ranges f behind = f
+later p Versions f behind = f
+later p Nodes f behind = f
+later p Chains f behind = f
+later p Pointers f behind = f
+later p Entries f behind = f
+later p Capacity f behind = f
+later p Bound f behind = f
 
 text_or_not : (rule : Rule) → (rule ≡ Text) ⊎ (rule ≡ Text → ⊥)
 text_or_not Form = inr (λ e. cc)
@@ -84,11 +75,11 @@ one_in : (p : ImageParts) (one other : Rule) → FailsIn p one → FailsIn p oth
 one_in p one other f g = elim (text_or_not one) [
   | inl is ↦ elim (text_or_not other) [
     | inl also ↦ is ∙ sym also
-    | inr no ↦ let l = later p other g no in absurd (subst (FailsIn p) is f l.named l.text)
+    | inr second ↦ let l = later p other g second in absurd (subst (FailsIn p) is f l.named l.text)
   ]
-  | inr no ↦ elim (text_or_not other) [
-    | inl also ↦ let l = later p one f no in absurd (subst (FailsIn p) also g l.named l.text)
-    | inr neither ↦ later_same p one other (later p one f no) (later p other g neither)
+  | inr first ↦ elim (text_or_not other) [
+    | inl also ↦ let l = later p one f first in absurd (subst (FailsIn p) also g l.named l.text)
+    | inr neither ↦ later_same p one other (later p one f first) (later p other g neither)
   ]
 ]
 
