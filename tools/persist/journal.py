@@ -29,7 +29,7 @@ import re
 import sys
 import threading
 import zlib
-from typing import Any, Callable, Iterator, List, NamedTuple, Optional, Union
+from typing import Any, Callable, Iterator, List, NamedTuple, Optional, Sequence, Union
 
 from .client import (
     INPUT_LIMIT, MARK, MARKED, Commands, Ended, Opened, PersistError, Refused, Reply, Session, UnknownReply, WrongText, answer_to,
@@ -306,6 +306,10 @@ class Asked:
         return self.reply
 
 
+# What is told of a line of the log, and its reply.
+Heard = Callable[[str, Reply], None]
+
+
 class Held(enum.Enum):
     """Which commands a checkpoint holds back."""
     NOTHING = 0
@@ -344,8 +348,8 @@ class Journal(Commands):
     disk once, and so answers all of them.
     """
 
-    def __init__(self, folder: str, path: Optional[str] = None, disk: Optional[Disk] = None) -> None:
-        """Opens a folder. `path` is the program to run."""
+    def __init__(self, folder: str, path: Optional[str] = None, disk: Optional[Disk] = None, heard: Optional[Heard] = None) -> None:
+        """Opens a folder. `path` is the program to run; `heard` is told each line of the log with its reply, while the folder is opened."""
         self.folder, self.path, self.disk = os.path.abspath(folder), path or program_path(), disk or Disk()
         self._moved = threading.Condition()
         self._waiting: List[Asked] = []
@@ -353,6 +357,7 @@ class Journal(Commands):
         self._held = Held.NOTHING
         self._broken: Optional[BaseException] = None
         self.open_runs: List[int] = []
+        self._heard = heard
         if newest_in(self.folder) is None:
             raise NoStore(f'{folder} holds no store')
         self._lock = locked(self.folder)
@@ -427,10 +432,12 @@ class Journal(Commands):
                 if not is_kept(line, reply):
                     raise Damaged(f'{name}: `{line}` was answered, and now is not: {reply}')
                 self._note(line, reply)
+                if self._heard:
+                    self._heard(line, reply)
         except BaseException:
             process.end()
             raise
-        self._process = process
+        self._process, self._heard = process, None
         return groups
 
     def _remove_others(self) -> None:
@@ -453,27 +460,73 @@ class Journal(Commands):
             self._lock.close()
             self._moved.notify_all()
 
+    # What stands on disk, for those who read beside it.
+
+    @property
+    def number(self) -> int:
+        """The number of the image that the log follows; 0 where it is the program's text."""
+        return self._number
+
+    @property
+    def base(self) -> str:
+        """The path of that image, or of the program's text."""
+        return self._name('image', self._number)
+
+    @property
+    def log(self) -> str:
+        """The path of the log."""
+        return self._name('log', self._number)
+
+    @property
+    def kept(self) -> int:
+        """How many bytes of the log are known to be on disk."""
+        return self._log.size
+
     # Commands.
 
     def command(self, line: str) -> Optional[Reply]:
         """Carries a line of the script out, and returns its reply when all that it saw or did is on disk; None for a line that has none."""
+        asked = self._asked(line)
+        if asked is None:
+            return None
+        self._carry_out([asked])
+        return asked.outcome()
+
+    def outcomes(self, lines: Sequence[str]) -> List[Union[Reply, JournalError, None]]:
+        """Carries lines of the script out in their order, as many together as wait for the disk once; gives for each its reply, None where
+        it has none, or the error that came in its place."""
+        asked = [self._asked(line) for line in lines]
+        waiting = [it for it in asked if it is not None]
+        try:
+            self._carry_out(waiting)
+        except JournalError as error:
+            for it in waiting:
+                if not it.answered:
+                    it.answer(error)
+        return [None if it is None else it.reply for it in asked]
+
+    def _asked(self, line: str) -> Optional[Asked]:
         data = encoded(line)
         if b'\n' in data or len(data) > LONGEST:
             raise WrongText(f'a command is one line of at most {LONGEST:,} bytes')
-        if not words_of(line):
-            return None
-        asked = Asked(line)
+        return Asked(line) if words_of(line) else None
+
+    def _carry_out(self, asked: List[Asked]) -> None:
+        """Hands commands in, and works or waits until all of them are answered."""
+        left = list(reversed(asked))
         with self._moved:
-            self._waiting.append(asked)
-            while not asked.answered:
+            self._waiting += asked
+            while left:
+                if left[-1].answered:
+                    left.pop()
+                    continue
                 self._fail_if_broken()
-                if self._has_to_wait(asked):
+                if self._has_to_wait(left[-1]):
                     self._moved.wait()
                     continue
                 group = self._next_group()
                 with self._working():
                     self._answer(group)
-        return asked.outcome()
 
     def _next_group(self) -> List[Asked]:
         """The commands that are carried out next."""
