@@ -27,6 +27,7 @@ from .history import (
     Difference, Note, Record, Records, Value, at_version, difference, difference_text, is_name, log_text, names_text, sequence_text, show_text)
 from .kept import Busy, Store, TooLarge, Who
 from .server import Exists, Stores, TooMany
+from .shell import FAULTS, REFUSALS, TRAPS
 
 __all__ = ['Site']
 
@@ -79,7 +80,7 @@ def problem_of(error: BaseException) -> Problem:
     if isinstance(error, Problem):
         return error
     if isinstance(error, client.ProgramRefused):
-        told = {'kind': error.kind, 'line': error.line, 'text': error.text}
+        told = {'kind': error.kind, 'line': error.line, 'text': error.text, 'means': FAULTS.get(error.kind, '')}
         return Problem(422, f'the program is refused: {error.kind} at line {error.line}; mend it there', told)
     if is_full(error):
         return Problem(507, f'the disk is full: make room on it; {IN_DOUBT}')
@@ -124,6 +125,8 @@ def reply_json(line: str, reply: Reply, source: List[str]) -> Dict[str, Any]:
             told['at' if field.name == 'line' else field.name] = getattr(reply, field.name)
     if isinstance(reply, client.Trapped) and 0 < reply.line <= len(source):
         told['source'] = source[reply.line - 1].strip()
+    if isinstance(reply, (client.Trapped, client.Refused)):
+        told['means'] = (TRAPS if isinstance(reply, client.Trapped) else REFUSALS).get(reply.kind, '')
     return told
 
 
