@@ -57,7 +57,7 @@ class Serving:
     def begin(self) -> None:
         """Starts it, and waits until it listens."""
         command = [*self.before, str(PYTHON), '-W', 'error', os.path.join(TOOLS, 'persist_server.py'), self.folder, '--listen', self.listen, *self.words]
-        self.process = subprocess.Popen(command, stdout=subprocess.PIPE, stderr=self.errors, env={**os.environ, **(self.env or {})}, start_new_session=True)
+        self.process = subprocess.Popen(command, stdout=subprocess.PIPE, stderr=self.errors, env={**os.environ, **(self.env or {})})
         assert self.process.stdout
         first = self.process.stdout.readline().decode()
         self.url = first.rpartition(' at ')[2].strip()
