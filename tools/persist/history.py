@@ -240,6 +240,8 @@ class Notes:
         self.names: Names = {}
         # Lines that could not be written yet.
         self._unwritten: List[bytes] = []
+        # Whether something was written that may not be on disk yet.
+        self.unsynced = False
         texts = [self._read(it) for it in self.paths]
         self._files = [open(it, 'ab', buffering=0) for it in self.paths]
         if texts[0] != texts[1]:
@@ -310,6 +312,9 @@ class Notes:
         """Adds lines to both files. Where that fails they are kept, and added with the next ones."""
         self._unwritten += lines
         data = b''.join(self._unwritten)
+        if not data:
+            return
+        self.unsynced = True
         with contextlib.suppress(OSError):
             sizes = [os.fstat(file.fileno()).st_size for file in self._files]
             try:
@@ -335,6 +340,7 @@ class Notes:
 
     def sync(self) -> None:
         """Waits until all that was written is on disk."""
+        self.unsynced = False
         with contextlib.suppress(OSError):
             for file in self._files:
                 os.fsync(file.fileno())

@@ -446,9 +446,7 @@ class Store:
         self._writer.cancel()
         with contextlib.suppress(asyncio.CancelledError):
             await self._writer
-        for asked in self._waiting:
-            if not asked.done.done():
-                asked.done.set_exception(Busy('the server ends'))
+        self._give_up(Broken('the server ends'))
         self.readers.end()
         await self.workers.write(self.kept.end)
         await self.workers.write(self.notes.end)
@@ -537,7 +535,20 @@ class Store:
                 outcomes = [error] * len(lines)
             except (OSError, ValueError) as error:
                 outcomes = [broken_by(error)] * len(lines)
-            self._take_in(group, outcomes)
+            try:
+                self._take_in(group, outcomes)
+            except Exception as error:
+                self._give_up(broken_by(error))
+
+    def _give_up(self, error: Broken) -> None:
+        """Tells all who wait that it is not known what came of their lines."""
+        self.broken = error
+        while self._waiting:
+            asked = self._waiting.popleft()
+            if len(asked.outcomes) < len(asked.lines):
+                asked.outcomes.append(error)
+            if not asked.done.done():
+                asked.done.set_result(asked.outcomes)
 
     def _next_group(self) -> List[Tuple[Asked, int]]:
         group: List[Tuple[Asked, int]] = []

@@ -103,8 +103,11 @@ class Stores:
         return True
 
     async def _end(self, store: Store) -> None:
-        self._open.pop(store.name, None)
-        await store.end()
+        """Ends a store that nobody uses. Meanwhile it is not opened again."""
+        async with self._locks.setdefault(store.name, asyncio.Lock()):
+            if self._open.get(store.name) is store and not store.users:
+                del self._open[store.name]
+                await store.end()
 
     async def create(self, name: str, program: str) -> bool:
         """Makes a store; False where it is there already with the same program."""
@@ -136,15 +139,16 @@ class Stores:
             since = time.monotonic() - self.limits.store_seconds
             for store in list(self._open.values()):
                 store.readers.thin()
-                store.notes.sync()
-                if not store.users and store.used < since:
-                    async with self._locks.setdefault(store.name, asyncio.Lock()):
-                        if not store.users:
-                            await self._end(store)
+                with contextlib.suppress(PersistError, OSError):
+                    if store.notes.unsynced:
+                        await self.workers.heavy(store.notes.sync)
+                    if not store.users and store.used < since:
+                        await self._end(store)
 
     async def end(self) -> None:
         """Ends all stores."""
-        await asyncio.gather(*(self._end(it) for it in list(self._open.values())))
+        await asyncio.gather(*(it.end() for it in self._open.values()))
+        self._open.clear()
 
 
 # The command line.

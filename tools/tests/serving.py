@@ -80,7 +80,7 @@ class Serving:
         """A bare connection."""
         return socket.create_connection((self.host, self.port), timeout)
 
-    def ask(self, method: str, path: str, body: Any = None, headers: Optional[Dict[str, str]] = None, timeout: float = 60) -> Answer:
+    def ask(self, method: str, path: str, body: Any = None, headers: Optional[Dict[str, str]] = None, timeout: float = 200) -> Answer:
         """A request on a connection of its own."""
         connection = http.client.HTTPConnection(self.host, self.port, timeout=timeout)
         try:
