@@ -17,8 +17,8 @@ import time
 from typing import Any, Awaitable, Callable, Dict, List, Optional, Tuple, Union
 
 from aiohttp import web
-from aiohttp.http_exceptions import LineTooLong
-from aiohttp.web_protocol import RequestHandler
+from aiohttp.http_exceptions import HttpProcessingError, LineTooLong
+from aiohttp.web_protocol import RequestHandler, RequestPayloadError
 from aiohttp.web_server import Server
 
 from . import kept
@@ -226,8 +226,8 @@ async def body_of(request: web.BaseRequest, limits: Limits) -> bytes:
             part = await asyncio.wait_for(request.content.readany(), max(0.01, until - time.monotonic()))
         except asyncio.TimeoutError:
             raise Problem(408, f'a body has to come in {limits.body_seconds:g} seconds: send it at once', last=True) from None
-        except web.HTTPException as error:
-            raise Problem(400, error.reason, last=True) from None
+        except (RequestPayloadError, HttpProcessingError):
+            raise Problem(400, 'the body is not sent as its head says', last=True) from None
         if not part:
             return b''.join(parts)
         size += len(part)

@@ -635,6 +635,8 @@ class Store:
             raise TooLarge('the store was packed into an image, and the program tells of no image what changed')
         base, log = given_by(self.kept)
         status, told = written_by(['changed', str(version), path], base + log, self.path)
+        if status == 3:
+            return Refused('path')
         if status != 0:
             raise Ended(status)
         return read_answer(told.decode('latin-1').splitlines())
