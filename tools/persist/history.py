@@ -242,9 +242,10 @@ class Notes:
         self._unwritten: List[bytes] = []
         # Whether something was written that may not be on disk yet.
         self.unsynced = False
-        texts = [self._read(it) for it in self.paths]
+        # The longer one is read last, since what a later line tells stands.
+        texts = {it: self._read(it) for it in sorted(self.paths, key=lambda it: os.path.getsize(it) if os.path.exists(it) else 0)}
         self._files = [open(it, 'ab', buffering=0) for it in self.paths]
-        if texts[0] != texts[1]:
+        if len(set(texts.values())) > 1 or not all(text.endswith(b'\n') for text in texts.values() if text):
             self._write_anew()
 
     def _read(self, path: str) -> bytes:
@@ -269,7 +270,7 @@ class Notes:
         note = Note(int(told['version']), told.get('parent'), str(told.get('call', '')), str(told.get('by', '')), told.get('at'),
                     str(told.get('why', '')))
         before = self.by_version.get(note.version)
-        if before is None or before.at is None:
+        if before is None or note.at is not None:
             self.by_version[note.version] = note
 
     def _write_anew(self) -> None:

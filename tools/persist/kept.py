@@ -173,7 +173,7 @@ class Reader:
     PIECE = 16_384
 
     def __init__(self, kept: Kept, path: str, workers: Workers) -> None:
-        self._kept, self._path, self._workers = kept, path, workers
+        self.kept, self._path, self._workers = kept, path, workers
         self._process: Optional['subprocess.Popen[bytes]'] = None
         self._lines: Deque[bytes] = deque()
         self._rest = b''
@@ -194,7 +194,7 @@ class Reader:
         self._reading, _ = await loop.connect_read_pipe(lambda: asyncio.StreamReaderProtocol(self._source), self._process.stdout)
         way, protocol = await loop.connect_write_pipe(asyncio.streams.FlowControlMixin, self._process.stdin)
         self._sink = asyncio.StreamWriter(way, protocol, None, loop)
-        await self._send(f'{self._kept.program}%%\n{MARK}\n')
+        await self._send(f'{self.kept.program}%%\n{MARK}\n')
         if await self._line() != MARKED.encode():
             raise Ended(self._process.poll() or 0)
 
@@ -226,11 +226,11 @@ class Reader:
 
     async def follow(self) -> None:
         """Is given what stands in the log by now."""
-        if self._kept.image:
+        if self.kept.image:
             return
         if self._process is None:
             await self._start()
-        lines, place = await self._workers.write(self._kept.read, self.place)
+        lines, place = await self._workers.write(self.kept.read, self.place)
         at = 0
         while at < len(lines):
             size, begin = 0, at
@@ -247,7 +247,7 @@ class Reader:
 
     async def ask(self, lines: Sequence[str], most: int) -> List[Outcome]:
         """The replies to lines that change nothing, as long as they have no more printed numbers than that together."""
-        if self._kept.image:
+        if self.kept.image:
             return await self._workers.heavy(self._behind, lines)
         found: List[Outcome] = []
         for at in range(0, len(lines), 8):
@@ -265,7 +265,7 @@ class Reader:
         return found
 
     def _behind(self, lines: Sequence[str]) -> List[Outcome]:
-        base, log = given_by(self._kept)
+        base, log = given_by(self.kept)
         return list(Behind(base + log, self._path).carry_out(list(lines)))
 
     def end(self) -> None:
@@ -356,7 +356,7 @@ class Readers:
 
     async def _give_back(self, reader: Reader, slow: bool, lost: bool) -> None:
         self._slow -= slow
-        if lost or reader not in self._all:
+        if lost or reader not in self._all or reader.kept is not self._kept:
             self._lose(reader)
         else:
             reader.used = time.monotonic()
