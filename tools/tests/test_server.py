@@ -686,7 +686,7 @@ class Killed(unittest.TestCase):
                     stop.set()
                 server.begin()
                 versions = server.ask('GET', '/stores/a/versions').json
-                keys = [int(it.partition(' ')[2] or 0) for it in versions['calls']]
+                keys = [int(it.partition(' ')[2]) if it else None for it in versions['calls']]
                 self.assertEqual({version: (keys[version], versions['by'][version]) for version in answered}, answered)
                 self.assertEqual(len(set(keys)), len(keys))
             self.assertGreater(len(answered), 20)
