@@ -112,7 +112,7 @@ class Browser:
         """The text of the first that a selector finds."""
         return str(self.run('const it = document.querySelector(arguments[0]); return it ? it.innerText : "";', css))
 
-    def wait(self, script: str, *given: Any, seconds: float = 20) -> Any:
+    def wait(self, script: str, *given: Any, seconds: float = 90) -> Any:
         """Waits until an expression is true, and gives it."""
         until = time.monotonic() + seconds
         while True:
@@ -123,7 +123,7 @@ class Browser:
                 raise AssertionError(f'{script} does not come; the page says: {self.text("body")[:600]}')
             time.sleep(0.05)
 
-    def wait_text(self, css: str, text: str, seconds: float = 20) -> None:
+    def wait_text(self, css: str, text: str, seconds: float = 90) -> None:
         """Waits until a text stands in what a selector finds."""
         self.wait('[...document.querySelectorAll(arguments[0])].some(it => it.innerText.includes(arguments[1]))', css, text, seconds=seconds)
 
