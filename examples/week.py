@@ -7,8 +7,8 @@ import sys
 
 HERE = os.path.dirname(os.path.abspath(__file__))
 sys.path.insert(0, os.path.join(HERE, '..', 'tools'))
-from persist_client import must, read_text, split_input  # noqa: E402
-from persist_journal import Journal  # noqa: E402
+from persist.client import must, read_text, split_input  # noqa: E402
+from persist.journal import Journal  # noqa: E402
 
 folder = sys.argv[1]
 program, _ = split_input(read_text(os.path.join(HERE, 'monday.persist')))

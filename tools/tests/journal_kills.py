@@ -16,8 +16,8 @@ import time
 import warnings
 
 sys.path.insert(0, os.path.dirname(os.path.dirname(os.path.abspath(__file__))))
-from persist_client import Opened, Refused, Version  # noqa: E402
-from persist_journal import Journal, Locked, newest_in  # noqa: E402
+from persist.client import Opened, Refused, Version  # noqa: E402
+from persist.journal import Journal, Locked, newest_in  # noqa: E402
 from tests.samples import LIST  # noqa: E402
 
 CALLERS, KILLS_OF_ONE = 8, 4

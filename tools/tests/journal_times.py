@@ -14,8 +14,8 @@ import threading
 import time
 
 sys.path.insert(0, os.path.dirname(os.path.dirname(os.path.abspath(__file__))))
-from persist_client import Session  # noqa: E402
-from persist_journal import Disk, Journal  # noqa: E402
+from persist.client import Session  # noqa: E402
+from persist.journal import Disk, Journal  # noqa: E402
 
 CELL = 'root n: int;\nproc set(k: int) {\n  n = k;\n}\n'
 SECONDS = 3

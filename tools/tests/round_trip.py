@@ -10,7 +10,7 @@ import sys
 import time
 
 sys.path.insert(0, os.path.dirname(os.path.dirname(os.path.abspath(__file__))))
-from persist_client import Session, program_path  # noqa: E402
+from persist.client import Session, program_path  # noqa: E402
 from tests.samples import LIST  # noqa: E402
 
 

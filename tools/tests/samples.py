@@ -9,7 +9,7 @@ import tempfile
 import time
 from typing import Iterator, List
 
-from persist_client import program_path
+from persist.client import program_path
 
 TOOLS = os.path.dirname(os.path.dirname(os.path.abspath(__file__)))
 TOP = os.path.dirname(TOOLS)

@@ -10,8 +10,8 @@ import subprocess
 import tempfile
 import unittest
 
-from persist_client import program_path, read_text
-from persist_shell import Shell
+from persist.client import program_path, read_text
+from persist.shell import Shell
 from tests.samples import TOOLS, TOP
 
 SAMPLE = '''language 2
@@ -138,11 +138,11 @@ class Pages(unittest.TestCase):
 
 class Sources(unittest.TestCase):
     def test_they_are_those_of_python_3_8_and_say_that_they_are_not_proved(self):
-        paths = glob.glob(os.path.join(TOOLS, '*.py')) + glob.glob(os.path.join(TOOLS, 'tests', '*.py'))
-        self.assertGreater(len(paths), 6)
+        paths = [path for folder in ('', 'persist', 'tests') for path in glob.glob(os.path.join(TOOLS, folder, '*.py'))]
+        self.assertGreater(len(paths), 12)
         for path in paths:
             ast.parse(read_text(path), path, feature_version=(3, 8))
-        for path in glob.glob(os.path.join(TOOLS, '*.*')):
+        for path in glob.glob(os.path.join(TOOLS, '*.*')) + glob.glob(os.path.join(TOOLS, 'persist', '*.*')):
             head = ' '.join(read_text(path)[:1500].split())
             self.assertRegex(head, r'[Tt]ested \((tools/tests|`bash \.ci/tools`)\)(,| and) not proved', path)
 

@@ -5,8 +5,8 @@ import signal
 import threading
 import unittest
 
-import persist_client
-from persist_client import (
+from persist import client as the_module
+from persist.client import (
     Answer, Budget, Changed, CutOff, Done, Dropped, Dump, Ended, Field, Never, NoAnswer, NotCarriedOut, Opened, Pointer,
     ProgramRefused, Record, Refused, Running, Session, Stats, Trapped, UnknownReply, Version, Versions, WrongText, answer_to, must,
     read_answer, read_dump, read_outline, read_reply, read_text, read_versions, split_input, text_of, words_of)
@@ -266,8 +266,8 @@ class BadPrograms(unittest.TestCase):
             self.assertRaises(Ended, session.stats)
 
     def test_standard_output_closed_and_no_end(self):
-        patience, persist_client.PATIENCE = persist_client.PATIENCE, 0.2
-        self.addCleanup(setattr, persist_client, 'PATIENCE', patience)
+        patience, the_module.PATIENCE = the_module.PATIENCE, 0.2
+        self.addCleanup(setattr, the_module, 'PATIENCE', patience)
         text = "print('refused line', flush=True)\nos.close(1)\ntime.sleep(60)"
         with a_program(text) as path, Session('', path) as session:
             with self.assertRaises(Ended) as caught:
@@ -275,8 +275,8 @@ class BadPrograms(unittest.TestCase):
             self.assertEqual((caught.exception.status, session.end()), (-9, -9))
 
     def test_one_that_does_not_end(self):
-        patience, persist_client.PATIENCE = persist_client.PATIENCE, 0.2
-        self.addCleanup(setattr, persist_client, 'PATIENCE', patience)
+        patience, the_module.PATIENCE = the_module.PATIENCE, 0.2
+        self.addCleanup(setattr, the_module, 'PATIENCE', patience)
         with a_program("print('refused line', flush=True)\ntime.sleep(60)") as path:
             self.assertEqual(Session('', path).end(), -9)
         with a_program("import signal\nsignal.signal(signal.SIGTERM, signal.SIG_IGN)\ntime.sleep(60)") as path:

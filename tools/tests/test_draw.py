@@ -8,8 +8,8 @@ import sys
 import unittest
 import xml.dom.minidom
 
-from persist_client import Dump, Field, History, Outline, Pointer, Record, Session, read_outline, split_input
-from persist_draw import (
+from persist.client import Dump, Field, History, Outline, Pointer, Record, Session, read_outline, split_input
+from persist.draw import (
     LIMIT, SHOWN, folded, in_order, records_dot, records_svg, rows_of, tree_dot, tree_svg, tree_text)
 from tests.samples import LIST, SCRIPT, TOOLS, TREE
 

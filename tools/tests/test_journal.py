@@ -9,10 +9,10 @@ import threading
 import unittest
 from unittest import mock
 
-import persist_journal
-from persist_client import (
+from persist import journal as the_module
+from persist.client import (
     Answer, Budget, Dropped, Opened, ProgramRefused, Refused, Session, Trapped, Version, Versions, WrongText, read_text, split_input, text_of)
-from persist_journal import Broken, CheckpointFailed, Damaged, Disk, Full, Journal, JournalError, Locked, NoStore, RunsAreOpen
+from persist.journal import Broken, CheckpointFailed, Damaged, Disk, Full, Journal, JournalError, Locked, NoStore, RunsAreOpen
 from tests.journal_kills import kill
 from tests.samples import LIST, TOOLS, TOP, made_up_script
 
@@ -518,7 +518,7 @@ class Great(Folder):
     def test_no_room_for_changes_or_for_an_image(self):
         with self.two_versions() as journal:
             for most in (0, 400):
-                with mock.patch.object(persist_journal, 'FULL', most):
+                with mock.patch.object(the_module, 'FULL', most):
                     if most == 0:
                         with self.assertRaisesRegex(Full, 'no room'):
                             journal.run(2, 'add', 4)
@@ -528,10 +528,10 @@ class Great(Folder):
                         journal.checkpoint()
                     self.assertEqual(self.files(), before)
             self.assertEqual(journal.run(2, 'add', 4), Version(3))
-            with mock.patch.object(persist_journal, 'written_by', lambda *_: (4, b'refused image 2\n')):
+            with mock.patch.object(the_module, 'written_by', lambda *_: (4, b'refused image 2\n')):
                 with self.assertRaisesRegex(CheckpointFailed, 'refused image 2'):
                     journal.checkpoint()
-            with mock.patch.object(persist_journal, 'written_by', lambda *_: (6, b'')):
+            with mock.patch.object(the_module, 'written_by', lambda *_: (6, b'')):
                 with self.assertRaisesRegex(CheckpointFailed, 'no memory'):
                     journal.checkpoint()
             journal.checkpoint()

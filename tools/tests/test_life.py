@@ -5,7 +5,7 @@ import threading
 import time
 import unittest
 
-from persist_client import INPUT_LIMIT, CutOff, Ended, Opened, Refused, Session, Trapped, Version, program_path
+from persist.client import INPUT_LIMIT, CutOff, Ended, Opened, Refused, Session, Trapped, Version, program_path
 from tests.samples import LIST, a_program, alive, all_ended
 
 

@@ -9,8 +9,8 @@ import tempfile
 import unittest
 import xml.dom.minidom
 
-from persist_client import Ended, read_text
-from persist_shell import COMMANDS, FAULTS, HELP, REFUSALS, TRAPS, WORDS, Shell
+from persist.client import Ended, read_text
+from persist.shell import COMMANDS, FAULTS, HELP, REFUSALS, TRAPS, WORDS, Shell
 from tests.samples import LIST, SCRIPT, TOOLS, TOP, TREE
 
 

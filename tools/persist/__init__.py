@@ -1,0 +1,11 @@
+"""Tools beside the program `persist`: a client, a journal, a prompt, pictures, and a server with a page.
+
+    from persist import Session, must
+
+What a session needs stands here too; the rest is in the modules `client`, `journal`, `shell`, `draw`, `history` and `server`.
+Tested (tools/tests), not proved.
+"""
+
+from .client import PersistError, Session, must, read_text, split_input
+
+__all__ = ['PersistError', 'Session', 'must', 'read_text', 'split_input']

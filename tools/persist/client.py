@@ -1,0 +1,802 @@
+"""Drives the program `persist` from Python: one process, and one typed reply to each command.
+
+    program, script = split_input(read_text('examples/editor.persist'))
+    with Session(program) as session:
+        typed = must(session.run(0, 'key', 104))    # Version(number=1, printed=())
+        session.query(typed.number, 'text')         # Answer(printed=(104,))
+        session.dump(typed.number).records          # what version 1 holds, record by record
+
+A session is given a program text without a separator line. Each of its commands sends one line of a script and returns the reply
+to it. Traps and refusals are replies too; `must` makes errors of them. Errors of their own say that the program was refused, that
+the process ended, and that something was written that is no reply.
+
+This module is tested (tools/tests) and not proved: a reply says what the program wrote. It needs python3.8 and nothing else.
+"""
+
+import os
+import re
+import signal
+import subprocess
+import threading
+from dataclasses import dataclass
+from typing import Any, Callable, Dict, Iterable, List, Optional, Pattern, Sequence, Tuple, Union
+
+__all__ = [
+    'Answer', 'Budget', 'Changed', 'Commands', 'Content', 'CutOff', 'Done', 'Dropped', 'Dump', 'Ended', 'Field', 'History', 'Never',
+    'NoAnswer', 'NotCarriedOut', 'Opened', 'Outline', 'PersistError', 'Pointer', 'ProgramRefused', 'Record', 'Refused', 'Reply',
+    'Running', 'Session', 'Stats', 'Trapped', 'UnknownReply', 'Version', 'Versions', 'WrongText', 'answer_to', 'lines_for', 'must',
+    'program_path', 'read_answer', 'read_dump', 'read_outline', 'read_reply', 'read_text', 'read_versions', 'split_input',
+    'take_reply', 'text_of', 'words_of', 'write_text', 'written_by',
+]
+
+# The most bytes of an input that the program reads.
+INPUT_LIMIT = 67_108_864
+# A line of no form. Its reply shows the end of what was written before it.
+MARK = '.'
+MARKED = 'refused line'
+# Seconds that a process is given to end when its input is closed or it is told to.
+PATIENCE = 10
+
+STATUSES = {
+    0: 'the input was read to its end',
+    1: 'a read failed',
+    2: 'a write failed',
+    3: 'the words are none that the program knows',
+    4: 'the program has a fault',
+    5: f'the input has more than {INPUT_LIMIT:,} bytes',
+    6: 'there was no memory',
+    7: 'the system did not give the words',
+    125: 'the program could not be built',
+}
+
+
+# The replies.
+
+class Reply:
+    """A reply to a command. `str` gives its last line as the program writes it, and `text_of` the whole of it."""
+
+    # The numbers that were printed; only those that say so have any.
+    printed: Tuple[int, ...] = ()
+
+
+@dataclass(frozen=True)
+class Version(Reply):
+    """A run was published as this version (`run`, `close`)."""
+    number: int
+    printed: Tuple[int, ...] = ()
+
+    def __str__(self) -> str:
+        return f'version {self.number}'
+
+
+@dataclass(frozen=True)
+class Answer(Reply):
+    """A query came to its end (`query`)."""
+    printed: Tuple[int, ...] = ()
+
+    def __str__(self) -> str:
+        return 'ok'
+
+
+@dataclass(frozen=True)
+class Trapped(Reply):
+    """A run or query trapped at this line of the program, and nothing was published (`run`, `query`, `close`)."""
+    kind: str
+    line: int
+    printed: Tuple[int, ...] = ()
+
+    def __str__(self) -> str:
+        return f'trap {self.kind} at {self.line}'
+
+
+@dataclass(frozen=True)
+class Refused(Reply):
+    """The command was refused and changed nothing; also what is told of a version or path that there is not."""
+    kind: str
+
+    def __str__(self) -> str:
+        return f'refused {self.kind}'
+
+
+@dataclass(frozen=True)
+class Opened(Reply):
+    """A run was opened under this number (`open`)."""
+    run: int
+
+    def __str__(self) -> str:
+        return f'run {self.run}'
+
+
+@dataclass(frozen=True)
+class Running(Reply):
+    """The open run has more to do than the charges granted so far reach for (`call`, `step`)."""
+    run: int
+
+    def __str__(self) -> str:
+        return f'run {self.run} running'
+
+
+@dataclass(frozen=True)
+class Done(Reply):
+    """The open run has ended or trapped, or its whole budget was granted (`call`, `step`)."""
+    run: int
+
+    def __str__(self) -> str:
+        return f'run {self.run} done'
+
+
+@dataclass(frozen=True)
+class Dropped(Reply):
+    """The open run was given up (`drop`)."""
+    run: int
+
+    def __str__(self) -> str:
+        return f'dropped {self.run}'
+
+
+@dataclass(frozen=True)
+class Budget(Reply):
+    """Runs and queries that come now may take so many charges (`budget`)."""
+    charges: int
+
+    def __str__(self) -> str:
+        return f'budget {self.charges}'
+
+
+@dataclass(frozen=True)
+class Versions(Reply):
+    """The version tree: `parents[v]` is the version that v was made from, and None for version 0 (`versions`)."""
+    parents: Tuple[Optional[int], ...]
+
+    def __str__(self) -> str:
+        return '\n'.join(['0'] + [f'{version} from {parent}' for version, parent in enumerate(self.parents) if parent is not None])
+
+
+@dataclass(frozen=True)
+class Stats(Reply):
+    """How many records were made and pointers and values written by all runs, and the bound on the store (`stats`)."""
+    records: int
+    pointers: int
+    values: int
+    bound: int
+
+    def __str__(self) -> str:
+        return f'records {self.records} pointers {self.pointers} values {self.values} bound {self.bound}'
+
+
+# What is told about versions.
+
+@dataclass(frozen=True)
+class Pointer:
+    """A pointer to the record of a dump that has this number."""
+    record: int
+
+    def __str__(self) -> str:
+        return f'@{self.record}'
+
+
+# What a field holds: a number, null, or a record.
+Content = Union[int, None, Pointer]
+
+
+@dataclass(frozen=True)
+class Record:
+    """A record of a dump. Its contents are the numbers and then the pointers; `Outline.contents` has their names."""
+    number: int
+    type: str
+    contents: Tuple[Content, ...]
+
+    def __str__(self) -> str:
+        return ' '.join([f'{self.number} {self.type}:'] + ['null' if it is None else str(it) for it in self.contents])
+
+
+@dataclass(frozen=True)
+class Dump:
+    """The records of a version that its roots lead to; `records[n]` has number n, and 0 is the root record."""
+    records: Tuple[Record, ...]
+
+    def __str__(self) -> str:
+        return '\n'.join(map(str, self.records))
+
+
+@dataclass(frozen=True)
+class Changed:
+    """The nearest version, on the way to version 0, that changed what the path reads."""
+    version: int
+
+    def __str__(self) -> str:
+        return f'changed {self.version}'
+
+
+@dataclass(frozen=True)
+class Never:
+    """No version on the way to version 0 changed what the path reads."""
+
+    def __str__(self) -> str:
+        return 'never'
+
+
+# What goes wrong.
+
+class PersistError(Exception):
+    """What every error of this module is."""
+
+
+class ProgramRefused(PersistError):
+    """The program has a fault: its kind, its line from 1, and what stands in that line."""
+
+    def __init__(self, kind: str, line: int, text: str) -> None:
+        super().__init__(f'refused {kind} at {line}' + (f': {text.strip()}' if text.strip() else ''))
+        self.kind, self.line, self.text = kind, line, text
+
+
+class Ended(PersistError):
+    """The process ended before it replied. The status is negative where a signal ended it."""
+
+    def __init__(self, status: int) -> None:
+        super().__init__(f'the program ended with status {status}, {meaning_of(status)}')
+        self.status = status
+
+
+class NoAnswer(PersistError):
+    """A question about the history was not answered: the words that were asked, and the status of their process."""
+
+    def __init__(self, words: Sequence[str], status: int) -> None:
+        super().__init__(f'`{" ".join(words)}` ended with status {status}, {meaning_of(status)}')
+        self.words, self.status = tuple(words), status
+
+
+class UnknownReply(PersistError):
+    """A text that is no reply to what was sent."""
+
+    def __init__(self, text: str) -> None:
+        super().__init__(f'{text[:200]!r} is no reply to what was sent')
+        self.text = text
+
+
+class CutOff(PersistError):
+    """An earlier command was interrupted before its reply was read; only `restart` and `end` go on from here."""
+
+
+class WrongText(PersistError, ValueError):
+    """A command of several lines, or a program that contains a separator line."""
+
+
+class NotCarriedOut(PersistError):
+    """`must` was handed a trap or a refusal."""
+
+    def __init__(self, reply: Reply) -> None:
+        super().__init__(str(reply))
+        self.reply = reply
+
+
+def meaning_of(status: int) -> str:
+    """What a status says, in words."""
+    if status < 0:
+        return f'by signal {-status}'
+    return STATUSES.get(status, 'which is none of its own')
+
+
+def must(reply: Any) -> Any:
+    """The reply itself; traps and refusals are raised as `NotCarriedOut`."""
+    if isinstance(reply, (Trapped, Refused)):
+        raise NotCarriedOut(reply)
+    return reply
+
+
+# Texts.
+
+SEPARATOR = re.compile(r'^%%[ \t\r]*$', re.MULTILINE)
+
+
+def read_text(path: str) -> str:
+    """A file as text, byte by byte: line ends are kept, and bytes that are no characters come through unchanged."""
+    with open(path, 'rb') as file:
+        return file.read().decode('utf-8', 'surrogateescape')
+
+
+def write_text(path: str, text: str) -> None:
+    """Writes what `read_text` gives."""
+    with open(path, 'wb') as file:
+        file.write(text.encode('utf-8', 'surrogateescape'))
+
+
+def split_input(text: str) -> Tuple[str, List[str]]:
+    """The program text of an input, and the lines of its script."""
+    found = SEPARATOR.search(text)
+    if not found:
+        return text, []
+    lines = text[found.end() + 1:].split('\n')
+    return text[:found.start()], lines[:-1] if lines[-1] == '' else lines
+
+
+def words_of(line: str) -> List[str]:
+    """The words of a script line; none where the line has no reply."""
+    words = [word for word in line.replace('\t', ' ').replace('\r', ' ').split(' ') if word]
+    return [] if words and words[0].startswith('#') else words
+
+
+def text_of(reply: Optional[Reply]) -> str:
+    """A reply as the program writes it; None, of a line without one, is nothing."""
+    return '' if reply is None else ''.join(f'| {number}\n' for number in reply.printed) + f'{reply}\n'
+
+
+def number_in(text: str, pattern: str) -> int:
+    """The one number in a line of a form."""
+    found = re.fullmatch(pattern, text, re.ASCII)
+    if not found:
+        raise UnknownReply(text)
+    return int(found[1])
+
+
+# The replies that each command may have, beside a refusal.
+REPLIES: Dict[str, Tuple[Any, ...]] = {
+    'run': (Version, Trapped), 'query': (Answer, Trapped), 'open': (Opened,), 'call': (Running, Done), 'step': (Running, Done),
+    'close': (Version, Trapped), 'drop': (Dropped,), 'budget': (Budget,), 'stats': (Stats,),
+}
+# The last lines of replies, by their first word: forms, each with the reply that its numbers and words make.
+FORMS: Dict[str, List[Tuple[Pattern[str], Any]]] = {}
+for _form, _kind in (
+        (r'version (\d+)', Version), (r'ok', Answer), (r'trap ([a-z]+) at (\d+)', Trapped), (r'refused ([a-z]+)', Refused),
+        (r'run (\d+) running', Running), (r'run (\d+) done', Done), (r'run (\d+)', Opened), (r'dropped (\d+)', Dropped),
+        (r'budget (\d+)', Budget), (r'records (\d+) pointers (\d+) values (\d+) bound (\d+)', Stats)):
+    FORMS.setdefault(_form.partition(' ')[0], []).append((re.compile(_form, re.ASCII), _kind))
+
+
+def read_reply(command: str, printed: Sequence[int], last: str) -> Reply:
+    """The reply to a command with this first word, of which these numbers were printed and this is the last line."""
+    for form, kind in FORMS.get(last.partition(' ')[0], ()):
+        found = form.fullmatch(last)
+        if not found or not (kind is Refused or kind in REPLIES.get(command, ())):
+            continue
+        parts: List[Union[int, str]] = [int(part) if part.isdigit() else part for part in found.groups()]
+        made: Optional[Reply] = None
+        if kind in (Version, Answer, Trapped):
+            made = kind(*parts, printed=tuple(printed))
+        elif not printed:
+            made = kind(*parts)
+        if made is not None:
+            return made
+    raise UnknownReply(last)
+
+
+def read_versions(lines: Sequence[str]) -> Versions:
+    """The reply to `versions`."""
+    if not lines or lines[0] != '0':
+        raise UnknownReply('\n'.join(lines[:1]))
+    parents: List[Optional[int]] = [None]
+    for line in lines[1:]:
+        found = re.fullmatch(r'(\d+) from (\d+)', line, re.ASCII)
+        if not found or int(found[1]) != len(parents) or int(found[2]) >= len(parents):
+            raise UnknownReply(line)
+        parents.append(int(found[2]))
+    return Versions(tuple(parents))
+
+
+def lines_for(line: str) -> str:
+    """What is sent for a command. A list of versions has no last line of its own, so a mark is sent behind it."""
+    return f'{line}\n{MARK}\n' if words_of(line) == ['versions'] else f'{line}\n'
+
+
+def take_reply(line: str, next_line: Callable[[], str]) -> Reply:
+    """The reply to a command that was sent so, from what gives the lines that are written, one at a time."""
+    words = words_of(line)
+    if words == ['versions']:
+        return read_versions(list(iter(next_line, MARKED)))
+    printed: List[int] = []
+    last = next_line()
+    while last.startswith('| '):
+        printed.append(number_in(last, r'\| (-?\d+)'))
+        last = next_line()
+    return read_reply(words[0], printed, last)
+
+
+def read_content(word: str) -> Content:
+    """What a field holds, as a dump tells it."""
+    if word == 'null':
+        return None
+    return Pointer(int(word[1:])) if word.startswith('@') else int(word)
+
+
+def read_dump(lines: Sequence[str]) -> Union[Dump, Refused]:
+    """What `dump` writes."""
+    if lines == ['refused version']:
+        return Refused('version')
+    records: List[Record] = []
+    for line in lines:
+        found = re.fullmatch(r'(\d+) (\w+):((?: (?:-?\d+|null|@\d+))*)', line, re.ASCII)
+        if not found or int(found[1]) != len(records):
+            raise UnknownReply(line)
+        records.append(Record(len(records), found[2], tuple(map(read_content, found[3].split()))))
+    for record in records:
+        if any(isinstance(content, Pointer) and content.record >= len(records) for content in record.contents):
+            raise UnknownReply(str(record))
+    if not records:
+        raise UnknownReply('')
+    return Dump(tuple(records))
+
+
+def read_answer(lines: Sequence[str]) -> Union[Changed, Never, Refused]:
+    """What `changed` writes."""
+    line = '\n'.join(lines)
+    if line == 'never':
+        return Never()
+    if line in ('refused path', 'refused version'):
+        return Refused(line.split()[1])
+    return Changed(number_in(line, r'changed (\d+)'))
+
+
+# What a program declares.
+
+@dataclass(frozen=True)
+class Field:
+    """A field of a record type: its name, its type (`int` or a record type's name), and how many elements it has as an array."""
+    name: str
+    type: str
+    elements: Optional[int] = None
+
+
+@dataclass(frozen=True)
+class Outline:
+    """What a program declares: its roots, the fields of its record types, and the parameters of procedures and queries."""
+    roots: Tuple[Field, ...]
+    records: Dict[str, Tuple[Field, ...]]
+    procedures: Dict[str, Tuple[str, ...]]
+    queries: Dict[str, Tuple[str, ...]]
+
+    def fields(self, record: Record) -> Tuple[Field, ...]:
+        """The fields of a record of a dump. Record 0 is the root record, whatever a type is called."""
+        return self.roots if record.number == 0 else self.records.get(record.type, ())
+
+    def contents(self, record: Record) -> List[Tuple[str, Content]]:
+        """What a record of a dump holds, with the names: the numbers first, and arrays as `name(0)`, `name(1)`, .."""
+        fields = self.fields(record)
+        ordered = [it for it in fields if it.type == 'int'] + [it for it in fields if it.type != 'int']
+        names: List[str] = []
+        for field in ordered:
+            names += [field.name] if field.elements is None else [f'{field.name}({at})' for at in range(field.elements)]
+        if len(names) != len(record.contents):
+            names = [str(at) for at in range(len(record.contents))]
+        return list(zip(names, record.contents))
+
+
+def read_outline(canonical: str) -> Outline:
+    """What a program declares, from its canonical form, in which each record, root and head of a procedure is a line."""
+    roots: List[Field] = []
+    records: Dict[str, Tuple[Field, ...]] = {}
+    heads: Dict[str, Dict[str, Tuple[str, ...]]] = {'proc': {}, 'query': {}}
+    for line in canonical.split('\n'):
+        record = re.fullmatch(r'record (\w+) \d+ \{ (.*)\}', line)
+        root = re.fullmatch(r'root (\w+): (\w+);', line)
+        head = re.match(r'(proc|query) (\w+)\((.*)\)(?:: \w+)? \{', line)
+        if record:
+            fields = re.findall(r'(?:val|ptr) (\w+): (\w+)(?: \* (\d+))?;', record[2])
+            records[record[1]] = tuple(Field(name, kind, int(many) if many else None) for name, kind, many in fields)
+        elif root:
+            roots.append(Field(root[1], root[2]))
+        elif head:
+            heads[head[1]][head[2]] = tuple(head[3].split(', ')) if head[3] else ()
+    return Outline(tuple(roots), records, heads['proc'], heads['query'])
+
+
+# What was carried out.
+
+class History:
+    """What commands and their replies made: the version tree, what made each version, and the lines that make it again."""
+
+    def __init__(self) -> None:
+        # All lines that were carried out and may have changed something, in order.
+        self.lines: List[str] = []
+        self.parents: List[Optional[int]] = [None]
+        # The calls of the run that made each version, as the script has them.
+        self.calls: List[Tuple[str, ...]] = [()]
+        # The open runs by number, each with its version and its calls so far.
+        self.open_runs: Dict[int, Tuple[int, List[str]]] = {}
+
+    @property
+    def newest(self) -> int:
+        """The number of the version that was made last."""
+        return len(self.parents) - 1
+
+    def label(self, version: int, most: int = 60) -> str:
+        """What made a version, in at most so many characters."""
+        text = '; '.join(self.calls[version])
+        return text if len(text) <= most else text[:most - 2] + '..'
+
+    def note(self, line: str, reply: Optional[Reply]) -> None:
+        """Adds a line that was answered by this reply."""
+        if reply is None or isinstance(reply, (Answer, Refused, Stats, Versions)):
+            return
+        words = words_of(line)
+        if words[0] == 'query':
+            return
+        self.lines.append(line)
+        call = ' '.join(words[2:])
+        if isinstance(reply, Opened):
+            self.open_runs[reply.run] = (int(words[1]), [call] if call else [])
+        elif words[0] == 'call':
+            self.open_runs[int(words[1])][1].append(call)
+        elif words[0] in ('close', 'drop'):
+            version, calls = self.open_runs.pop(int(words[1]))
+            if isinstance(reply, Version):
+                self._publish(reply, version, calls)
+        elif isinstance(reply, Version):
+            self._publish(reply, int(words[1]), [call])
+
+    def _publish(self, reply: Version, parent: int, calls: Iterable[str]) -> None:
+        if reply.number != len(self.parents) or parent >= reply.number:
+            raise UnknownReply(str(reply))
+        self.parents.append(parent)
+        self.calls.append(tuple(calls))
+
+
+# The process.
+
+def program_path() -> str:
+    """The program to run: what PERSIST names, or else the script of the repository in which this file lies. That script proves and
+    builds the program first where it is not built yet, which may take an hour; it says so on standard error."""
+    named = os.environ.get('PERSIST')
+    return named or os.path.join(os.path.dirname(os.path.dirname(os.path.dirname(os.path.abspath(__file__)))), 'persist')
+
+
+def send(process: 'subprocess.Popen[bytes]', number: int) -> None:
+    """Sends a signal to a process and those that it started, since the program may run below a script."""
+    try:
+        os.killpg(process.pid, number)
+    except (ProcessLookupError, PermissionError):
+        process.send_signal(number)
+
+
+def wait_for(process: 'subprocess.Popen[bytes]') -> int:
+    """Waits for the end of a process, and gives its status; where it does not come the process is killed."""
+    try:
+        return process.wait(PATIENCE)
+    except subprocess.TimeoutExpired:
+        send(process, signal.SIGKILL)
+        return process.wait()
+
+
+def written_by(words: Sequence[str], given: bytes, path: str) -> Tuple[int, bytes]:
+    """The status of a process of its own, and what it writes for an input."""
+    process = subprocess.Popen([path, *words], stdin=subprocess.PIPE, stdout=subprocess.PIPE, start_new_session=True)
+    with process:
+        try:
+            written, _ = process.communicate(given)
+        except BaseException:
+            send(process, signal.SIGTERM)
+            wait_for(process)
+            raise
+    return process.returncode, written
+
+
+def answer_to(words: Sequence[str], given: str, path: str) -> str:
+    """What a process of its own writes for an input; another status than 0 is `NoAnswer`."""
+    status, written = written_by(words, given.encode('utf-8', 'surrogateescape'), path)
+    if status != 0:
+        raise NoAnswer(words, status)
+    return written.decode('latin-1')
+
+
+class Commands:
+    """One method a command, over one that sends a line of the script."""
+
+    def command(self, line: str) -> Optional[Reply]:
+        """Sends a line of the script, and returns its reply; None for a line that has none, which is not sent."""
+        raise NotImplementedError
+
+    def _command(self, *words: object) -> Reply:
+        reply = self.command(' '.join(map(str, words)))
+        assert reply is not None
+        return reply
+
+    def run(self, version: int, procedure: str, *arguments: int) -> Reply:
+        """Runs a procedure on a version: `Version`, `Trapped` or `Refused`."""
+        return self._command('run', version, procedure, *arguments)
+
+    def query(self, version: int, query: str, *arguments: int) -> Reply:
+        """Asks a version: `Answer`, `Trapped` or `Refused`."""
+        return self._command('query', version, query, *arguments)
+
+    def open(self, version: int, *call: object) -> Reply:
+        """Opens a run on a version, with a procedure and its arguments or without: `Opened` or `Refused`."""
+        return self._command('open', version, *call)
+
+    def call(self, run: int, procedure: str, *arguments: int) -> Reply:
+        """Adds a call to an open run: `Running`, `Done` or `Refused`."""
+        return self._command('call', run, procedure, *arguments)
+
+    def step(self, run: int, charges: int) -> Reply:
+        """Grants an open run so many more charges: `Running`, `Done` or `Refused`."""
+        return self._command('step', run, charges)
+
+    def close(self, run: int) -> Reply:
+        """Carries an open run to its end and publishes it: `Version`, `Trapped` or `Refused`. What sends the commands is ended by `end`."""
+        return self._command('close', run)
+
+    def drop(self, run: int) -> Reply:
+        """Gives an open run up: `Dropped` or `Refused`."""
+        return self._command('drop', run)
+
+    def budget(self, charges: int) -> Reply:
+        """Sets the charges that later runs and queries may take: `Budget` or `Refused`."""
+        return self._command('budget', charges)
+
+    def versions(self) -> Reply:
+        """The version tree: `Versions`."""
+        return self._command('versions')
+
+    def stats(self) -> Reply:
+        """What all runs made and wrote: `Stats`."""
+        return self._command('stats')
+
+
+class Session(Commands):
+    """A program that runs, with what it was given so far. Several threads may send commands; each waits for its own reply.
+
+    The process does not get the signals of a terminal. A command that is interrupted, as by Ctrl-C, leaves its reply unread:
+    the session is then cut off until `restart` has carried the history out again.
+    """
+
+    def __init__(self, program: str, path: Optional[str] = None, word: str = 'run') -> None:
+        """Starts a process on a program text, which ends with a line feed or is given one. `word` may be `line` or `replay`."""
+        if SEPARATOR.search(program):
+            raise WrongText('the program has a separator line, which split_input takes out')
+        self.program = program if program.endswith('\n') or not program else program + '\n'
+        self.path = path or program_path()
+        self.word = word
+        self.history = History()
+        self._outline: Optional[Outline] = None
+        self._lock = threading.RLock()
+        self._start()
+
+    def __enter__(self) -> 'Session':
+        return self
+
+    def __exit__(self, *_: object) -> None:
+        self.end()
+
+    @property
+    def newest(self) -> int:
+        """The number of the version that was made last."""
+        return self.history.newest
+
+    @property
+    def pid(self) -> int:
+        """The number of the process, which is also that of its group."""
+        return self._process.pid
+
+    # Beginning and end.
+
+    def _start(self) -> None:
+        self._process = subprocess.Popen(
+            [self.path, self.word], stdin=subprocess.PIPE, stdout=subprocess.PIPE, start_new_session=True)
+        # How many bytes may still be sent before the program ends with status 5.
+        self.room = INPUT_LIMIT
+        self._status: Optional[int] = None
+        # Whether a reply is still unread.
+        self._cut_off = True
+        try:
+            # An accepted program writes nothing, so the reply to a line of no form tells that it was accepted.
+            self._send(f'{self.program}%%\n{MARK}\n')
+            first = self._line()
+            if first != MARKED:
+                raise self._fault(first)
+        except BaseException:
+            self.end()
+            raise
+        self._cut_off = False
+
+    def _fault(self, first: str) -> PersistError:
+        found = re.fullmatch(r'refused ([a-z-]+) at (\d+)', first, re.ASCII)
+        if not found:
+            return UnknownReply(first)
+        line, lines = int(found[2]), self.program.split('\n')
+        return ProgramRefused(found[1], line, lines[line - 1] if 0 < line <= len(lines) else '')
+
+    def end(self) -> int:
+        """Ends the process, and gives its status. Where a reply is still unread it is told to end at once, by a signal."""
+        if self._status is None:
+            if self._cut_off:
+                send(self._process, signal.SIGTERM)
+            self._status = self._wait()
+        return self._status
+
+    def _wait(self) -> int:
+        """Closes the input and waits for the end."""
+        assert self._process.stdin and self._process.stdout
+        try:
+            self._process.stdin.close()
+        except BrokenPipeError:
+            pass
+        try:
+            return wait_for(self._process)
+        finally:
+            self._process.stdout.close()
+
+    def restart(self) -> None:
+        """Ends the process, also in the middle of a command, and carries the history out again in a new one.
+
+        What was being carried out is given up. The versions and the open runs are there again, with their numbers; the counts of
+        `stats` are those of the history.
+        """
+        with self._lock:
+            self._cut_off = True
+            self.end()
+            before = self.history
+            try:
+                self.history = History()
+                self._start()
+                for line in before.lines:
+                    self.command(line)
+            except BaseException:
+                self.history, self._cut_off = before, True
+                raise
+
+    # Lines.
+
+    def _send(self, text: str) -> None:
+        assert self._process.stdin
+        data = text.encode('utf-8', 'surrogateescape')
+        self.room -= len(data)
+        try:
+            self._process.stdin.write(data)
+            self._process.stdin.flush()
+        except BrokenPipeError:
+            # It has ended; what it wrote before can still be read.
+            pass
+
+    def _line(self) -> str:
+        assert self._process.stdout
+        line = self._process.stdout.readline()
+        if line.endswith(b'\n'):
+            return line[:-1].decode('latin-1')
+        # Nothing more comes. It is given time to end by itself, so that its own status is told.
+        self._status = self._wait()
+        raise Ended(self._status)
+
+    def command(self, line: str) -> Optional[Reply]:
+        """Sends a line of the script, and returns its reply; None for a line that has none, which is not sent."""
+        if '\n' in line:
+            raise WrongText('a command is one line')
+        return self.commands([line])[0] if words_of(line) else None
+
+    def commands(self, lines: Sequence[str]) -> List[Reply]:
+        """Sends some lines at once, each of which has a reply, and returns their replies. They are so few that a pipe holds them, 64 KiB."""
+        with self._lock:
+            if self._status is not None:
+                raise Ended(self._status)
+            if self._cut_off:
+                raise CutOff('an earlier command was interrupted')
+            self._cut_off = True
+            self._send(''.join(map(lines_for, lines)))
+            replies = []
+            for line in lines:
+                replies.append(take_reply(line, self._line))
+                self.history.note(line, replies[-1])
+            self._cut_off = False
+            return replies
+
+    # Questions that the program answers at the end of an input, so each carries the history out in a process of its own.
+
+    def input(self) -> str:
+        """The history as an input: the program, the separator line, and the lines that make the versions and open runs again."""
+        with self._lock:
+            return ''.join([self.program, '%%\n', *(f'{line}\n' for line in self.history.lines)])
+
+    def dump(self, version: int) -> Union[Dump, Refused]:
+        """The records of a version that its roots lead to."""
+        return read_dump(answer_to(['dump', str(version)], self.input(), self.path).splitlines())
+
+    def changed(self, version: int, path: str) -> Union[Changed, Never, Refused]:
+        """Which version, on the way from this one to version 0, changed what a path such as `first.next.key` reads."""
+        return read_answer(answer_to(['changed', str(version), path], self.input(), self.path).splitlines())
+
+    def canonical(self) -> str:
+        """The program in its canonical form."""
+        return answer_to(['check'], self.program, self.path)
+
+    def outline(self) -> Outline:
+        """What the program declares. It is asked for once."""
+        if self._outline is None:
+            self._outline = read_outline(self.canonical())
+        return self._outline
