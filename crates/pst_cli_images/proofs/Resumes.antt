@@ -45,7 +45,7 @@ use Rattle.pst_cli_images.specs.Packing.{IsImage, PacksWhole}
 use Rattle.pst_cli_images.proofs.Starts.{script-start}
 use Rattle.pst_cli_images.specs.Opening.{opening_in}
 use Rattle.pst_cli_images.specs.Resuming.{Resumed, AnswersBehind, resumed_in}
-use Rattle.pst_cli_images.specs.Repack.{IsPacked, HasShortText, Programs, IsFirstPart, IsContinuedInPart}
+use Rattle.pst_cli_images.specs.Repack.{IsPacked, HasShortText, Programs, IsFirstPart, IsContinuedInPart, replies_after}
 use Rattle.pst_cli_images.specs.Repack.{PackedIsAcceptedLaw, ResumedLaw, NeverRefusedLaw, GoesOnLaw}
 use Rattle.pst_cli_images.proofs.InPart.{first_part}
 use Rattle.pst_cli_images.proofs.Openings.{is_taken_up}
@@ -240,6 +240,12 @@ module _ (input image behind : List ℕ) (k : Packed input image) where
       (lines_of (drop a.len (image ++ behind))) out a.answered in
       record { programs = behind_programs; replies = subst (λ (whole : List ℕ). IsFirstPart whole out) goes_on (on_packed Stopped a.accepted there) }
 
+  -- nothing is a first part of them
+  nothing_yet : (out : List ℕ) → out ≡ [] → IsContinuedInPart input behind out
+  nothing_yet out none =
+      let whole = replies_after input behind_programs behind in
+      record { programs = behind_programs; replies = (whole, ap (λ (o : List ℕ). o ++ whole) (sym none)) }
+
 pub resumed_law : ResumedLaw
 resumed_law input image behind out w (old, new, left, (reads, a)) =
     let k = packed input image w in
@@ -251,15 +257,17 @@ goes_on_law Done input image behind out w most c = resumed_law input image behin
 goes_on_law WriteFault input image behind out w most (old, new, left, (reads, c)) =
     let k = packed input image w in
     elim c [
-      | inl (rule, fails, written, kept) ↦ absurd (never_both (image ++ behind) (parts input image k) (again input image k).program (length image) rule (accepted_now input image behind k most) fails)
+      | inl f ↦ absurd (never_both (image ++ behind) (parts input image k) (again input image k).program (length image) f.0 (accepted_now input image behind k most) f.1)
       | inr a ↦ in_part input image behind k stop.Write (resumed_in old new) out a
     ]
 goes_on_law Memory input image behind out w most (old, new, left, c) =
     let k = packed input image w in
-    let nothing : out ≡ [] → IsContinuedInPart input behind out = λ none. record { programs = behind_programs input image behind k; replies = (_, ap (λ (o : List ℕ). o ++ _) (sym none)) } in
     elim c [
-      | inl (untouched, reads) ↦ nothing untouched.0
-      | inr (reads, d) ↦ elim d [ inl untouched ↦ nothing untouched.0 | inr a ↦ in_part input image behind k stop.Memory (resumed_in old new) out a ]
+      | inl u ↦ nothing_yet input image behind k out u.0.0
+      | inr r ↦ elim r.1 [
+        | inl u ↦ nothing_yet input image behind k out u.0
+        | inr a ↦ in_part input image behind k stop.Memory (resumed_in old new) out a
+      ]
     ]
 goes_on_law ReadFault input image behind out w most (old, new, left, (untouched, reads)) = untouched.0
 goes_on_law Refused input image behind out w most c = never_refused_law input image behind out w c
