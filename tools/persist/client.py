@@ -15,6 +15,7 @@ This module is tested (tools/tests) and not proved: a reply says what the progra
 
 import os
 import re
+import shutil
 import signal
 import subprocess
 import threading
@@ -23,7 +24,7 @@ from typing import Any, Callable, Dict, Iterable, List, Optional, Pattern, Seque
 
 __all__ = [
     'Answer', 'Budget', 'Changed', 'Commands', 'Content', 'CutOff', 'Done', 'Dropped', 'Dump', 'Ended', 'Field', 'History', 'Never',
-    'NoAnswer', 'NotCarriedOut', 'Opened', 'Outline', 'PersistError', 'Pointer', 'ProgramRefused', 'Record', 'Refused', 'Reply',
+    'NoAnswer', 'NoProgram', 'NotCarriedOut', 'Opened', 'Outline', 'PersistError', 'Pointer', 'ProgramRefused', 'Record', 'Refused', 'Reply',
     'Running', 'Session', 'Stats', 'Trapped', 'UnknownReply', 'Version', 'Versions', 'WrongText', 'answer_to', 'lines_for', 'must',
     'program_path', 'read_answer', 'read_dump', 'read_outline', 'read_reply', 'read_text', 'read_versions', 'split_input',
     'take_reply', 'text_of', 'words_of', 'write_text', 'written_by',
@@ -220,6 +221,10 @@ class Never:
 
 class PersistError(Exception):
     """What every error of this module is."""
+
+
+class NoProgram(PersistError):
+    """The program to run is not found."""
 
 
 class ProgramRefused(PersistError):
@@ -533,10 +538,13 @@ class History:
 # The process.
 
 def program_path() -> str:
-    """The program to run: what PERSIST names, or else the script of the repository in which this file lies. That script proves and
-    builds the program first where it is not built yet, which may take an hour; it says so on standard error."""
-    named = os.environ.get('PERSIST')
-    return named or os.path.join(os.path.dirname(os.path.dirname(os.path.dirname(os.path.abspath(__file__)))), 'persist')
+    """The program to run: what PERSIST names, or else the script of the repository in which this file lies, or else the `persist` of the
+    PATH. That script proves and builds the program first where it is not built yet, which may take an hour; it says so on standard error."""
+    beside = os.path.join(os.path.dirname(os.path.dirname(os.path.dirname(os.path.abspath(__file__)))), 'persist')
+    found = os.environ.get('PERSIST') or (beside if os.path.isfile(beside) else shutil.which('persist'))
+    if not found:
+        raise NoProgram('there is no program `persist`: name its file by PERSIST, or put it into a folder of the PATH')
+    return found
 
 
 def send(process: 'subprocess.Popen[bytes]', number: int) -> None:
