@@ -25,7 +25,7 @@ from typing import Any, Callable, Dict, Iterable, List, Optional, Pattern, Seque
 __all__ = [
     'Answer', 'Budget', 'Changed', 'Commands', 'Content', 'CutOff', 'Done', 'Dropped', 'Dump', 'Ended', 'Field', 'History', 'Never',
     'NoAnswer', 'NoProgram', 'NotCarriedOut', 'Opened', 'Outline', 'PersistError', 'Pointer', 'ProgramRefused', 'Record', 'Refused', 'Reply',
-    'Running', 'Session', 'Stats', 'Trapped', 'UnknownReply', 'Version', 'Versions', 'WrongText', 'answer_to', 'lines_for', 'must',
+    'Running', 'Session', 'Stats', 'Trapped', 'UnknownReply', 'Version', 'Versions', 'WrongText', 'answer_to', 'encoded', 'lines_for', 'must',
     'program_path', 'read_answer', 'read_dump', 'read_outline', 'read_reply', 'read_text', 'read_versions', 'split_input',
     'take_reply', 'text_of', 'words_of', 'write_text', 'written_by',
 ]
@@ -304,6 +304,14 @@ def write_text(path: str, text: str) -> None:
     """Writes what `read_text` gives."""
     with open(path, 'wb') as file:
         file.write(text.encode('utf-8', 'surrogateescape'))
+
+
+def encoded(text: str) -> bytes:
+    """A text as bytes; what came from bytes that are no characters becomes them again. Other halves of a character are `WrongText`."""
+    try:
+        return text.encode('utf-8', 'surrogateescape')
+    except UnicodeEncodeError as fault:
+        raise WrongText(f'{text[fault.start:fault.start + 1]!r} is half of a character, and no text') from None
 
 
 def split_input(text: str) -> Tuple[str, List[str]]:
@@ -685,7 +693,7 @@ class Session(Commands):
         self._cut_off = True
         try:
             # An accepted program writes nothing, so the reply to a line of no form tells that it was accepted.
-            self._send(f'{self.program}%%\n{MARK}\n')
+            self._send(encoded(f'{self.program}%%\n{MARK}\n'))
             first = self._line()
             if first != MARKED:
                 raise self._fault(first)
@@ -742,9 +750,8 @@ class Session(Commands):
 
     # Lines.
 
-    def _send(self, text: str) -> None:
+    def _send(self, data: bytes) -> None:
         assert self._process.stdin
-        data = text.encode('utf-8', 'surrogateescape')
         self.room -= len(data)
         try:
             self._process.stdin.write(data)
@@ -775,8 +782,9 @@ class Session(Commands):
                 raise Ended(self._status)
             if self._cut_off:
                 raise CutOff('an earlier command was interrupted')
+            data = encoded(''.join(map(lines_for, lines)))
             self._cut_off = True
-            self._send(''.join(map(lines_for, lines)))
+            self._send(data)
             replies = []
             for line in lines:
                 replies.append(take_reply(line, self._line))

@@ -556,6 +556,11 @@ class Script(Folder):
         self.assertEqual(self.ask(self.folder + '1')[::2], (1, f'persist_journal: {self.folder}1 holds no store\n'))
         self.assertEqual(self.ask('--help')[0], 2)
 
+    def test_a_long_comment_is_no_command(self):
+        long = '#' * 5000 + '\n' + ' ' * 5000 + '\n'
+        example = os.path.join(TOP, 'examples', 'monday.persist')
+        self.assertEqual(self.ask(self.folder, example, given=long + 'run 0 sell 12\n'), (0, 'version 1\n', ''))
+
 
 class Example(unittest.TestCase):
     def test_the_example_prints_its_replies(self):

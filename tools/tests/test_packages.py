@@ -20,7 +20,7 @@ SECONDS = 280
 def python_that_builds():
     """A python3 that builds packages without a registry: this one, or the system's."""
     for path in (sys.executable, '/usr/bin/python3'):
-        asked = [path, '-c', 'import pip, venv, setuptools; from setuptools import __version__; import wheel']
+        asked = [path, '-c', 'import setuptools, wheel, pip, venv']
         if os.path.exists(path) and not subprocess.run(asked, stderr=subprocess.DEVNULL).returncode:
             return path
     return None
