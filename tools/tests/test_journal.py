@@ -11,7 +11,7 @@ from unittest import mock
 
 from persist import journal as the_module
 from persist.client import (
-    Answer, Budget, Dropped, Opened, ProgramRefused, Refused, Session, Trapped, Version, Versions, WrongText, read_text, split_input, text_of)
+    Answer, Budget, Dropped, Opened, ProgramRefused, Refused, Session, Trapped, Version, Versions, WrongText, read_text, text_of)
 from persist.journal import Broken, CheckpointFailed, Damaged, Disk, Full, Journal, JournalError, Locked, NoStore, RunsAreOpen
 from tests.journal_kills import kill
 from tests.samples import LIST, TOOLS, TOP, made_up_script
