@@ -8,4 +8,7 @@ Tested (tools/tests), not proved.
 
 from .client import PersistError, Session, must, read_text, split_input
 
-__all__ = ['PersistError', 'Session', 'must', 'read_text', 'split_input']
+# The version of the repository: the day of its landing. CHANGELOG.md says what came with it.
+__version__ = '2026.12.2'
+
+__all__ = ['PersistError', 'Session', '__version__', 'must', 'read_text', 'split_input']

@@ -15,6 +15,7 @@ This module is tested (tools/tests) and not proved: a reply says what the progra
 
 import os
 import re
+import shutil
 import signal
 import subprocess
 import threading
@@ -23,8 +24,8 @@ from typing import Any, Callable, Dict, Iterable, List, Optional, Pattern, Seque
 
 __all__ = [
     'Answer', 'Budget', 'Changed', 'Commands', 'Content', 'CutOff', 'Done', 'Dropped', 'Dump', 'Ended', 'Field', 'History', 'Never',
-    'NoAnswer', 'NotCarriedOut', 'Opened', 'Outline', 'PersistError', 'Pointer', 'ProgramRefused', 'Record', 'Refused', 'Reply',
-    'Running', 'Session', 'Stats', 'Trapped', 'UnknownReply', 'Version', 'Versions', 'WrongText', 'answer_to', 'lines_for', 'must',
+    'NoAnswer', 'NoProgram', 'NotCarriedOut', 'Opened', 'Outline', 'PersistError', 'Pointer', 'ProgramRefused', 'Record', 'Refused', 'Reply',
+    'Running', 'Session', 'Stats', 'Trapped', 'UnknownReply', 'Version', 'Versions', 'WrongText', 'answer_to', 'encoded', 'lines_for', 'must',
     'program_path', 'read_answer', 'read_dump', 'read_outline', 'read_reply', 'read_text', 'read_versions', 'split_input',
     'take_reply', 'text_of', 'words_of', 'write_text', 'written_by',
 ]
@@ -222,6 +223,10 @@ class PersistError(Exception):
     """What every error of this module is."""
 
 
+class NoProgram(PersistError):
+    """The program to run is not found."""
+
+
 class ProgramRefused(PersistError):
     """The program has a fault: its kind, its line from 1, and what stands in that line."""
 
@@ -299,6 +304,14 @@ def write_text(path: str, text: str) -> None:
     """Writes what `read_text` gives."""
     with open(path, 'wb') as file:
         file.write(text.encode('utf-8', 'surrogateescape'))
+
+
+def encoded(text: str) -> bytes:
+    """A text as bytes; what came from bytes that are no characters becomes them again. Other halves of a character are `WrongText`."""
+    try:
+        return text.encode('utf-8', 'surrogateescape')
+    except UnicodeEncodeError as fault:
+        raise WrongText(f'{text[fault.start:fault.start + 1]!r} is half of a character, and no text') from None
 
 
 def split_input(text: str) -> Tuple[str, List[str]]:
@@ -533,10 +546,13 @@ class History:
 # The process.
 
 def program_path() -> str:
-    """The program to run: what PERSIST names, or else the script of the repository in which this file lies. That script proves and
-    builds the program first where it is not built yet, which may take an hour; it says so on standard error."""
-    named = os.environ.get('PERSIST')
-    return named or os.path.join(os.path.dirname(os.path.dirname(os.path.dirname(os.path.abspath(__file__)))), 'persist')
+    """The program to run: what PERSIST names, or else the script of the repository in which this file lies, or else the `persist` of the
+    PATH. That script proves and builds the program first where it is not built yet, which may take an hour; it says so on standard error."""
+    beside = os.path.join(os.path.dirname(os.path.dirname(os.path.dirname(os.path.abspath(__file__)))), 'persist')
+    found = os.environ.get('PERSIST') or (beside if os.path.isfile(beside) else shutil.which('persist'))
+    if not found:
+        raise NoProgram('there is no program `persist`: name its file by PERSIST, or put it into a folder of the PATH')
+    return found
 
 
 def send(process: 'subprocess.Popen[bytes]', number: int) -> None:
@@ -677,7 +693,7 @@ class Session(Commands):
         self._cut_off = True
         try:
             # An accepted program writes nothing, so the reply to a line of no form tells that it was accepted.
-            self._send(f'{self.program}%%\n{MARK}\n')
+            self._send(encoded(f'{self.program}%%\n{MARK}\n'))
             first = self._line()
             if first != MARKED:
                 raise self._fault(first)
@@ -734,9 +750,8 @@ class Session(Commands):
 
     # Lines.
 
-    def _send(self, text: str) -> None:
+    def _send(self, data: bytes) -> None:
         assert self._process.stdin
-        data = text.encode('utf-8', 'surrogateescape')
         self.room -= len(data)
         try:
             self._process.stdin.write(data)
@@ -767,8 +782,9 @@ class Session(Commands):
                 raise Ended(self._status)
             if self._cut_off:
                 raise CutOff('an earlier command was interrupted')
+            data = encoded(''.join(map(lines_for, lines)))
             self._cut_off = True
-            self._send(''.join(map(lines_for, lines)))
+            self._send(data)
             replies = []
             for line in lines:
                 replies.append(take_reply(line, self._line))

@@ -33,7 +33,7 @@ from typing import Any, Callable, Iterator, List, NamedTuple, Optional, Sequence
 
 from .client import (
     INPUT_LIMIT, MARK, MARKED, Commands, Ended, Opened, PersistError, Refused, Reply, Session, UnknownReply, WrongText, answer_to,
-    lines_for, program_path, read_text, split_input, take_reply, text_of, words_of, written_by)
+    encoded, lines_for, program_path, read_text, split_input, take_reply, text_of, words_of, written_by)
 
 __all__ = ['Broken', 'CheckpointFailed', 'Damaged', 'Disk', 'Full', 'Journal', 'JournalError', 'Locked', 'NoStore', 'RunsAreOpen']
 
@@ -143,11 +143,6 @@ def read_bytes(path: str) -> bytes:
     """The bytes of a file."""
     with open(path, 'rb') as file:
         return file.read()
-
-
-def encoded(text: str) -> bytes:
-    """A text as bytes; what came from bytes that are no characters becomes them again."""
-    return text.encode('utf-8', 'surrogateescape')
 
 
 # The log.
@@ -507,7 +502,7 @@ class Journal(Commands):
 
     def _asked(self, line: str) -> Optional[Asked]:
         data = encoded(line)
-        if b'\n' in data or len(data) > LONGEST:
+        if b'\n' in data or (words_of(line) and len(data) > LONGEST):
             raise WrongText(f'a command is one line of at most {LONGEST:,} bytes')
         return Asked(line) if words_of(line) else None
 

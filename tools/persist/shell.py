@@ -16,13 +16,17 @@ import glob
 import os
 import re
 import shlex
+import shutil
+import subprocess
 import sys
+import tempfile
 from typing import Callable, Dict, List, Optional, Sequence, TextIO, Tuple
 
 from .client import (
-    Changed, Ended, Field, Outline, PersistError, ProgramRefused, Refused, Reply, Session, Trapped, Version, read_text, split_input,
-    text_of, words_of, write_text)
+    Changed, Ended, Field, NoAnswer, Outline, PersistError, ProgramRefused, Refused, Reply, Session, Trapped, Version, read_text,
+    split_input, text_of, words_of, write_text, written_by)
 from .draw import held_text, let_go, records_dot, records_svg, short, tree_dot, tree_svg, tree_text
+from .history import Notes, Past, at_version, difference, difference_text, is_name, log_text, names_text, show_text
 
 # What traps mean, as docs/NOTATION.md has them.
 TRAPS = {
@@ -69,12 +73,18 @@ WORDS: Dict[str, Tuple[str, str]] = {
     'at': ('V', 'makes version V the current one'),
     'up': ('', 'goes to the version that the current one was made from'),
     'tree': ('', 'draws the version tree'),
+    'log': ('[V]', 'lists what made version V, its parent, and so on to version 0'),
+    'show': ('[V]', 'tells what made version V, and what it has beside its parent'),
+    'diff': ('A B', 'tells what version B has beside version A, by names of records that stay the same'),
+    'name': ('NAME [V]', 'calls version V so; wherever a version is wanted its name may stand'),
+    'unname': ('NAME', 'takes a name away'),
+    'names': ('', 'lists the names of versions'),
     'dump': ('[V]', 'tells the records of a version'),
     'changed': ('[V] PATH', 'tells which version, from V on the way to 0, changed what PATH reads'),
     'list': ('[N]', 'shows the program, or the lines round line N'),
     'load': ('[FILE]', 'begins anew with an input; without a name, with the last one'),
     'do': ('FILE', 'carries out the script lines of a file'),
-    'save': ('FILE', 'writes the program and the history as an input'),
+    'save': ('FILE', 'writes the program, the history and the names as an input'),
     'draw': ('FILE [V]', 'draws the tree, or the records of version V, as .svg, .dot or .txt by the name of the file'),
     'restart': ('', 'starts the program again, and carries the history out again'),
     'help': ('', 'lists these words'),
@@ -87,6 +97,12 @@ HELP = '\n'.join(
 
 class Wrong(Exception):
     """What was typed can't be done, and why."""
+
+
+# A comment of a script that gives a version a name, as `save` writes it.
+NAMED = re.compile(r'#[ \t]*name[ \t]+(\S+)[ \t]+([0-9]{1,9})[ \t\r]*')
+# How many replies of a file that is loaded are shown; from more of them only what fails, and how many there were.
+SHOWN = 100
 
 
 class GivenUp(Exception):
@@ -110,16 +126,59 @@ class Shell:
         self.out = out or sys.stdout
         self.file: Optional[str] = None
         self.current = 0
+        # Whether replies are shown; those of a long file are not.
+        self.is_quiet = False
         self.session, self.outline = begun('')
+        self.folder = tempfile.TemporaryDirectory(prefix='persist-')
+        self.notes = self.no_notes()
+        self.past: Optional[Past] = None
 
     def end(self) -> None:
         """Ends the session."""
         self.session.end()
+        self.notes.end()
+        self.folder.cleanup()
+
+    def no_notes(self) -> Notes:
+        """Notes of which none is there yet. They are kept as long as the session, and names also by `save`."""
+        for path in glob.glob(os.path.join(glob.escape(self.folder.name), '*')):
+            os.remove(path)
+        return Notes(os.path.join(self.folder.name, 'notes'))
 
     def say(self, *lines: str) -> None:
         """Shows lines."""
         for line in lines:
             print(line, file=self.out, flush=True)
+
+    @property
+    def at_terminal(self) -> bool:
+        """Whether what is said is shown at a terminal."""
+        return self.out.isatty()
+
+    @property
+    def has_colours(self) -> bool:
+        """Whether it may have colours."""
+        return self.at_terminal and 'NO_COLOR' not in os.environ and os.environ.get('TERM', 'dumb') != 'dumb'
+
+    def page(self, lines: Sequence[str]) -> None:
+        """Shows lines; where a terminal has no room for them, by the pager that PAGER names, or `less`."""
+        pager = os.environ.get('PAGER') or ('less' if shutil.which('less') else '')
+        if not self.at_terminal or not pager or len(lines) < shutil.get_terminal_size().lines:
+            self.say(*lines)
+            return
+        text = ''.join(f'{line}\n' for line in lines).encode('utf-8', 'surrogateescape')
+        try:
+            shown = subprocess.Popen(shlex.split(pager), stdin=subprocess.PIPE, env={'LESS': 'FRX', **os.environ})
+        except (OSError, ValueError) as fault:
+            self.say(f'the pager {pager} can not be started: {fault}', *lines)
+            return
+        while True:
+            try:
+                shown.communicate(text)
+                return
+            except KeyboardInterrupt:
+                # It is the pager's: it goes on, or ends.
+                continue
 
     def prompt(self) -> str:
         """What stands in front of the line that is typed."""
@@ -144,7 +203,8 @@ class Shell:
             pass
         except KeyboardInterrupt:
             self.say('given up')
-        except (Wrong, PersistError, OSError) as fault:
+        except (Wrong, PersistError, OSError, ValueError) as fault:
+            # A ValueError comes of a path that is none, as one with a NUL.
             self.say(str(fault))
 
     # Lines of the script.
@@ -163,7 +223,8 @@ class Shell:
         except Ended as fault:
             self.again(str(fault))
             raise GivenUp from None
-        self.say(text_of(reply)[:-1])
+        if not self.is_quiet or isinstance(reply, (Trapped, Refused)):
+            self.say(text_of(reply)[:-1])
         if isinstance(reply, Version):
             self.current = reply.number
         if isinstance(reply, (Trapped, Refused)):
@@ -223,9 +284,10 @@ class Shell:
         """The version that a word names; the current one without a word or by a dot."""
         if word is None or word == '.':
             return self.current
-        if not re.fullmatch('[0-9]+', word) or int(word) > self.session.newest:
+        found = at_version(word, self.notes.names, self.session.newest)
+        if found is None:
             raise Wrong(f'there is no version {word}')
-        return int(word)
+        return found
 
     def do_help(self) -> None:
         """Lists the words."""
@@ -245,6 +307,59 @@ class Shell:
     def do_tree(self) -> None:
         """Draws the version tree."""
         self.say(*tree_text(self.session.history.parents, self.session.history.label, self.current))
+
+    def told(self) -> Notes:
+        """The notes, with one of each version."""
+        self.notes.complete(self.session.history)
+        return self.notes
+
+    def image(self, version: int) -> Past:
+        """What the versions hold, up to this one at least. All are read at once from an image, which is made when it is asked for."""
+        if self.past is None or len(self.past) <= version:
+            given = self.session.input().encode('utf-8', 'surrogateescape')
+            status, image = written_by(['pack'], given, self.session.path)
+            if status != 0:
+                raise NoAnswer(['pack'], status)
+            self.past = Past(image, self.outline)
+        return self.past
+
+    def do_log(self, version: Optional[str] = None) -> None:
+        """Lists what made a version and those before it."""
+        at = self.version(version)
+        self.page(log_text(self.told(), at, at + 1, self.has_colours))
+
+    def do_show(self, version: Optional[str] = None) -> None:
+        """Tells what made a version, and what it has beside its parent."""
+        at = self.version(version)
+        parent = self.session.history.parents[at]
+        found = None
+        if parent is not None:
+            past = self.image(at)
+            found = difference(past.records(parent), past.records(at))
+        self.page(show_text(self.told(), at, found, self.has_colours))
+
+    def do_diff(self, old: str, new: str) -> None:
+        """Tells what a version has beside another one."""
+        versions = self.version(old), self.version(new)
+        past = self.image(max(versions))
+        self.page(difference_text(difference(*map(past.records, versions)), self.has_colours))
+
+    def do_name(self, name: str, version: Optional[str] = None) -> None:
+        """Gives a version a name."""
+        at = self.version(version)
+        if not is_name(name):
+            raise Wrong(f'{name} is no name: letters, digits and _ - . with a letter or _ first, at most 64')
+        self.notes.name(name, at)
+
+    def do_unname(self, name: str) -> None:
+        """Takes a name away."""
+        if name not in self.notes.names:
+            raise Wrong(f'no version is called {name}')
+        self.notes.name(name, None)
+
+    def do_names(self) -> None:
+        """Lists the names."""
+        self.page(names_text(self.notes.names))
 
     def do_dump(self, version: Optional[str] = None) -> None:
         """Tells the records of a version, with the names of their fields."""
@@ -286,6 +401,8 @@ class Shell:
         path = path or self.file
         if not path:
             raise Wrong('nothing was loaded yet: \\load FILE')
+        if os.path.isdir(path):
+            raise Wrong(f'{path} is a folder; a store in it is opened by persist-journal, or looked at by persist-server')
         program, script = split_input(read_text(path))
         try:
             session, outline = begun(program)
@@ -295,20 +412,36 @@ class Shell:
             return
         self.session.end()
         self.session, self.outline, self.file, self.current = session, outline, path, 0
+        self.notes.end()
+        self.notes, self.past = self.no_notes(), None
         named = [f'{what} {", ".join(names) or "none"}' for what, names in (
             ('procedures', self.outline.procedures), ('queries', self.outline.queries))]
         self.say(f'{path}: {"; ".join(named)}')
-        for number, line in enumerate(script, program.count('\n') + 2):
-            self.command(line, f'{path}:{number}')
+        self.lines_of(path, script, program.count('\n') + 2)
 
     def do_do(self, path: str) -> None:
         """Carries out the script lines of a file."""
-        for number, line in enumerate(read_text(path).split('\n'), 1):
-            self.command(line, f'{path}:{number}')
+        self.lines_of(path, read_text(path).split('\n'), 1)
+
+    def lines_of(self, path: str, lines: Sequence[str], first: int) -> None:
+        """Carries out the lines of a file, the first of which has this number. Where they are many, only what fails is shown."""
+        many = sum(bool(words_of(line)) for line in lines)
+        self.is_quiet = many > SHOWN
+        try:
+            for number, line in enumerate(lines, first):
+                self.command(line, f'{path}:{number}')
+                named = NAMED.fullmatch(line)
+                if named and is_name(named[1]) and int(named[2]) <= self.session.newest:
+                    self.notes.name(named[1], int(named[2]))
+        finally:
+            was_quiet, self.is_quiet = self.is_quiet, False
+        if was_quiet:
+            self.say(f'{many:,} lines were carried out; the newest version is {self.session.newest}')
 
     def do_save(self, path: str) -> None:
-        """Writes the program and the history as an input."""
-        write_text(path, self.session.input())
+        """Writes the program, the history and the names as an input."""
+        names = ''.join(f'# name {name} {version}\n' for name, version in sorted(self.notes.names.items()))
+        write_text(path, self.session.input() + names)
 
     def do_draw(self, path: str, version: Optional[str] = None) -> None:
         """Draws the tree, or the records of a version."""
@@ -347,6 +480,8 @@ class Shell:
             return [f'{it}/' if os.path.isdir(it) else f'{it} ' for it in sorted(glob.glob(glob.escape(begun) + '*'))]
         elif before[0] == '\\changed':
             return self.paths(begun)
+        elif before[0] in ('\\at', '\\log', '\\show', '\\diff', '\\dump', '\\unname'):
+            words = sorted(self.notes.names)
         return [f'{it} ' for it in words if it.startswith(begun)]
 
     def paths(self, begun: str) -> List[str]:

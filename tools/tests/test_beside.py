@@ -1,4 +1,4 @@
-"""What stands beside the tools: the syntax for vim, the host in Rust, the examples of the pages, and that the sources are python3.8."""
+"""What stands beside the tools: the syntax for vim, the examples of the pages, and that the sources are python3.8."""
 import ast
 import contextlib
 import glob
@@ -10,7 +10,7 @@ import subprocess
 import tempfile
 import unittest
 
-from persist.client import program_path, read_text
+from persist.client import read_text
 from persist.shell import Shell
 from tests.samples import TOOLS, TOP
 
@@ -69,23 +69,6 @@ class Vim(unittest.TestCase):
         self.assertEqual([(word, group) for (word, _, _), group in zip(COLOURS, found[2:])], [(word, group) for word, _, group in COLOURS])
 
 
-class Host(unittest.TestCase):
-    @unittest.skipUnless(shutil.which('rustc'), 'there is no rustc')
-    def test_the_host_in_rust_gives_the_replies(self):
-        with tempfile.TemporaryDirectory() as folder:
-            host = os.path.join(folder, 'host')
-            subprocess.run(['rustc', '--edition', '2021', '-D', 'warnings', '-o', host, os.path.join(TOOLS, 'host.rs')], check=True)
-            for path in sorted(glob.glob(os.path.join(TOP, 'examples', '*.persist'))):
-                written = subprocess.run([host, program_path(), path], stdout=subprocess.PIPE, check=True).stdout.decode()
-                self.assertEqual(written, read_text(path[:-len('persist')] + 'replies') + 'status Some(0)\n', path)
-            bad = os.path.join(folder, 'bad.persist')
-            with open(bad, 'w') as file:
-                file.write('root a: b;\n' + '# more\n' * 100_000 + '%%\n')
-            done = subprocess.run([host, program_path(), bad], stdout=subprocess.PIPE, stderr=subprocess.PIPE)
-            self.assertEqual((done.returncode, done.stdout), (1, b''))
-            self.assertIn(b'refused unknown at 1', done.stderr)
-
-
 class Pages(unittest.TestCase):
     """The examples of the pages: a block marked `python` or `typed` has a block marked `shown` behind it."""
 
@@ -107,7 +90,7 @@ class Pages(unittest.TestCase):
                 shell.end()
                 self.assertEqual(out.getvalue(), shown)
                 told += 1
-        self.assertEqual(told, 1)
+        self.assertEqual(told, 2)
 
     def test_examples_in_python_print_so(self):
         here = os.getcwd()
@@ -129,11 +112,12 @@ class Pages(unittest.TestCase):
         for page in ('tools/README.md', 'docs/NOTATION.md', 'README.md'):
             for kind, given in self.blocks(page):
                 if kind == 'rust':
-                    self.assertIn(given, read_text(os.path.join(TOOLS, 'host.rs')), page)
+                    self.assertIn(given, read_text(os.path.join(TOOLS, 'rust', 'examples', 'host.rs')), page)
 
-    def test_links_of_the_page_of_the_tools(self):
-        for target in re.findall(r'\]\(([^)\s]+)\)', read_text(os.path.join(TOOLS, 'README.md'))):
-            self.assertTrue(os.path.exists(os.path.join(TOOLS, target)), target)
+    def test_links_of_the_pages_of_the_tools(self):
+        for page in ('README.md', 'rust/README.md', 'node/README.md'):
+            for target in re.findall(r'\]\(([^)\s]+)\)', read_text(os.path.join(TOOLS, page))):
+                self.assertTrue(os.path.exists(os.path.join(TOOLS, os.path.dirname(page), target)), target)
 
 
 class Sources(unittest.TestCase):
@@ -142,7 +126,7 @@ class Sources(unittest.TestCase):
         self.assertGreater(len(paths), 12)
         for path in paths:
             ast.parse(read_text(path), path, feature_version=(3, 8))
-        for path in glob.glob(os.path.join(TOOLS, '*.*')) + glob.glob(os.path.join(TOOLS, 'persist', '*.*')):
+        for path in glob.glob(os.path.join(TOOLS, '*.*')) + glob.glob(os.path.join(TOOLS, 'persist', '*.[!t]*')):
             head = ' '.join(read_text(path)[:1500].split())
             self.assertRegex(head, r'[Tt]ested \((tools/tests|`bash \.ci/tools`)\)(,| and) not proved', path)
 

@@ -93,6 +93,16 @@ class Replies(unittest.TestCase):
             self.assertRaises(UnknownReply, read_answer, lines)
 
 
+class Halves(unittest.TestCase):
+    def test_half_of_a_character_is_not_sent(self):
+        with Session(LIST) as session:
+            self.assertRaises(WrongText, session.command, 'run 0 add \ud800')
+            self.assertRaises(WrongText, session.commands, ['stats', 'jump \udfff\ud800'])
+            self.assertEqual(session.command('jump \udc80'), Refused('line'))
+            self.assertEqual(session.run(0, 'add', 1), Version(1))
+        self.assertRaises(WrongText, Session, 'root \ud800: int;')
+
+
 class Programs(unittest.TestCase):
     def test_a_refused_program(self):
         with self.assertRaises(ProgramRefused) as caught:

@@ -11,7 +11,7 @@ from unittest import mock
 
 from persist import journal as the_module
 from persist.client import (
-    Answer, Budget, Dropped, Opened, ProgramRefused, Refused, Session, Trapped, Version, Versions, WrongText, read_text, split_input, text_of)
+    Answer, Budget, Dropped, Opened, ProgramRefused, Refused, Session, Trapped, Version, Versions, WrongText, read_text, text_of)
 from persist.journal import Broken, CheckpointFailed, Damaged, Disk, Full, Journal, JournalError, Locked, NoStore, RunsAreOpen
 from tests.journal_kills import kill
 from tests.samples import LIST, TOOLS, TOP, made_up_script
@@ -555,6 +555,11 @@ class Script(Folder):
             0, '0\n1 from 0\nversion 2\n', 'persist_journal: 3 bytes of commands that were never answered are cut off\n'))
         self.assertEqual(self.ask(self.folder + '1')[::2], (1, f'persist_journal: {self.folder}1 holds no store\n'))
         self.assertEqual(self.ask('--help')[0], 2)
+
+    def test_a_long_comment_is_no_command(self):
+        long = '#' * 5000 + '\n' + ' ' * 5000 + '\n'
+        example = os.path.join(TOP, 'examples', 'monday.persist')
+        self.assertEqual(self.ask(self.folder, example, given=long + 'run 0 sell 12\n'), (0, 'version 1\n', ''))
 
 
 class Example(unittest.TestCase):

@@ -7,10 +7,11 @@ import subprocess
 import sys
 import tempfile
 import unittest
+import unittest.mock
 import xml.dom.minidom
 
 from persist.client import Ended, read_text
-from persist.shell import COMMANDS, FAULTS, HELP, REFUSALS, TRAPS, WORDS, Shell
+from persist.shell import COMMANDS, FAULTS, HELP, REFUSALS, SHOWN, TRAPS, WORDS, Shell
 from tests.samples import LIST, SCRIPT, TOOLS, TOP, TREE
 
 
@@ -139,11 +140,84 @@ class Words(Typed):
                          'the program was ended; the program was started again, and 8 lines of the history were carried out\n| 6\nok\n')
 
 
+class Past(Typed):
+    """What is told of versions: log, show, diff, and names."""
+
+    def test_log_and_show(self):
+        self.assertEqual(self.ask(r'\name monday 2', r'\log 3'), 'version 3  add 4\nversion 2  (monday)  add 2\nversion 1  add 1\nversion 0\n')
+        self.assertEqual(self.ask(r'\log 0', r'\show 0'), 'version 0\nversion 0\n')
+        self.assertEqual(self.ask(r'\at 1', r'\log'), 'version 1  add 1\nversion 0\n')
+        self.assertEqual(self.ask(r'\show 3'), 'version 3  add 4\nbeside version 2\n~ root  first: Node 2.0 -> Node 3.0\n'
+                         '+ Node 3.0  key: 4, next: Node 2.0\n')
+
+    def test_differences(self):
+        self.assertEqual(self.ask(r'\diff 3 3'), 'nothing\n')
+        self.assertEqual(self.ask(r'\diff 3 1'), '~ root  first: Node 3.0 -> Node 1.0\n- Node 3.0  key: 4, next: Node 2.0\n'
+                         '- Node 2.0  key: 2, next: Node 1.0\n')
+        self.assertEqual(self.ask('add 9', r'\diff 5 .'), 'version 6\n~ root  first: Node 5.0 -> Node 6.0\n+ Node 6.0  key: 9, next: Node 5.0\n')
+        self.assertEqual(self.ask(r'\diff 1', r'\diff 1 9'), 'it is written \\diff A B\nthere is no version 9\n')
+
+    def test_names_are_kept_with_the_file(self):
+        self.assertEqual(self.ask(r'\names', r'\name monday 2', r'\name last', r'\at monday', r'\names'), 'last    5\nmonday  2\n')
+        self.assertEqual(self.shell.prompt(), '2 of 5> ')
+        self.assertEqual(self.shell.fitting(['\\at'], 'm'), ['monday '])
+        self.assertEqual(self.ask(r'\name 7up', r'\name a..b 9', r'\unname sunday', r'\at sunday'),
+                         '7up is no name: letters, digits and _ - . with a letter or _ first, at most 64\nthere is no version 9\n'
+                         'no version is called sunday\nthere is no version sunday\n')
+        self.ask(r'\unname last', rf'\save {self.folder}/kept', r'\name other 1', rf'\load {self.folder}/kept')
+        self.assertEqual(self.ask(r'\names', r'\dump monday'), 'monday  2\n0 root  first: @1\n1 Node  key: 2, next: @2\n2 Node  key: 1, next: null\n')
+
+    def test_of_a_long_file_only_what_fails_is_shown(self):
+        lines = [f'run {version} add 1' for version in range(SHOWN)] + ['jump']
+        path = self.file('long.persist', LIST + '%%\n' + '\n'.join(lines) + '\n')
+        said = self.ask(rf'\load {path}')
+        number = LIST.count('\n') + len(lines) + 1
+        self.assertEqual(said.split('\n')[1:], ['refused line', f'  {path}:{number}: jump', '  the words have none of the forms of a script line',
+                                                f'{len(lines)} lines were carried out; the newest version is {SHOWN}', ''])
+        self.assertEqual(self.ask('add 1'), f'version {SHOWN + 1}\n')
+
+    def test_a_pager_and_colours_at_a_terminal(self):
+        with tempfile.TemporaryDirectory() as folder:
+            shown = os.path.join(folder, 'shown')
+            self.shell.out = self.out = AtTerminal()
+            with unittest.mock.patch.dict(os.environ, {'PAGER': f'tee {shown}', 'LINES': '3', 'COLUMNS': '80', 'TERM': 'xterm'}), \
+                    unittest.mock.patch('subprocess.Popen', quietly(subprocess.Popen)):
+                os.environ.pop('NO_COLOR', None)
+                self.assertEqual(self.ask(r'\log 3'), '')
+                self.assertEqual(read_text(shown).split('\n')[0], '\033[33mversion 3\033[0m  add 4')
+                os.environ['NO_COLOR'] = '1'
+                self.assertEqual(self.ask(r'\log 1'), 'version 1  add 1\nversion 0\n')
+                os.environ['PAGER'] = '/no/such/pager'
+                self.assertTrue(self.ask(r'\log 3').startswith('the pager /no/such/pager can not be started'))
+
+
+class AtTerminal(io.StringIO):
+    """What is said as if at a terminal."""
+
+    def isatty(self):
+        return True
+
+
+def quietly(start):
+    """Starts processes of which the pager's output is thrown away."""
+    def started(words, **given):
+        return start(words, **({'stdout': subprocess.DEVNULL, **given} if words[0] == 'tee' else given))
+    return started
+
+
+class Faults(Typed):
+    def test_paths_that_are_none_and_halves_of_characters(self):
+        self.assertIn('null byte', self.ask('\\load a\0b'))
+        self.assertIn('null byte', self.ask('\\save a\0b'))
+        self.assertIn('is a folder', self.ask(rf'\load {self.folder}'))
+        self.assertEqual(self.ask('add \ud800', 'sum'), "'\\ud800' is half of a character, and no text\n| 6\nok\n")
+
+
 class Completion(Typed):
     def test_what_may_stand_there(self):
         fitting = self.shell.fitting
         self.assertEqual(fitting([], 's'), ['step ', 'stats ', 'sum ', 'spin '])
-        self.assertEqual(fitting([], '\\d'), ['\\dump ', '\\do ', '\\draw '])
+        self.assertEqual(fitting([], '\\d'), ['\\diff ', '\\dump ', '\\do ', '\\draw '])
         self.assertEqual(fitting(['run', '1'], ''), ['add '])
         self.assertEqual(fitting(['query', '1'], 't'), ['top '])
         self.assertEqual(fitting(['query', '1', 'top'], ''), [])

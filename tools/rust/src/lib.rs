@@ -1,0 +1,11 @@
+#![doc = include_str!("../README.md")]
+
+mod error;
+mod reply;
+mod session;
+mod text;
+
+pub use error::{Error, Result};
+pub use reply::{Progress, Published, Reply, Stats, Trap, Version, Versions};
+pub use session::{program_path, Session};
+pub use text::{is_silent, split_input};
