@@ -23,7 +23,8 @@ get_or-listed (suc n) f (suc k) d l = get_or-listed n (λ k. f (suc k)) k d (ome
 pub listed-set : {A : Type 0} (n : ℕ) (f g : ℕ → A) (k : ℕ) (v : A) → k < n → g k ≡ v → ((j : ℕ) → j < n → j ≢ k → g j ≡ f j) → listed n g ≡ set (listed n f) k v
 listed-set zero f g k v l here others = absurd (omega arith)
 listed-set (suc n) f g zero v l here others = λ i. here i ∷ listed-same n (λ k. g (suc k)) (λ k. f (suc k)) (λ j m. others (suc j) (omega arith) (λ e. absurd (omega arith))) i
-listed-set (suc n) f g (suc k) v l here others = λ i. others 0 (omega arith) (λ e. absurd (omega arith)) i ∷ listed-set n (λ k. f (suc k)) (λ k. g (suc k)) k v (omega arith) here (λ j m ne. others (suc j) (omega arith) (λ e. ne (omega arith))) i
+listed-set (suc n) f g (suc k) v l here others = λ i. others 0 (omega arith) (λ e. absurd (omega arith)) i ∷ listed-set n (λ k. f (suc k))
+    (λ k. g (suc k)) k v (omega arith) here (λ j m ne. others (suc j) (omega arith) (λ e. ne (omega arith))) i
 
 -- ---- sums
 

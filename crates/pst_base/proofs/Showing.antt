@@ -34,12 +34,14 @@ module _ (w : Showing) where
   below_has c i h (suc m) l =
       ⊎_elim
       (λ (e : w.shows m ≡ true). ⊎_elim
-      (λ (s : i ≡ m). step_in m e (w.name i) ∙ ap (λ b. cond b (Some (w.rec m)) (get (heap_shown_below w m) (w.name i))) (ap (λ k. name_eq (w.name i) (w.name k)) (sym s) ∙ name_eq-same (w.name i)) ∙ ap (λ k. Some (w.rec k)) (sym s))
+      (λ (s : i ≡ m). step_in m e (w.name i) ∙ ap (λ b. cond b (Some (w.rec m)) (get (heap_shown_below w m) (w.name i)))
+      (ap (λ k. name_eq (w.name i) (w.name k)) (sym s) ∙ name_eq-same (w.name i)) ∙ ap (λ k. Some (w.rec k)) (sym s))
       (λ (ne : i ≡ m → ⊥). step_in m e (w.name i)
       ∙ ap (λ b. cond b (Some (w.rec m)) (get (heap_shown_below w m) (w.name i))) (name_eq-apart (w.name i) (w.name m) (λ same. ne (c.one i m h e same)))
       ∙ below_has c i h m (omega arith))
       (cases_eq i m))
-      (λ (e : w.shows m ≡ false). step_out m e (w.name i) ∙ below_has c i h m (⊎_elim (λ (s : i ≡ m). absurd (false≢true (sym e ∙ ap w.shows (sym s) ∙ h))) (λ (ne : i ≡ m → ⊥). omega arith) (cases_eq i m)))
+      (λ (e : w.shows m ≡ false). step_out m e (w.name i) ∙ below_has c i h m
+      (⊎_elim (λ (s : i ≡ m). absurd (false≢true (sym e ∙ ap w.shows (sym s) ∙ h))) (λ (ne : i ≡ m → ⊥). omega arith) (cases_eq i m)))
       (cases_Bool (w.shows m))
 
   -- a node that shows its record has it in the heap
@@ -103,8 +105,10 @@ pub put_shown : (v : Showing) (z : ℕ) (h : Heap) → AreApart v → v.shows z 
     → ((q : Name) → q ≢ v.name z → get (heap_shown v) q ≡ get h q)
     → heap_shown v ≡ insert h (v.name z) (v.rec z)
 put_shown v z h d alive others = same_heap _ _ (λ q. ⊎_elim
-    (λ (e : name_eq q (v.name z) ≡ true). ap (get (heap_shown v)) (name_eq-true q (v.name z) e) ∙ shown_has v d z alive ∙ sym (get-put h (v.name z) (v.rec z) q ∙ ap (λ b. cond b (Some (v.rec z)) (get h q)) e))
-    (λ (e : name_eq q (v.name z) ≡ false). others q (λ s. false≢true (sym e ∙ ap (λ k. name_eq k (v.name z)) s ∙ name_eq-same (v.name z))) ∙ sym (get-put h (v.name z) (v.rec z) q ∙ ap (λ b. cond b (Some (v.rec z)) (get h q)) e))
+    (λ (e : name_eq q (v.name z) ≡ true). ap (get (heap_shown v)) (name_eq-true q (v.name z) e) ∙ shown_has v d z alive
+    ∙ sym (get-put h (v.name z) (v.rec z) q ∙ ap (λ b. cond b (Some (v.rec z)) (get h q)) e))
+    (λ (e : name_eq q (v.name z) ≡ false). others q (λ s. false≢true (sym e ∙ ap (λ k. name_eq k (v.name z)) s ∙ name_eq-same (v.name z)))
+    ∙ sym (get-put h (v.name z) (v.rec z) q ∙ ap (λ b. cond b (Some (v.rec z)) (get h q)) e))
     (cases_Bool (name_eq q (v.name z))))
 
 -- ---- in-degrees
@@ -135,7 +139,8 @@ module _ (w : Showing) (c : AreApart w) (q : Name) where
   degree_below (suc m) = ⊎_elim
       (λ (t : w.shows m ≡ true).
       let whole : in_degree (with_record (heap_shown_below w m) (w.name m) (w.rec m)) q + 0 ≡ in_degree (heap_shown_below w m) q + held_by q (w.rec m)
-      = ap (λ (o : Option Rec). in_degree (with_record (heap_shown_below w m) (w.name m) (w.rec m)) q + option_map_or (held_by q) o 0) (sym (below_lacks m t)) ∙ in_degree-with_record (heap_shown_below w m) (w.name m) (w.rec m) q in
+      = ap (λ (o : Option Rec). in_degree (with_record (heap_shown_below w m) (w.name m) (w.rec m)) q + option_map_or (held_by q) o 0)
+      (sym (below_lacks m t)) ∙ in_degree-with_record (heap_shown_below w m) (w.name m) (w.rec m) q in
       rw t (omega (arith, whole, degree_below m)))
       (λ (t : w.shows m ≡ false). rw t (omega (arith, degree_below m)))
       (cases_Bool (w.shows m))

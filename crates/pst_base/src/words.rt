@@ -1,49 +1,34 @@
 //! The words of the language itself, and the names that a program can give.
 
 ghost use Rattle.std.specs.Prelude.{◌≡◌};
-ghost use Rattle.std.specs.List.{list_all};
+ghost use Rattle.std.specs.List.{list_all, list_any};
+ghost use Rattle.std.specs.Str.{bytes_eq};
 ghost use Rattle.pst_base.specs.Words.{
   is_keyword,
-  IsKeywordNumber,
   is_name,
   has_name_bytes,
   is_name_start,
   is_name_byte,
 };
 
-/// The number of the keyword that is spelled so, from 0 to 18, or None where it is none.
-pub fn keyword_number(word: &[u8]) -> Option<u8>
-    ensures { IsKeywordNumber result word.now }
-{
-    match word {
-        b"record" => Some(0),
-        b"val" => Some(1),
-        b"ptr" => Some(2),
-        b"root" => Some(3),
-        b"proc" => Some(4),
-        b"query" => Some(5),
-        b"var" => Some(6),
-        b"new" => Some(7),
-        b"call" => Some(8),
-        b"print" => Some(9),
-        b"if" => Some(10),
-        b"else" => Some(11),
-        b"while" => Some(12),
-        b"return" => Some(13),
-        b"null" => Some(14),
-        b"and" => Some(15),
-        b"or" => Some(16),
-        b"not" => Some(17),
-        b"int" => Some(18),
-        _ => None,
-    }
-}
+/// The keywords, which no name is spelled as.
+const KEYWORDS: [&[u8]; 19] = [
+    b"record", b"val", b"ptr", b"root", b"proc", b"query", b"var", b"new", b"call", b"print",
+    b"if", b"else", b"while", b"return", b"null", b"and", b"or", b"not", b"int",
+];
 
 /// Whether a word is a keyword.
 pub fn is_keyword(word: &[u8]) -> bool
     ensures { result ≡ is_keyword word.now }
 {
-    keyword_number(word).is_some()
+    is_among(word, &KEYWORDS)
+}
+
+/// Whether a word is one of some words.
+fn is_among(word: &[u8], words: &[&[u8]]) -> bool
+    ensures { result ≡ list_any (λ other. bytes_eq other.now word.now) words.now }
+{
+    words.iter().any(|other| *other == word)
 }
 
 /// The most bytes that a name has.

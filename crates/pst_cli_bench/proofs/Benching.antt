@@ -32,7 +32,8 @@ unfolding refusal reply
 stats_answer m h = refl
 
 -- the summary of a store that is left in a history is that of the history
-pub summary_is : (m : Meaning) (lines : List (List ℕ)) (store : Option Stored) (sum : ℤ) (text : List ℕ) → IsLeft m store (history_after by_tree m lines) → sum ≡ fold ◌+ℤ◌ (pos 0) (printed_from by_tree m (first_history by_tree m) lines)
+pub summary_is : (m : Meaning) (lines : List (List ℕ)) (store : Option Stored) (sum : ℤ) (text : List ℕ)
+    → IsLeft m store (history_after by_tree m lines) → sum ≡ fold ◌+ℤ◌ (pos 0) (printed_from by_tree m (first_history by_tree m) lines)
     → text ≡ summary (length (state_in store).versions) (text_of (answer.StatsAre (state_in store).counts)) (length (nodes_in store)) sum → text ≡ summary_of m lines store
 summary_is m lines store sum text left summed is =
     let h = history_after by_tree m lines in
@@ -45,7 +46,8 @@ pub broken_if_left : (m : Meaning) (store : Option Stored) (h : History) → IsL
 broken_if_left m store h left = record { versions = left.versions; small = λ none. left.small; bounded = left.bounded }
 
 -- there was no room behind the last line
-pub broken_behind : (m : Meaning) (lines : List (List ℕ)) (store : Option Stored) → IsLeft m store (history_after by_tree m lines) → AfterSome (script_of by_tree m) (first_history by_tree m) (IsBroken m store) lines
+pub broken_behind : (m : Meaning) (lines : List (List ℕ)) (store : Option Stored) → IsLeft m store (history_after by_tree m lines)
+    → AfterSome (script_of by_tree m) (first_history by_tree m) (IsBroken m store) lines
 broken_behind m lines store left = after_all (script_of by_tree m) (first_history by_tree m) (IsBroken m store) lines (broken_if_left m store (history_after by_tree m lines) left)
 
 -- ---- rows
@@ -69,8 +71,10 @@ pub done_row : (text : List ℕ) (lines : List (List ℕ)) (old new : Option Sto
     → IsLeft (meaning_of program) new (history_after by_tree (meaning_of program) lines) → piece ≡ summary_of (meaning_of program) lines new → out ≡ piece → BenchRow Done text lines old new out
 done_row text lines old new piece out syntax program judged left is w = (Accepted syntax (program_of program), judged, (left, w ∙ is))
 
-pub stopped_row : (s : Stop) (text : List ℕ) (lines : List (List ℕ)) (old new : Option Stored) (piece out : List ℕ) (syntax : ProgramText) (program : Program) → Judged text (Accepted syntax (program_of program))
-    → IsLeft (meaning_of program) new (history_after by_tree (meaning_of program) lines) → piece ≡ summary_of (meaning_of program) lines new → StopsAtReply s (Some piece) out → BenchRow (status_of s) text lines old new out
+pub stopped_row : (s : Stop) (text : List ℕ) (lines : List (List ℕ)) (old new : Option Stored) (piece out : List ℕ) (syntax : ProgramText)
+    (program : Program) → Judged text (Accepted syntax (program_of program))
+    → IsLeft (meaning_of program) new (history_after by_tree (meaning_of program) lines) → piece ≡ summary_of (meaning_of program) lines new
+    → StopsAtReply s (Some piece) out → BenchRow (status_of s) text lines old new out
 stopped_row stop.Write text lines old new piece out syntax program judged left is (whole, same, part) =
     let e : whole ≡ piece = cc in
     (Accepted syntax (program_of program), judged, (left, subst (λ l. IsPartOf l out) (e ∙ is) part))

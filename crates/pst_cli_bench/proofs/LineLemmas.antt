@@ -11,7 +11,8 @@ range_more a (suc n) =
     ap (λ (xs : List ℕ). a ∷ xs) (ap (λ m. range_with_len (a + 1) n ++ m ∷ []) e ∙ range_more (a + 1) n)
 
 -- a line is put behind those of the numbers from a up to it
-pub lines_more : (line : ℕ → List ℕ) (a i : ℕ) (old before now : List ℕ) → a ≤ i → before ≡ old ++ flat_map line (range_with_len a (i - a)) → now ≡ before ++ line i → now ≡ old ++ flat_map line (range_with_len a (i + 1 - a))
+pub lines_more : (line : ℕ → List ℕ) (a i : ℕ) (old before now : List ℕ) → a ≤ i → before ≡ old ++ flat_map line (range_with_len a (i - a))
+    → now ≡ before ++ line i → now ≡ old ++ flat_map line (range_with_len a (i + 1 - a))
 lines_more line a i old before now within so_far put =
     let last : a + (i - a) ≡ i = omega arith in
     let many : suc (i - a) ≡ i + 1 - a = omega arith in

@@ -33,4 +33,13 @@ unfolding digits
 last_key = refl
 
 pub scripts : Scripts
-scripts = record { short_path = short_path; two_branches = two_branches; last_insertion = last_insertion; last_move = last_move; last_branch = last_branch; last_count = last_count; last_key = last_key }
+scripts = record {
+  short_path = short_path;
+  two_branches = two_branches;
+  last_insertion = last_insertion;
+  last_move = last_move;
+  last_branch =
+      last_branch;
+  last_count = last_count;
+  last_key = last_key;
+}

@@ -16,10 +16,8 @@
 mod lines;
 mod script;
 mod summary;
-#[cfg(test)]
-mod tests;
 mod worked;
 
-pub use script::SIZE;
+pub use script::{SIZE, bench_script};
 pub use summary::bench;
 pub use worked::scripts_by_hand;

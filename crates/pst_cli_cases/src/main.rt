@@ -5,6 +5,8 @@
 //! none of its forms stands for itself or is left out, and a case that was not read as it was meant fails when it is run.
 #![tactic(auto)]
 
+#[cfg(test)]
+mod bench;
 mod case;
 mod file;
 #[cfg(test)]

@@ -33,7 +33,8 @@ use Rattle.pst_cli_images.specs.Left.{LeavesImage, Leaves}
 
 -- ---- behind an accepted image
 
-module _ (k : Resumed) (input : List ℕ) (p : ImageParts) (program : Program) (len : ℕ) (accepted : IsAccepted input p (program_of program) len) (o : Opening) (opens : o ≡ opening_in program.shape p) {script : List ℕ} (rest : script ≡ drop len input) where
+module _ (k : Resumed) (input : List ℕ) (p : ImageParts) (program : Program) (len : ℕ) (accepted : IsAccepted input p (program_of program) len)
+    (o : Opening) (opens : o ≡ opening_in program.shape p) {script : List ℕ} (rest : script ≡ drop len input) where
   abbrev after : History
   after = state_after (script_of by_tree (meaning_of program)) (begun o) (lines_of script)
 
@@ -47,7 +48,8 @@ module _ (k : Resumed) (input : List ℕ) (p : ImageParts) (program : Program) (
   carries left = record { image = p; named = program_of program; len = len; accepted = accepted; left = subst (λ (h : History). k.leaves (meaning_of program) h) is_left left }
 
   -- and this is what is left
-  pub leaves : (store : Option Stored) (text : List ℕ) → text ≡ p.text → (left : Left) → k.leaves (meaning_of program) after → LeavesImage store text left (meaning_of program) after → Leaves k store left input
+  pub leaves : (store : Option Stored) (text : List ℕ) → text ≡ p.text → (left : Left) → k.leaves (meaning_of program) after
+      → LeavesImage store text left (meaning_of program) after → Leaves k store left input
   leaves store text same left kept is = (
     record { image = p; named = program_of program; len = len; accepted = accepted; left = subst (λ (h : History). k.leaves (meaning_of program) h) is_left kept },
     subst (λ (t : List ℕ). LeavesImage store t left (meaning_of program) (left_behind (program_of program) p (drop len input))) same
@@ -55,7 +57,8 @@ module _ (k : Resumed) (input : List ℕ) (p : ImageParts) (program : Program) (
   )
 
   -- there was no room in a line
-  pub breaks : (given behind : List (List ℕ)) → lines_of script ≡ given ++ behind → BreaksIn (script_of by_tree (meaning_of program)) (begun o) (k.breaks (meaning_of program)) given → BreaksBehind k input
+  pub breaks : (given behind : List (List ℕ)) → lines_of script ≡ given ++ behind
+      → BreaksIn (script_of by_tree (meaning_of program)) (begun o) (k.breaks (meaning_of program)) given → BreaksBehind k input
   breaks given behind first broken = record {
     image = p;
     named = program_of program;
@@ -73,7 +76,8 @@ pub comes_whole : (store : Option Stored) → IsOfWhole (RepackComes store)
 comes_whole store = record { read = λ k input out w. w; long = λ k input out w. w; usage = λ k input out w. w }
 
 -- a rule of the image fails
-pub line_repacks : (store : Option Stored) (status : Status) (k : Resumed) (rule : Rule) (input out : List ℕ) → k.untouched → FailsFirst input rule → Refuses status rule out → RepackComes store status k input out
+pub line_repacks : (store : Option Stored) (status : Status) (k : Resumed) (rule : Rule) (input out : List ℕ) → k.untouched → FailsFirst input rule
+    → Refuses status rule out → RepackComes store status k input out
 line_repacks store Refused k rule input out same fails w = inl (rule, fails, w, same)
 line_repacks store WriteFault k rule input out same fails w = inl (rule, fails, w, same)
 line_repacks store Memory k rule input out same fails w = (w, inl same)
@@ -93,12 +97,14 @@ line_counts store TooLong k input out (c, many) w = absurd w
 line_counts store Usage k input out (c, many) w = absurd w
 
 -- so much is written of the image
-pub image_repacks : (k : Resumed) (store : Option Stored) (Much : List ℕ → List ℕ → Type 0) (input image out : List ℕ) → Leaves k store (Image image) input → Much image out → Repacks k store Much input out
+pub image_repacks : (k : Resumed) (store : Option Stored) (Much : List ℕ → List ℕ → Type 0) (input image out : List ℕ)
+    → Leaves k store (Image image) input → Much image out → Repacks k store Much input out
 image_repacks k store Much input image out (c, is) w =
     let shape = meaning_shape (routines_in c.named) in
     (c, (image, subst (λ (s : List TypeShape). IsImage store c.image.text s (left_behind c.named c.image (drop c.len input)) image) shape is, w))
 
-pub image_stops : (store : Option Stored) (s : Stop) (k : Resumed) (input image piece out : List ℕ) → piece ≡ image → Leaves k store (Image image) input → StopsAtReply s (Some piece) out → RepackComes store (status_of s) k input out
+pub image_stops : (store : Option Stored) (s : Stop) (k : Resumed) (input image piece out : List ℕ) → piece ≡ image
+    → Leaves k store (Image image) input → StopsAtReply s (Some piece) out → RepackComes store (status_of s) k input out
 image_stops store stop.Write k input image piece out same left (whole, is, part) =
     let e : whole ≡ image = (let q : whole ≡ piece = cc in q ∙ same) in
     inr (inr (image_repacks k store IsPartOf input image out left (subst (λ l. IsPartOf l out) e part)))

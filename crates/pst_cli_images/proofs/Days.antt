@@ -1,6 +1,7 @@
 -- Images day after day.
 use Rattle.std.proofs.Common.{◌≡◌, ℕ, suc, ◌+◌, List, [], ◌++◌, drop, length, length-append, sym, ap, ◌∙◌, subst, ⊎_elim, arith, Option}
 use Rattle.std.specs.Prelude.{◌^◌}
+use Rattle.std.specs.List.{concat}
 use Rattle.std.proofs.Math.Seq.{drop-append_seam}
 use Rattle.pst_base.specs.declared.names.Counts.{Counts}
 use Rattle.pst_base.specs.Shape.{IsValid}
@@ -14,7 +15,7 @@ use Rattle.pst_history.specs.Sound.{IsSoundHistory}
 use Rattle.pst_history.specs.Direct.{direct}
 use Rattle.pst_history.proofs.DirectLemmas.{direct_is_lawful}
 use Rattle.pst_cli_scripts.specs.Input.{cut_of}
-use Rattle.pst_cli_scripts.specs.Pieces.{state_after}
+use Rattle.pst_cli_scripts.specs.Pieces.{state_after, pieces_from}
 use Rattle.pst_cli_scripts.specs.Script.{by_tree, script_of}
 use Rattle.pst_store_meaning.specs.Store.{Stored}
 use Rattle.pst_image_form.specs.declared.parts.ImageParts.{ImageParts}
@@ -25,11 +26,11 @@ use Rattle.pst_history_laws.proofs.Meanings.{meaning_law}
 use Rattle.pst_image_engine.proofs.Counted.{counts_law, few_counts_law, opening_counts_law}
 use Rattle.pst_image_engine.specs.Counted.{OpensFew}
 use Rattle.pst_history_laws.specs.TakenUp.{taken_up, all_dropped}
-use Rattle.pst_history_laws.specs.Openings.{left_by}
+use Rattle.pst_history_laws.specs.Openings.{left_by, replies_on}
 use Rattle.pst_history_laws.proofs.Commands.{begins_law}
 use Rattle.pst_history_laws.proofs.Dropped.{taken-same, none-open, sound-kept}
 use Rattle.pst_history_laws.proofs.Sound.{left-sound}
-use Rattle.pst_history_laws.proofs.Scripts.{left-alike, taken-alike, sound_behind_law, stays_behind_law, taken_up_law}
+use Rattle.pst_history_laws.proofs.Scripts.{left-alike, taken-alike, sound_behind_law, stays_behind_law, replies_behind_law, taken_up_law}
 use Rattle.pst_image_unpack.specs.Unpacked.{IsOwnText, IsAccepted}
 use Rattle.pst_image_unpack.proofs.Deciding.{one_text, never_both}
 use Rattle.pst_cli_serving.specs.Storing.{IsLeft}
@@ -37,7 +38,7 @@ use Rattle.pst_cli_images.specs.Packing.{IsImage}
 use Rattle.pst_cli_images.proofs.Starts.{script-start, lines-start}
 use Rattle.pst_cli_images.specs.Opening.{opening_in}
 use Rattle.pst_cli_images.specs.Repacking.{left_behind}
-use Rattle.pst_cli_images.specs.Days.{KeepsHistory, PackedKeepsLaw, RepackedKeepsLaw, NeverRefusedAgainLaw}
+use Rattle.pst_cli_images.specs.Days.{KeepsHistory, PackedKeepsLaw, RepackedKeepsLaw, NeverRefusedAgainLaw, ResumedBehindLaw, NeverRefusedBehindLaw}
 use Rattle.pst_cli_images.proofs.Openings.{is_taken_up, length-heaps}
 use Rattle.pst_cli_images.proofs.Resumes.{meaning, valid, accepted_always}
 
@@ -112,14 +113,16 @@ module _ (first : List ℕ) (named : NamedProgram) (h : History) (behind : List 
       ∙ sym (ap (λ (o : Opening). suc (length o.versions)) start)
 
   -- the image at the front is that one, of that program, and the lines begin behind it
-  on_this : (P : NamedProgram → ImageParts → List ℕ → Type 0) {g : NamedProgram} {q : ImageParts} {len : ℕ} → IsAccepted (first ++ behind) q g len → P g q (drop len (first ++ behind)) → P named keeps.parts behind
+  on_this : (P : NamedProgram → ImageParts → List ℕ → Type 0) {g : NamedProgram} {q : ImageParts} {len : ℕ} → IsAccepted (first ++ behind) q g len
+      → P g q (drop len (first ++ behind)) → P named keeps.parts behind
   on_this P {g} {q} {len} a w =
       let mine = keeps.accepted behind in
       let (same, far) = one_form (first ++ behind) keeps.parts q (length first) len mine.form a.form in
       let own : IsOwnText keeps.parts.text g = subst (λ (x : ImageParts). IsOwnText x.text g) (sym same) a.text in
       let one : named ≡ g = one_text keeps.parts.text named g mine.text own in
       let rest : drop len (first ++ behind) ≡ behind = ap (λ (l : ℕ). drop l (first ++ behind)) (sym far) ∙ drop-append_seam first behind in
-      subst (λ (b : List ℕ). P named keeps.parts b) rest (subst (λ (x : ImageParts). P named x (drop len (first ++ behind))) (sym same) (subst (λ (x : NamedProgram). P x q (drop len (first ++ behind))) (sym one) w))
+      subst (λ (b : List ℕ). P named keeps.parts b) rest (subst (λ (x : ImageParts). P named x (drop len (first ++ behind))) (sym same)
+      (subst (λ (x : NamedProgram). P x q (drop len (first ++ behind))) (sym one) w))
 
   -- the history behind it is that of the opening that is taken up
   is_new : left_behind named keeps.parts behind ≡ new
@@ -158,7 +161,11 @@ module _ (first : List ℕ) (named : NamedProgram) (h : History) (behind : List 
 pub repacked_keeps_law : RepackedKeepsLaw
 repacked_keeps_law first named h behind image keeps (was, store, rest, (reads, (c, (next, is, written)))) =
     let Left : NamedProgram → ImageParts → List ℕ → Type 0 = λ g q b. IsLeft (meaning g) store (left_behind g q b) × IsImage store q.text g.shape (left_behind g q b) image in
-    let there : Left c.named c.image (drop c.len (first ++ behind)) = (c.left, subst (λ (x : List ℕ). IsImage store c.image.text c.named.shape (left_behind c.named c.image (drop c.len (first ++ behind))) x) (sym written) is) in
+    let there : Left c.named c.image (drop c.len (first ++ behind)) = (
+      c.left,
+      subst (λ (x : List ℕ). IsImage store c.image.text c.named.shape (left_behind c.named c.image (drop c.len (first ++ behind))) x)
+          (sym written) is,
+    ) in
     let here : Left named keeps.parts behind = on_this first named h behind keeps Left c.accepted there in
     let New : History → Type 0 = λ x. IsLeft (meaning named) store x × IsImage store keeps.parts.text named.shape x image in
     let (left, i) = subst New (is_new first named h behind keeps) here in
@@ -170,5 +177,21 @@ never_refused_again_law first named h behind out keeps (was, store, rest, (reads
     (λ much.
     let c = much.0 in
     let Much : NamedProgram → ImageParts → List ℕ → Type 0 = λ g q b. CountsWithin (counts_of (meaning g) (left_behind g q b)) (2 ^ 50) → ⊥ in
-    on_this first named h behind keeps Much c.accepted much.1 (subst (λ (x : History). CountsWithin (counts_of (meaning named) x) (2 ^ 50)) (sym (is_new first named h behind keeps)) (few first named h behind keeps)))
+    on_this first named h behind keeps Much c.accepted much.1
+    (subst (λ (x : History). CountsWithin (counts_of (meaning named) x) (2 ^ 50)) (sym (is_new first named h behind keeps))
+    (few first named h behind keeps)))
     w
+
+-- ---- a script behind an image that keeps a history
+
+pub resumed_behind_law : ResumedBehindLaw
+resumed_behind_law first named h behind out keeps (was, now, rest, (reads, a)) =
+    let m = meaning named in
+    let P : NamedProgram → ImageParts → List ℕ → Type 0 = λ g q b. out ≡ concat (pieces_from (script_of by_tree (meaning g)) (begun (opening_in g.shape q)) (lines_of b)) in
+    on_this first named h behind keeps P a.accepted a.answered.0
+    ∙ ap (λ (o : Opening). concat (replies_on m (begun o) (lines_of behind))) keeps.opening
+    ∙ sym (ap concat (replies_behind_law m h h (begun (taken_up m h)) (lines_of behind) keeps.sound keeps.shut (begins_law m h)))
+
+pub never_refused_behind_law : NeverRefusedBehindLaw
+never_refused_behind_law first named h behind out keeps (was, now, rest, (reads, (rule, fails, written, kept))) =
+    never_both (first ++ behind) keeps.parts named (length first) rule (keeps.accepted behind) fails

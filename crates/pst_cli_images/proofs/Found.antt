@@ -29,7 +29,8 @@ module _ (k : Kept) (store : Option Stored) (m : Meaning) (text : List ℕ) (a b
   image_lacks lines g kept = inr (inr (inr (lines, g, kept)))
 
 -- so much is written of an image with the program's canonical text
-pub packed : (k : Kept) (store : Option Stored) (Much : List ℕ → List ℕ → Type 0) (syntax : ProgramText) (program : Program) (lines : List (List ℕ)) (text image out : List ℕ) → text ≡ canonical syntax → k.leaves (meaning_of program) lines
+pub packed : (k : Kept) (store : Option Stored) (Much : List ℕ → List ℕ → Type 0) (syntax : ProgramText) (program : Program) (lines : List (List ℕ))
+    (text image out : List ℕ) → text ≡ canonical syntax → k.leaves (meaning_of program) lines
     → IsImage store text (meaning_of program).shape (history_after by_tree (meaning_of program) lines) image → Much image out → Packs k store Much lines (Accepted syntax (program_of program)) out
 packed k store Much syntax program lines text image out same kept is much =
     let one = subst (λ (shape : List TypeShape). IsImage store text shape (history_after by_tree (meaning_of program) lines) image) (meaning_shape (routines_of program)) is in

@@ -20,7 +20,6 @@ use Rattle.pst_image_form.specs.Bytes.{Fits, image_bytes}
 use Rattle.pst_image_rules.specs.Rules.{IsJudged}
 use Rattle.pst_image_meaning.specs.Parts.{parts_of}
 use Rattle.pst_image_meaning.specs.Left.{IsLeftStore, AreNumbers}
-use Rattle.pst_image_engine.proofs.Left.{left_rules_law}
 use Rattle.pst_program.specs.declared.program.Program.{Program}
 use Rattle.pst_program.specs.View.{routines_of}
 use Rattle.pst_translation.specs.Compiled.{code_of}
@@ -29,17 +28,8 @@ use Rattle.pst_image_meaning.specs.Denoted.{arena_in}
 use Rattle.pst_cli_images.specs.Packing.{IsImage}
 
 module _ {H : Type 0} (m : Meaning) (parts : Parts) (engine : Engine H NodeId Place) (h : History) where
-  -- an empty store holds no version
-  empty_stands : EngineStands (record { meaning = m; parts = parts }) engine (state_in None) h → ⊥
-  empty_stands e = let many = e.versions.many in let base = e.sound.start.same in omega (arith, many, base)
-
-  pub leaves : (o : Option Stored) (next : RunNo) → next ≡ engine.next_run → IfSome o IsStore → EngineStands (record { meaning = m; parts = parts }) engine (state_in o) h → CountsWithin (state_in o).counts (2 ^ 50) → IsSomeAnd o (λ s. IsLeftStore s next.0)
-  leaves None next same k e few = absurd (empty_stands e)
-  leaves (Some s) next same k e few =
-      let counted : CountsWithin (counts_of m h) (2 ^ 50) = let Q : Counts → Type 0 = λ c. CountsWithin c (2 ^ 50) in subst Q e.counts few in
-      subst (λ (n : RunNo). IsLeftStore s n.0) (sym same) (left_rules_law H m (machine_runs parts) engine.active.items.items engine.budget engine.next_run.0 s h k e counted)
-
-  pub numbers : (o : Option Stored) (next : RunNo) (budget : ℕ) → next ≡ engine.next_run → budget ≡ engine.budget → EngineStands (record { meaning = m; parts = parts }) engine (state_in o) h → AreNumbers next.0 budget
+  pub numbers : (o : Option Stored) (next : RunNo) (budget : ℕ) → next ≡ engine.next_run → budget ≡ engine.budget
+      → EngineStands (record { meaning = m; parts = parts }) engine (state_in o) h → AreNumbers next.0 budget
   numbers o next budget n b e =
       let same_next : next.0 ≡ next_run h = ap (λ (r : RunNo). r.0) n ∙ e.same_next in
       let same_budget : budget ≡ h.budget = b ∙ e.same_budget in
@@ -50,8 +40,10 @@ module _ {H : Type 0} (m : Meaning) (parts : Parts) (engine : Engine H NodeId Pl
         budget_high = (let high = e.sound.budget.1 in omega (arith, same_budget, high));
       }
 
-  pub imaged : (o : Option Stored) (next : RunNo) (budget : ℕ) (text image : List ℕ) → next ≡ engine.next_run → budget ≡ engine.budget → EngineStands (record { meaning = m; parts = parts }) engine (state_in o) h
-      → IsSomeAnd o (λ s. image ≡ image_bytes (parts_of s text next.0 budget)) → IsSomeAnd o (λ s. Fits (parts_of s text next.0 budget)) → IsSomeAnd o (λ s. IsJudged s.shape (parts_of s text next.0 budget) None)
+  pub imaged : (o : Option Stored) (next : RunNo) (budget : ℕ) (text image : List ℕ) → next ≡ engine.next_run → budget ≡ engine.budget
+      → EngineStands (record { meaning = m; parts = parts }) engine (state_in o) h
+      → IsSomeAnd o (λ s. image ≡ image_bytes (parts_of s text next.0 budget)) → IsSomeAnd o (λ s. Fits (parts_of s text next.0 budget))
+      → IsSomeAnd o (λ s. IsJudged s.shape (parts_of s text next.0 budget) None)
       → IsSomeAnd o (λ s. arena_in s.shape (parts_of s text next.0 budget) ≡ arena s) → IsImage o text m.shape h image
   imaged None next budget text image n c e b f j d = absurd b
   imaged (Some s) next budget text image n c e b f j d =
@@ -71,9 +63,11 @@ module _ {H : Type 0} (m : Meaning) (parts : Parts) (engine : Engine H NodeId Pl
       }
 
 -- the image that comes is that of each history for which session and store stand
-pub image_for_each : {H E : Type 0} (program : Program) (engine : Engine H NodeId Place) (o : Option Stored) (next : RunNo) (budget : ℕ) (text : List ℕ) (r : Result (List ℕ) E) → next ≡ engine.next_run → budget ≡ engine.budget
+pub image_for_each : {H E : Type 0} (program : Program) (engine : Engine H NodeId Place) (o : Option Stored) (next : RunNo) (budget : ℕ)
+    (text : List ℕ) (r : Result (List ℕ) E) → next ≡ engine.next_run → budget ≡ engine.budget
     → IfOk r (λ image. IsSomeAnd o (λ s. image ≡ image_bytes (parts_of s text next.0 budget))) → IfOk r (λ _. IsSomeAnd o (λ s. Fits (parts_of s text next.0 budget)))
     → IfOk r (λ _. IsSomeAnd o (λ s. arena_in s.shape (parts_of s text next.0 budget) ≡ arena s)) → IsSomeAnd o (λ s. IsJudged s.shape (parts_of s text next.0 budget) None)
     → IfOk r (λ image. (m : Meaning) (h : History) → IsRunning program engine o m h → IsImage o text m.shape h image)
-image_for_each program engine o next budget text (Ok image) n b is fits denotes rules = λ m h running. imaged m (code_of (routines_of program)) engine h o next budget text image n b running.stands is fits rules denotes
+image_for_each program engine o next budget text (Ok image) n b is fits denotes rules =
+    λ m h running. imaged m (code_of (routines_of program)) engine h o next budget text image n b running.stands is fits rules denotes
 image_for_each program engine o next budget text (Err e) n b is fits denotes rules = tt

@@ -66,14 +66,17 @@ module _ (m : Meaning) (s : State Place NodeId) (h : History) (start : length h.
   descents : (rows : List (VersionRow Place)) → s.versions ≡ rows → map descent_of (drop 1 (map (version_part r) rows)) ≡ h.start.versions ++ h.versions
   descents [] e = absurd (let many = holds.many in let l = ap length e in let o = start in omega arith)
   descents (first ∷ rows) e = mapped descent_of (version_part r) rows (h.start.versions ++ h.versions)
-      (let many = holds.many in let l = ap length e in let o = start in let both : length (h.start.versions ++ h.versions) ≡ length h.start.versions + length h.versions = length-append h.start.versions h.versions in omega arith)
+      (let many = holds.many in let l = ap length e in let o = start in
+      let both : length (h.start.versions ++ h.versions) ≡ length h.start.versions + length h.versions =
+      length-append h.start.versions h.versions in omega arith)
       (λ i row v at found. same_descent v row r (descent_at i v row found (subst (λ (rs : List (VersionRow Place)). slice_get rs (suc i) ≡ Some row) (sym e) at)))
 
   heaps : (denoted : ℕ → Heap) → ((p : Place) → denoted (r p.begin.0) ≡ s.heap p) → map (λ (v : VersionPart). denoted v.begin) (map (version_part r) s.versions) ≡ heaps_of m h
   heaps denoted same = mapped (λ (v : VersionPart). denoted v.begin) (version_part r) s.versions (heaps_of m h) (holds.many ∙ sym (length-heaps m h)) (λ k row heap at found.
       same row.place ∙ (holds.versions k row at).heap ∙ get_or_from_slice_get (heaps_of m h) k heap (initial_heap m.shape) found)
 
-pub is_taken_up : (m : Meaning) (store : Option Stored) (text image : List ℕ) (h : History) → length h.start.heaps ≡ suc (length h.start.versions) → IsLeft m store h → (i : IsImage store text m.shape h image)
+pub is_taken_up : (m : Meaning) (store : Option Stored) (text image : List ℕ) (h : History) → length h.start.heaps ≡ suc (length h.start.versions)
+    → IsLeft m store h → (i : IsImage store text m.shape h image)
     → opening_in m.shape (parts_of i.there text (next_run h) h.budget) ≡ taken_up m h
 is_taken_up m store text image h start left i =
     let s = state_of i.there in

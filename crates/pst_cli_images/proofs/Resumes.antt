@@ -1,5 +1,5 @@
 -- A script behind an image goes on as behind the script that was packed.
-use Rattle.std.proofs.Common.{◌≡◌, ℕ, suc, ◌<◌, List, [], ◌∷◌, ◌++◌, drop, length, Option, Some, None, Result, Ok, Err, refl, sym, ap, ◌∙◌, subst}
+use Rattle.std.proofs.Common.{◌≡◌, ℕ, suc, ◌+◌, ◌<◌, ◌≤◌, arith, length-append, List, [], ◌∷◌, ◌++◌, drop, length, Option, Some, None, Result, Ok, Err, refl, sym, ap, ◌∙◌, subst}
 use Rattle.std.specs.Option.{option_to_list}
 use Rattle.std.specs.List.{concat}
 use Rattle.std.proofs.Math.Seq.{drop-append_seam}
@@ -13,9 +13,12 @@ use Rattle.pst_front.specs.Verdict.{Verdict, Judged, Accepted, Refused}
 use Rattle.pst_front.specs.Pages.{routines_in}
 use Rattle.pst_io.specs.Text.{lines_of}
 use Rattle.pst_cli_words.specs.declared.job.Job.TheVariants.{Run}
+use Rattle.pst_cli_words.specs.declared.status.Status.TheVariants.{Done, ReadFault, WriteFault, Usage, Refused, TooLong, Memory}
+use Rattle.pst_cli_scripts.specs.declared.stop.Stop.{Stop}
+use Rattle.pst_cli_scripts.specs.declared.stop.Stop.TheVariants as stop
 use Rattle.pst_script.specs.declared.command.Command.{Command}
 use Rattle.pst_script.specs.declared.command.LineFault.{LineFault}
-use Rattle.pst_script.specs.declared.command.LineFault.TheVariants.{Line, Number, Memory}
+use Rattle.pst_script.specs.declared.command.LineFault.TheVariants as fault
 use Rattle.pst_script.specs.Commands.{reading}
 use Rattle.pst_history.specs.Meaning.{Meaning}
 use Rattle.pst_history.specs.History.{History, Opening, begun, next_run}
@@ -27,21 +30,24 @@ use Rattle.pst_cli_serving.specs.Held.{kept_in}
 use Rattle.pst_store_meaning.specs.Store.{Stored}
 use Rattle.pst_cli_serving.specs.Storing.{IsLeft}
 use Rattle.pst_image_form.specs.declared.parts.ImageParts.{ImageParts}
-use Rattle.pst_image_form.specs.Bytes.{HasForm, image_bytes}
+use Rattle.pst_image_form.specs.Bytes.{HasForm, image_bytes, body_bytes, text_bytes, magic, number, counted, counts_bytes, version_bytes, node_bytes}
 use Rattle.pst_image_form.proofs.Forms.{one_form}
 use Rattle.pst_image_rules.specs.Rules.{IsJudged}
 use Rattle.pst_image_meaning.specs.Parts.{parts_of}
 use Rattle.pst_history_laws.specs.LawsLines.{IsReadAgain}
 use Rattle.pst_history_laws.proofs.Canonical.{canonical_law}
-use Rattle.pst_history_laws.specs.TakenUp.{taken_up}
-use Rattle.pst_history_laws.specs.Openings.{left_by}
+use Rattle.pst_history_laws.specs.TakenUp.{taken_up, all_dropped}
+use Rattle.pst_history_laws.specs.Openings.{left_by, replies_on, GoesOnFrom}
 use Rattle.pst_history_laws.proofs.Scripts.{program_goes_on_law}
 use Rattle.pst_image_unpack.specs.Unpacked.{IsAccepted}
 use Rattle.pst_image_unpack.proofs.Deciding.{one_program, never_both}
 use Rattle.pst_cli_images.specs.Packing.{IsImage, PacksWhole}
 use Rattle.pst_cli_images.proofs.Starts.{script-start}
 use Rattle.pst_cli_images.specs.Opening.{opening_in}
-use Rattle.pst_cli_images.specs.Repack.{IsPacked, HasShortText, Programs, PackedIsAcceptedLaw, ResumedLaw, NeverRefusedLaw}
+use Rattle.pst_cli_images.specs.Resuming.{Resumed, AnswersBehind, resumed_in}
+use Rattle.pst_cli_images.specs.Repack.{IsPacked, HasShortText, Programs, IsFirstPart, IsContinuedInPart}
+use Rattle.pst_cli_images.specs.Repack.{PackedIsAcceptedLaw, ResumedLaw, NeverRefusedLaw, GoesOnLaw}
+use Rattle.pst_cli_images.proofs.InPart.{first_part}
 use Rattle.pst_cli_images.proofs.Openings.{is_taken_up}
 
 -- ---- what was packed
@@ -59,7 +65,8 @@ record Packed (input image : List ℕ) : Type 0 where
   left : IsLeft (meaning named) store (left_by (meaning named) (cut_of input).script)
   is : IsImage store (canonical syntax) named.shape (left_by (meaning named) (cut_of input).script) image
 
-packed_by : (input image : List ℕ) (old new : Option Stored) (verdict : Verdict) → Judged (cut_of input).text verdict → PacksWhole (kept_in old new Run) new (cut_of input).script verdict image → Packed input image
+packed_by : (input image : List ℕ) (old new : Option Stored) (verdict : Verdict) → Judged (cut_of input).text verdict
+    → PacksWhole (kept_in old new Run) new (cut_of input).script verdict image → Packed input image
 packed_by input image old new (Refused fault) j w = absurd w
 packed_by input image old new (Accepted syntax named) j (left, (written, is, same)) = record {
   syntax = syntax;
@@ -129,10 +136,33 @@ accepted_law input image behind w short =
     let a = accepted_always input image w short in
     record { programs = a.programs; parts = a.parts; accepted = a.accepted behind; opening = a.opening }
 
+-- what stands behind the text of an image
+abbrev behind_text : ImageParts → List ℕ
+behind_text p =
+    number p.budget ++ (number p.next_run.0 ++ (counts_bytes p.counts ++ (number p.places ++ (counted version_bytes p.versions ++ counted node_bytes p.nodes))))
+
+-- the text of an image stands in it
+text_within : (p : ImageParts) → length p.text ≤ length (image_bytes p)
+text_within p = omega (
+  arith,
+  length-append magic (body_bytes p),
+  length-append (text_bytes p.text) (behind_text p),
+  length-append (number (length p.text)) p.text,
+)
+
+-- an image that has at most 67,108,864 bytes is accepted, since its text is shorter
+accepted_now : (input image behind : List ℕ) (k : Packed input image) → length (image ++ behind) ≤ 67108864
+    → IsAccepted (image ++ behind) (parts input image k) (again input image k).program (length image)
+accepted_now input image behind k most =
+    let size : length image ≡ length (image_bytes (parts input image k)) = ap length k.is.bytes in
+    let short : length (canonical k.syntax) < 4294967295 = omega (arith, most, text_within (parts input image k), size, length-append image behind) in
+    is_accepted input image k behind short
+
 pub never_refused_law : NeverRefusedLaw
-never_refused_law input image behind out w short (old, new, left, (reads, (rule, fails, written, kept))) =
-    let a = accepted_law input image behind w short in
-    never_both (image ++ behind) a.parts a.programs.read.program (length image) rule a.accepted fails
+never_refused_law input image behind out w (old, new, left, (reads, (rule, fails, written, kept))) =
+    let k = packed input image w in
+    let a = accepted_now input image behind k reads.most in
+    never_both (image ++ behind) (parts input image k) (again input image k).program (length image) rule a fails
 
 -- ---- what is resumed
 
@@ -145,9 +175,9 @@ module _ (first : Meaning → Opening) (m : Meaning) where
   reply_same : (h : History) (x : Result (Option Command) LineFault) → reply_of by_tree m h x ≡ reply_of (by_tree_from first) m h x
   reply_same h (Ok None) = refl
   reply_same h (Ok (Some c)) = refl
-  reply_same h (Err Line) = refl
-  reply_same h (Err Number) = refl
-  reply_same h (Err Memory) = refl
+  reply_same h (Err fault.Line) = refl
+  reply_same h (Err fault.Number) = refl
+  reply_same h (Err fault.Memory) = refl
 
   next_same : (h : History) (x : Result (Option Command) LineFault) → next_of by_tree m h x ≡ next_of (by_tree_from first) m h x
   next_same h (Ok None) = refl
@@ -161,32 +191,77 @@ module _ (first : Meaning → Opening) (m : Meaning) where
       ∙ ap (λ g. option_to_list (reply_of (by_tree_from first) m h (reading line)) ++ pieces_from (script_of by_tree m) g lines) (next_same h (reading line))
       ∙ ap (λ ps. option_to_list (reply_of (by_tree_from first) m h (reading line)) ++ ps) (pieces_same lines (next_of (by_tree_from first) m h (reading line)))
 
+-- the lines behind an image that was written
+module _ (input image behind : List ℕ) (k : Packed input image) where
+  abbrev p : ImageParts
+  p = parts input image k
+
+  abbrev m : Meaning
+  m = meaning k.named
+
+  abbrev before : List (List ℕ)
+  before = (cut_of input).script
+
+  abbrev go : GoesOnFrom k.syntax k.named before (lines_of behind)
+  go = program_goes_on_law (cut_of input).text k.syntax k.named before (lines_of behind) k.judged (valid (cut_of input).text k.syntax k.named k.judged)
+
+  abbrev n : Meaning
+  n = meaning go.read.program
+
+  abbrev behind_programs : Programs input
+  behind_programs = record { syntax = k.syntax; named = k.named; judged = k.judged; read = go.read }
+
+  -- the image at the front is that one, and the program too; and the lines begin behind it
+  on_packed : (P : NamedProgram → ImageParts → List ℕ → Type 0) {g : NamedProgram} {q : ImageParts} {len : ℕ} → IsAccepted (image ++ behind) q g len → P g q (drop len (image ++ behind))
+      → P go.read.program p behind
+  on_packed P {g} {q} {len} a there =
+      let (same, far) = one_form (image ++ behind) p q (length image) len (formed input image k behind) a.form in
+      let own : Judged (canonical k.syntax) (Accepted a.text.syntax g) = subst (λ (x : ImageParts). Judged x.text (Accepted a.text.syntax g)) (sym same) a.text.judged in
+      let one : go.read.program ≡ g = (one_program (canonical k.syntax) go.read.text a.text.syntax go.read.program g go.read.judged own).0 in
+      let rest : drop len (image ++ behind) ≡ behind = ap (λ (l : ℕ). drop l (image ++ behind)) (sym far) ∙ drop-append_seam image behind in
+      subst (λ (b : List ℕ). P go.read.program p b) rest
+      (subst (λ (x : ImageParts). P go.read.program x (drop len (image ++ behind))) (sym same) (subst (λ (x : NamedProgram). P x q (drop len (image ++ behind))) (sym one) there))
+
+  -- the script goes on behind it
+  goes_on : concat (pieces_from (script_of by_tree n) (begun (opening_in go.read.program.shape p)) (lines_of behind)) ≡ concat (replies_on n (all_dropped (left_by n before)) (lines_of behind))
+  goes_on =
+      let taken : opening_in go.read.program.shape p ≡ taken_up m (left_by m before) = ap (λ (shape : List TypeShape). opening_in shape p) (sym go.read.alike.shape) ∙ opened input image k in
+      let first : Meaning → Opening = λ x. taken_up m (left_by m before) in
+      ap (λ (o : Opening). concat (pieces_from (script_of by_tree n) (begun o) (lines_of behind))) taken
+      ∙ ap concat (pieces_same first n (lines_of behind) (begun (taken_up m (left_by m before))))
+      ∙ ap concat (go.same first refl)
+
+  -- what was written is a first part of the replies, where answering stopped
+  in_part : (s : Stop) (kept : Resumed) (out : List ℕ) → AnswersBehind kept (Err s) (image ++ behind) out → IsContinuedInPart input behind out
+  in_part s kept out a =
+      let Stopped : NamedProgram → ImageParts → List ℕ → Type 0 = λ g q b. IsFirstPart (concat (pieces_from (script_of by_tree (meaning g)) (begun (opening_in g.shape q)) (lines_of b))) out in
+      let there : Stopped a.named a.image (drop a.len (image ++ behind)) =
+      first_part (script_of by_tree (meaning a.named)) (begun (opening_in a.named.shape a.image)) (kept.leaves (meaning a.named)) (kept.breaks (meaning a.named)) s
+      (lines_of (drop a.len (image ++ behind))) out a.answered in
+      record { programs = behind_programs; replies = subst (λ (whole : List ℕ). IsFirstPart whole out) goes_on (on_packed Stopped a.accepted there) }
+
 pub resumed_law : ResumedLaw
 resumed_law input image behind out w (old, new, left, (reads, a)) =
     let k = packed input image w in
-    let p = parts input image k in
-    let m = meaning k.named in
-    let before = (cut_of input).script in
-    let go = program_goes_on_law (cut_of input).text k.syntax k.named before (lines_of behind) k.judged (valid (cut_of input).text k.syntax k.named k.judged) in
-    let read = go.read in
-    let n = meaning read.program in
-    -- the image is that one, and the program too
-    let (same, far) = one_form (image ++ behind) p a.image (length image) a.len (formed input image k behind) a.accepted.form in
-    let own : Judged (canonical k.syntax) (Accepted a.accepted.text.syntax a.named) = subst (λ (q : ImageParts). Judged q.text (Accepted a.accepted.text.syntax a.named)) (sym same) a.accepted.text.judged in
-    let one : read.program ≡ a.named = (one_program (canonical k.syntax) read.text a.accepted.text.syntax read.program a.named read.judged own).0 in
-    -- so are the lines, and the opening
     let Answers : NamedProgram → ImageParts → List ℕ → Type 0 = λ g q b. out ≡ concat (pieces_from (script_of by_tree (meaning g)) (begun (opening_in g.shape q)) (lines_of b)) in
-    let there : Answers a.named a.image (drop a.len (image ++ behind)) = a.answered.0 in
-    let here : Answers read.program p behind =
-    subst (λ (b : List ℕ). Answers read.program p b) (ap (λ (l : ℕ). drop l (image ++ behind)) (sym far) ∙ drop-append_seam image behind)
-    (subst (λ (q : ImageParts). Answers read.program q (drop a.len (image ++ behind))) (sym same) (subst (λ (g : NamedProgram). Answers g a.image (drop a.len (image ++ behind))) (sym one) there)) in
-    let opening : opening_in read.program.shape p ≡ taken_up m (left_by m before) = ap (λ (shape : List TypeShape). opening_in shape p) (sym read.alike.shape) ∙ opened input image k in
-    -- and the script goes on
-    let first : Meaning → Opening = λ x. taken_up m (left_by m before) in
-    record {
-      programs = record { syntax = k.syntax; named = k.named; judged = k.judged; read = read };
-      replies = here
-          ∙ ap (λ (o : Opening). concat (pieces_from (script_of by_tree n) (begun o) (lines_of behind))) opening
-          ∙ ap concat (pieces_same first n (lines_of behind) (begun (taken_up m (left_by m before))))
-          ∙ ap concat (go.same first refl);
-    }
+    record { programs = behind_programs input image behind k; replies = on_packed input image behind k Answers a.accepted a.answered.0 ∙ goes_on input image behind k }
+
+pub goes_on_law : GoesOnLaw
+goes_on_law Done input image behind out w most c = resumed_law input image behind out w c
+goes_on_law WriteFault input image behind out w most (old, new, left, (reads, c)) =
+    let k = packed input image w in
+    elim c [
+      | inl (rule, fails, written, kept) ↦ absurd (never_both (image ++ behind) (parts input image k) (again input image k).program (length image) rule (accepted_now input image behind k most) fails)
+      | inr a ↦ in_part input image behind k stop.Write (resumed_in old new) out a
+    ]
+goes_on_law Memory input image behind out w most (old, new, left, c) =
+    let k = packed input image w in
+    let nothing : out ≡ [] → IsContinuedInPart input behind out = λ none. record { programs = behind_programs input image behind k; replies = (_, ap (λ (o : List ℕ). o ++ _) (sym none)) } in
+    elim c [
+      | inl (untouched, reads) ↦ nothing untouched.0
+      | inr (reads, d) ↦ elim d [ inl untouched ↦ nothing untouched.0 | inr a ↦ in_part input image behind k stop.Memory (resumed_in old new) out a ]
+    ]
+goes_on_law ReadFault input image behind out w most (old, new, left, (untouched, reads)) = untouched.0
+goes_on_law Refused input image behind out w most c = never_refused_law input image behind out w c
+goes_on_law TooLong input image behind out w most (old, new, left, (untouched, much, rest)) = omega (arith, most, much)
+goes_on_law Usage input image behind out w most (old, new, left, c) = c

@@ -47,8 +47,10 @@ line_resumes Usage k rule input out same fails w = absurd w
 -- ---- the script
 
 -- the lines behind an image were answered so, from its opening on
-pub behind : (k : Resumed) (r : Result (Unit {0}) Stop) (input out : List ℕ) (p : ImageParts) (program : Program) (len : ℕ) (o : Opening) {script : List ℕ} → script ≡ drop len input → IsAccepted input p (program_of program) len
-    → o ≡ opening_in program.shape p → AnswersText (script_of by_tree (meaning_of program)) (begun o) (k.leaves (meaning_of program)) (k.breaks (meaning_of program)) r (lines_of script) out → AnswersBehind k r input out
+pub behind : (k : Resumed) (r : Result (Unit {0}) Stop) (input out : List ℕ) (p : ImageParts) (program : Program) (len : ℕ) (o : Opening)
+    {script : List ℕ} → script ≡ drop len input → IsAccepted input p (program_of program) len
+    → o ≡ opening_in program.shape p → AnswersText (script_of by_tree (meaning_of program)) (begun o) (k.leaves (meaning_of program))
+    (k.breaks (meaning_of program)) r (lines_of script) out → AnswersBehind k r input out
 behind k r input out p program len o {script} rest accepted same w =
     let m = meaning_of program in
     let here = subst (λ (o : Opening). AnswersText (script_of by_tree m) (begun o) (k.leaves m) (k.breaks m) r (lines_of script) out) same w in
@@ -80,14 +82,16 @@ resumes_whole = record { read = λ k input out w. w; long = λ k input out w. w;
 
 module _ (Comes : Status → Resumed → (input out : List ℕ) → Type 0) where
   -- reading stopped
-  stopped : (k : Resumed) (s : Stop) (c : InputState) (input : List ℕ) (left : Option (List ℕ)) (lines : List (List ℕ)) → k.untouched → (s ≡ stop.Write → ⊥) → GivesUntil s fresh (Some input) c left lines → bytes_read c ≤ MOST_INPUT
+  stopped : (k : Resumed) (s : Stop) (c : InputState) (input : List ℕ) (left : Option (List ℕ)) (lines : List (List ℕ)) → k.untouched
+      → (s ≡ stop.Write → ⊥) → GivesUntil s fresh (Some input) c left lines → bytes_read c ≤ MOST_INPUT
       → WholeRow Comes (status_of s) k input left []
   stopped k stop.Read c input left lines same unwritten g most = ((refl, same), some_read c input left lines g.0 most)
   stopped k stop.TooLong c input left lines same unwritten g most = let long = long_row (λ o. Unit {0}) c input left lines g.0 g.1 tt in ((refl, same), long.0, long.1)
   stopped k stop.Write c input left lines same unwritten g most = absurd (unwritten refl)
   stopped k stop.Memory c input left lines same unwritten g most = inl ((refl, same), some_read c input left lines g.0 most)
 
-  pub unread : (k : Resumed) (s : Stop) (status : Status) (a c : InputState) (left left' sink : Option (List ℕ)) (lines : List (List ℕ)) → k.untouched → status ≡ status_of s → a ≡ fresh → (s ≡ stop.Write → ⊥) → GivesUntil s a left c left' lines
+  pub unread : (k : Resumed) (s : Stop) (status : Status) (a c : InputState) (left left' sink : Option (List ℕ)) (lines : List (List ℕ)) → k.untouched
+      → status ≡ status_of s → a ≡ fresh → (s ≡ stop.Write → ⊥) → GivesUntil s a left c left' lines
       → bytes_read c ≤ MOST_INPUT → IfSome left (λ input. (out : List ℕ) × Appends sink sink out × WholeRow Comes status k input left' out)
   unread k s status a c None left' sink lines same is new unwritten g most = tt
   unread k s status a c (Some input) left' sink lines same is new unwritten g most = (

@@ -10,7 +10,8 @@ use Rattle.pst_script.specs.declared.reply.Refusal.{Refusal}
 use Rattle.pst_script.specs.Commands.{reading}
 use Rattle.pst_history.specs.declared.history.Run.{Run}
 use Rattle.pst_history.specs.Meaning.{Meaning}
-use Rattle.pst_history.specs.History.{History, opening, with_run, with_version, opened, closed, call_of, changed, next_run, run_at, unless, refusal, after, closed_run, end_of, parent_of, called_more, granted_more, dropped_run}
+use Rattle.pst_history.specs.History.{History, opening, with_run, with_version, opened, closed, call_of, changed, next_run, run_at, unless, refusal, after}
+use Rattle.pst_history.specs.History.{closed_run, end_of, parent_of, called_more, granted_more, dropped_run}
 use Rattle.pst_cli_scripts.specs.Pieces.{state_after}
 use Rattle.pst_cli_scripts.specs.Script.{by_tree, next_of, script_of}
 use Rattle.pst_cli_scripts.specs.Kept.{first_history, history_after}

@@ -61,7 +61,8 @@ module _ (shape : List TypeShape) (p : ImageParts) (s : Stored) (is : IsRebuilt 
   opens m e r = opens_law m s p.next_run.0 k r.run_low is.left.named is.left.versions is.forks is.runs (is.shape_is ∙ e) is.left.counts
 
 -- an engine takes it up
-pub opens_in : (m : Meaning) (shape : List TypeShape) (p : ImageParts) (o : Option Stored) (next : RunNo) → shape ≡ m.shape → IsInRange p → next ≡ p.next_run → IsSomeAnd o (IsRebuilt shape p) → IfSome o IsStore
+pub opens_in : (m : Meaning) (shape : List TypeShape) (p : ImageParts) (o : Option Stored) (next : RunNo) → shape ≡ m.shape → IsInRange p
+    → next ≡ p.next_run → IsSomeAnd o (IsRebuilt shape p) → IfSome o IsStore
     → IsOpeningHeap m (state_in o) next.0
 opens_in m shape p None next e r n is k = absurd is
 opens_in m shape p (Some s) next e r n is k = subst (λ (x : RunNo). IsOpeningHeap m (state_of s) x.0) (sym n) (opens shape p s is k m e r)

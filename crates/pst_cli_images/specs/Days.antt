@@ -1,5 +1,6 @@
 -- Images day after day: each is that of the image before it, with another script behind it.
 use Rattle.std.specs.Prelude.{◌≡◌, ℕ, List, ◌++◌, length, Option}
+use Rattle.std.specs.List.{concat}
 use Rattle.pst_typing.specs.Declarations.{NamedProgram}
 use Rattle.pst_front.specs.Pages.{routines_in}
 use Rattle.pst_io.specs.Text.{lines_of}
@@ -14,12 +15,12 @@ use Rattle.pst_cli_scripts.specs.Script.{by_tree, script_of}
 use Rattle.pst_store_meaning.specs.Store.{Stored}
 use Rattle.pst_image_form.specs.declared.parts.ImageParts.{ImageParts}
 use Rattle.pst_history_laws.specs.TakenUp.{taken_up, all_dropped, NoneOpen}
-use Rattle.pst_history_laws.specs.Openings.{left_by}
+use Rattle.pst_history_laws.specs.Openings.{left_by, replies_on}
 use Rattle.pst_image_unpack.specs.Unpacked.{IsAccepted}
 use Rattle.pst_cli_images.specs.Opening.{opening_in}
 use Rattle.pst_cli_images.specs.Resuming.{resumed_in}
 use Rattle.pst_cli_images.specs.Repacking.{RepackRow}
-use Rattle.pst_cli_images.specs.Repack.{IsPacked, HasShortText, Programs}
+use Rattle.pst_cli_images.specs.Repack.{IsPacked, IsResumed, ComesOf, HasShortText, Programs}
 
 -- what comes of an input that is an image with a script behind it, to be carried out and packed again, by the status
 abbrev pub ComesOfRepacking : Status → (input out : List ℕ) → Type 0
@@ -61,3 +62,12 @@ RepackedKeepsLaw = (first : List ℕ) (named : NamedProgram) (h : History) (behi
 -- an image that keeps a history is never refused where it is to be packed again: what it keeps has counted few enough
 abbrev pub NeverRefusedAgainLaw : Type 0
 NeverRefusedAgainLaw = (first : List ℕ) (named : NamedProgram) (h : History) (behind out : List ℕ) → KeepsHistory first named h → ComesOfRepacking Refused (first ++ behind) out → ⊥
+
+-- what is written behind an image that keeps a history are the replies on that history
+abbrev pub ResumedBehindLaw : Type 0
+ResumedBehindLaw = (first : List ℕ) (named : NamedProgram) (h : History) (behind out : List ℕ) → KeepsHistory first named h → IsResumed (first ++ behind) out
+    → out ≡ concat (replies_on (direct (routines_in named)) h (lines_of behind))
+
+-- such an image is never refused where a script is to be answered behind it
+abbrev pub NeverRefusedBehindLaw : Type 0
+NeverRefusedBehindLaw = (first : List ℕ) (named : NamedProgram) (h : History) (behind out : List ℕ) → KeepsHistory first named h → ComesOf Refused (first ++ behind) out → ⊥

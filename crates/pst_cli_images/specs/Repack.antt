@@ -1,5 +1,5 @@
 -- The image of a script, and another script behind it.
-use Rattle.std.specs.Prelude.{◌≡◌, ℕ, ◌<◌, List, ◌++◌, length, Option}
+use Rattle.std.specs.Prelude.{◌≡◌, ℕ, ◌<◌, ◌≤◌, List, [], ◌++◌, length, Option}
 use Rattle.std.specs.List.{concat}
 use Rattle.pst_grammar.specs.Syntax.{ProgramText}
 use Rattle.pst_typing.specs.Declarations.{NamedProgram}
@@ -9,7 +9,7 @@ use Rattle.pst_front.specs.Pages.{routines_in}
 use Rattle.pst_io.specs.Text.{lines_of}
 use Rattle.pst_cli_words.specs.declared.job.Job.TheVariants.{Run}
 use Rattle.pst_cli_words.specs.declared.status.Status.{Status}
-use Rattle.pst_cli_words.specs.declared.status.Status.TheVariants.{Done, Refused}
+use Rattle.pst_cli_words.specs.declared.status.Status.TheVariants.{Done, ReadFault, WriteFault, Usage, Refused, TooLong, Memory}
 use Rattle.pst_history.specs.Direct.{direct}
 use Rattle.pst_cli_scripts.specs.Input.{cut_of}
 use Rattle.pst_cli_serving.specs.Held.{kept_in}
@@ -60,15 +60,44 @@ pub record IsAcceptedBefore (input image behind : List ℕ) : Type 0 where
       let m = direct (routines_in programs.named) in
       opening_in programs.read.program.shape parts ≡ taken_up m (left_by m (cut_of input).script)
 
--- What is written are the replies to the script behind, under the program read again, after the script of the input, of which the open
--- runs are dropped.
+-- the replies to the script behind, under the program read again, after the script of the input, of which the open runs are dropped
+abbrev pub replies_after : (input : List ℕ) → Programs input → (behind : List ℕ) → List ℕ
+replies_after input programs behind =
+    let n = direct (routines_in programs.read.program) in
+    concat (replies_on n (all_dropped (left_by n (cut_of input).script)) (lines_of behind))
+
+-- What is written are these replies.
 pub record IsContinued (input behind out : List ℕ) : Type 0 where
   pub programs : Programs input
-  pub replies :
-      let n = direct (routines_in programs.read.program) in
-      out ≡ concat (replies_on n (all_dropped (left_by n (cut_of input).script)) (lines_of behind))
+  pub replies : out ≡ replies_after input programs behind
+
+-- bytes are a first part of others
+abbrev pub IsFirstPart : (whole out : List ℕ) → Type 0
+IsFirstPart whole out = (rest : List ℕ) × (whole ≡ out ++ rest)
+
+-- What is written is a first part of them.
+pub record IsContinuedInPart (input behind out : List ℕ) : Type 0 where
+  pub programs : Programs input
+  pub replies : IsFirstPart (replies_after input programs behind) out
+
+-- What is written behind an image, by the status: all of these replies; a first part of them, where a write failed or memory was wanting;
+-- nothing where a read failed; and no other status comes.
+abbrev pub Continues : Status → (input behind out : List ℕ) → Type 0
+Continues Done input behind out = IsContinued input behind out
+Continues WriteFault input behind out = IsContinuedInPart input behind out
+Continues Memory input behind out = IsContinuedInPart input behind out
+Continues ReadFault input behind out = out ≡ []
+Continues Refused input behind out = ⊥
+Continues TooLong input behind out = ⊥
+Continues Usage input behind out = ⊥
 
 -- ---- the laws
+
+-- For each input of which the image was written, and each script such that both have at most 67,108,864 bytes together: what is written
+-- behind the image are the replies that the script has behind the one that was packed, and the image is never refused.
+abbrev pub GoesOnLaw : Type 0
+GoesOnLaw = (status : Status) (input image behind out : List ℕ) → IsPacked input image → length (image ++ behind) ≤ 67108864 → ComesOf status (image ++ behind) out
+    → Continues status input behind out
 
 -- an image that was written is accepted, with any bytes behind it
 abbrev pub PackedIsAcceptedLaw : Type 0
@@ -80,4 +109,4 @@ ResumedLaw = (input image behind out : List ℕ) → IsPacked input image → Is
 
 -- such an image is never refused
 abbrev pub NeverRefusedLaw : Type 0
-NeverRefusedLaw = (input image behind out : List ℕ) → IsPacked input image → HasShortText input → ComesOf Refused (image ++ behind) out → ⊥
+NeverRefusedLaw = (input image behind out : List ℕ) → IsPacked input image → ComesOf Refused (image ++ behind) out → ⊥

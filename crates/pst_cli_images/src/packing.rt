@@ -22,7 +22,7 @@ use pst_cli_serving::{Running, refuse, status_of};
 use pst_cli_words::Status;
 use pst_front::{NoProgram, canonical_program};
 use pst_image_pack::pack;
-use pst_io::{Lines, MOST_INPUT, Sink, Source};
+use pst_io::{Lines, Sink, Source};
 use pst_order::Walked;
 use pst_program::Program;
 use pst_store::StoreOf;
@@ -60,9 +60,10 @@ fn image_of<S: Source, O: Walked + Drop, N: Listed>(
     requires empty { store.old ≡ None }
     requires open { IsOpen lines.old (S.left source.old) }
     requires near { IsNear lines.old.input }
-    requires within_old { bytes_read lines.old.input ≤ MOST_INPUT }
+    requires within_old { bytes_read lines.old.input ≤ lines.old.input.most }
     ensures found { ImagesScript store.old store.new (meaning_of program) text.now result S.left lines.old source.old lines.new source.new }
-    ensures within { bytes_read lines.new.input ≤ MOST_INPUT }
+    ensures within { bytes_read lines.new.input ≤ lines.new.input.most }
+    ensures limit { lines.new.input.most ≡ lines.old.input.most }
     ensures later { S.faults source.old ≤ S.faults source.new }
     ensures read { result ≡ Err Stop.Read → Rose (S.faults source.old) (S.faults source.new) }
     ensures not_write { result ≡ Err Stop.Write → ⊥ }
@@ -92,9 +93,10 @@ fn pack_text<S: Source, K: Sink, O: Walked + Drop, N: Listed>(
     requires short { length text.items + 1 < 2 ^ 32 }
     requires open { IsOpen lines.old (S.left source.old) }
     requires near { IsNear lines.old.input }
-    requires within_old { bytes_read lines.old.input ≤ MOST_INPUT }
+    requires within_old { bytes_read lines.old.input ≤ lines.old.input.most }
     ensures packed { HasTaken K.taken sink.old sink.new (PacksScript result store.old store.new S.left lines.old source.old lines.new source.new text.items) }
-    ensures within { bytes_read lines.new.input ≤ MOST_INPUT }
+    ensures within { bytes_read lines.new.input ≤ lines.new.input.most }
+    ensures limit { lines.new.input.most ≡ lines.old.input.most }
     ensures later { S.faults source.old ≤ S.faults source.new }
     ensures sink_later { K.faults sink.old ≤ K.faults sink.new }
     ensures read { result ≡ Status.ReadFault → Rose (S.faults source.old) (S.faults source.new) }

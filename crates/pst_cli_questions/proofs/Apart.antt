@@ -76,7 +76,8 @@ module _ (items : List tree.Item) (typed : NamedProgram) (types : HasDeclaredTyp
 
   names_plain : All (λ x. All (λ byte. byte ≢ colon) x) (map (λ t. t.name) typed.names)
   names_plain = subst (λ (xs : List (List ℕ)). All (λ x. All (λ byte. byte ≢ colon) x) xs) (sym types.names)
-      (All-cons (λ x. All (λ byte. byte ≢ colon) x) root_type_name (record_names items) (no_colon root_type_name refl) (All-weaker IsApart (λ x. All (λ byte. byte ≢ colon) x) (λ x a. a.plain) (record_names items) apart))
+      (All-cons (λ x. All (λ byte. byte ≢ colon) x) root_type_name (record_names items) (no_colon root_type_name refl)
+      (All-weaker IsApart (λ x. All (λ byte. byte ≢ colon) x) (λ x a. a.plain) (record_names items) apart))
 
   within : (ty : TypeNo) → ty.0 < length typed.shape → ty.0 < length (map (λ t. t.name) typed.names)
   within ty below = omega (arith, types.shape, length-map typed.names (λ t. t.name))

@@ -26,7 +26,8 @@ use Rattle.pst_cli_serving.specs.Rows.{IsWithin, ReadsAll}
 use Rattle.pst_cli_serving.specs.Serving.{Refuses, status_of}
 use Rattle.pst_cli_scripts.specs.Sessions.{StopsAtReply}
 use Rattle.pst_cli_questions.specs.Asking.{StopsInFault, BreaksAt, CarriedTo, StopsInScript, LacksAnswer, OverRow, GivesAll, StopsAsking, StopsText, Over}
-use Rattle.pst_cli_serving.proofs.RowLemmas.{fresh, stops_front, LongFront, long_by, long_row, lacks_text, lacks_program, cuts, readable, reads_up_to, told_text, refused_alike, of_text, whole_input, was_going, after_program}
+use Rattle.pst_cli_serving.proofs.RowLemmas.{fresh, stops_front, LongFront, long_by, long_row, lacks_text, lacks_program, cuts, readable, reads_up_to}
+use Rattle.pst_cli_serving.proofs.RowLemmas.{told_text, refused_alike, of_text, whole_input, was_going, after_program}
 use Rattle.pst_cli_serving.proofs.Serving.{one_whole}
 
 -- ---- what comes of the text of a program
@@ -70,7 +71,8 @@ module _ (k : Kept) (whole part : List (List ℕ) → Verdict → List ℕ → T
 -- ---- rows
 
 -- reading the text of the program stopped
-stopped : (k : Kept) (whole part : List (List ℕ) → Verdict → List ℕ → Type 0) (s : Stop) (c : InputState) (input : List ℕ) (left : Option (List ℕ)) (lines : List (List ℕ)) → k.untouched → (s ≡ stop.Write → ⊥)
+stopped : (k : Kept) (whole part : List (List ℕ) → Verdict → List ℕ → Type 0) (s : Stop) (c : InputState) (input : List ℕ) (left : Option (List ℕ))
+    (lines : List (List ℕ)) → k.untouched → (s ≡ stop.Write → ⊥)
     → GivesUntil s fresh (Some input) c left lines → cut lines ≡ None → bytes_read c ≤ MOST_INPUT → OverRow (status_of s) k whole part input left []
 stopped k whole part stop.Read c input left lines same unwritten g none most = (refl, stops_front (CarriedTo k) c input left lines g.0 g.1 most (subst (CarriedTo k) (sym none) same))
 stopped k whole part stop.TooLong c input left lines same unwritten g none most =
@@ -81,7 +83,8 @@ stopped k whole part stop.Memory c input left lines same unwritten (g, inl off) 
 stopped k whole part stop.Memory c input left lines same unwritten (g, inr near) none most = (refl, inr (inl (lacks_text k c input left lines same g near none most)))
 
 -- nothing was written
-pub text_unread : (k : Kept) (whole part : List (List ℕ) → Verdict → List ℕ → Type 0) (s : Stop) (status : Status) (a c : InputState) (left left' sink sink' : Option (List ℕ)) (lines : List (List ℕ)) → k.untouched → status ≡ status_of s → a ≡ fresh
+pub text_unread : (k : Kept) (whole part : List (List ℕ) → Verdict → List ℕ → Type 0) (s : Stop) (status : Status) (a c : InputState)
+    (left left' sink sink' : Option (List ℕ)) (lines : List (List ℕ)) → k.untouched → status ≡ status_of s → a ≡ fresh
     → sink' ≡ sink → (s ≡ stop.Write → ⊥) → GivesUntil s a left c left' lines → cut lines ≡ None → bytes_read c ≤ MOST_INPUT
     → IfSome left (λ input. (out : List ℕ) × Appends sink sink' out × OverRow status k whole part input left' out)
 text_unread k whole part s status a c None left' sink sink' lines same is new still unwritten g none most = tt
@@ -92,7 +95,8 @@ text_unread k whole part s status a c (Some input) left' sink sink' lines same i
       (stopped k whole part s c input left' lines same unwritten (subst (λ v. GivesUntil s v (Some input) c left' lines) new g) none most),
 )
 
-module _ (k : Kept) (whole part : List (List ℕ) → Verdict → List ℕ → Type 0) (t u : InputState) (input rest text : List ℕ) (left : Option (List ℕ)) (r : ReadsText fresh (Some input) t (Some rest) text)
+module _ (k : Kept) (whole part : List (List ℕ) → Verdict → List ℕ → Type 0) (t u : InputState) (input rest text : List ℕ) (left : Option (List ℕ))
+    (r : ReadsText fresh (Some input) t (Some rest) text)
     (seen : EndsWhereSeen t (Some rest)) (most : bytes_read t ≤ MOST_INPUT) (most' : bytes_read u ≤ MOST_INPUT) where
   same_text : (P : Verdict → Type 0) → OfVerdict text P → OfVerdict (cut_of input).text P
   same_text P w = of_text text (cut_of input).text P (told_text input text r.separator (pending t (Some rest)) r.told) w
@@ -141,7 +145,8 @@ module _ (k : Kept) (whole part : List (List ℕ) → Verdict → List ℕ → T
   asked_row Memory out (none, w) = (none, lacks w)
   asked_row Usage out never = absurd never
 
-asked : (k : Kept) (whole part : List (List ℕ) → Verdict → List ℕ → Type 0) (status : Status) (t u : InputState) (input text : List ℕ) (mid left sink sink' : Option (List ℕ)) → ReadsText fresh (Some input) t mid text → EndsWhereSeen t mid
+asked : (k : Kept) (whole part : List (List ℕ) → Verdict → List ℕ → Type 0) (status : Status) (t u : InputState) (input text : List ℕ)
+    (mid left sink sink' : Option (List ℕ)) → ReadsText fresh (Some input) t mid text → EndsWhereSeen t mid
     → bytes_read t ≤ MOST_INPUT → bytes_read u ≤ MOST_INPUT → (out : List ℕ) × Appends sink sink' out × Over status k whole part t mid u left text out
     → (out : List ℕ) × Appends sink sink' out × OverRow status k whole part input left out
 asked k whole part status t u input text None left sink sink' r seen most most' s = absurd r.told
@@ -149,7 +154,8 @@ asked k whole part status t u input text (Some rest) left sink sink' r seen most
     (out, written, asked_row k whole part t u input rest text left r seen most most' status out w)
 
 -- the script was carried out and the question answered
-pub text_asked : (k : Kept) (whole part : List (List ℕ) → Verdict → List ℕ → Type 0) (status : Status) (a t u : InputState) (left mid left' sink sink' : Option (List ℕ)) (text : List ℕ) → a ≡ fresh → ReadsText a left t mid text
+pub text_asked : (k : Kept) (whole part : List (List ℕ) → Verdict → List ℕ → Type 0) (status : Status) (a t u : InputState)
+    (left mid left' sink sink' : Option (List ℕ)) (text : List ℕ) → a ≡ fresh → ReadsText a left t mid text
     → EndsWhereSeen t mid → bytes_read t ≤ MOST_INPUT → bytes_read u ≤ MOST_INPUT → (out : List ℕ) × Appends sink sink' out × Over status k whole part t mid u left' text out
     → IfSome left (λ input. (out : List ℕ) × Appends sink sink' out × OverRow status k whole part input left' out)
 text_asked k whole part status a t u None mid left' sink sink' text new r seen most most' s = tt

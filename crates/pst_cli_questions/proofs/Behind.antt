@@ -2,7 +2,10 @@
 use Rattle.std.specs.Prelude.{ℤ, List, [], ◌∷◌, Option, Some, None}
 use Rattle.std.specs.List.{AllByRecursion}
 use Rattle.pst_grammar.specs.Lexemes.{Lexeme}
-use Rattle.pst_grammar.specs.Spelling.{Expr, Number, Null, Name, Parens, Field, Indexed, Negate, Not, Binary, spelled, each, after_comma, listed, Statement, New, Call, Result, Write, Print, If, Either, While, Return, Block, Empty, Then, spelled_statement, spelled_block, TypeText, Int, Named, spelled_type, spelled_count, FieldText, Val, Ptr, spelled_field, Parameter, spelled_parameter, Local, spelled_local, spelled_result, Opening, First, Second, spelled_opening}
+use Rattle.pst_grammar.specs.Spelling.{Expr, Number, Null, Name, Parens, Field, Indexed, Negate, Not, Binary, spelled, each, after_comma, listed, Statement}
+use Rattle.pst_grammar.specs.Spelling.{New, Call, Result, Write, Print, If, Either, While, Return, Block, Empty, Then, spelled_statement, spelled_block}
+use Rattle.pst_grammar.specs.Spelling.{TypeText, Int, Named, spelled_type, spelled_count, FieldText, Val, Ptr, spelled_field, Parameter, spelled_parameter}
+use Rattle.pst_grammar.specs.Spelling.{Local, spelled_local, spelled_result, Opening, First, Second, spelled_opening}
 
 module _ (P : Lexeme → Type 0) where
   -- it holds of each
@@ -11,11 +14,13 @@ module _ (P : Lexeme → Type 0) where
 
   -- ---- lists of parts
 
-  behind_each : {A : Type 0} (spell : A → List Lexeme → List Lexeme) → ((a : A) (rest : List Lexeme) → Are (spell a rest) → Are rest) → (l : List A) (rest : List Lexeme) → Are (each spell l rest) → Are rest
+  behind_each : {A : Type 0} (spell : A → List Lexeme → List Lexeme) → ((a : A) (rest : List Lexeme) → Are (spell a rest) → Are rest)
+      → (l : List A) (rest : List Lexeme) → Are (each spell l rest) → Are rest
   behind_each spell one [] rest all = all
   behind_each spell one (a ∷ l) rest all = behind_each spell one l rest (one a (each spell l rest) all)
 
-  behind_listed : {A : Type 0} (spell : A → List Lexeme → List Lexeme) → ((a : A) (rest : List Lexeme) → Are (spell a rest) → Are rest) → (l : List A) (rest : List Lexeme) → Are (listed spell l rest) → Are rest
+  behind_listed : {A : Type 0} (spell : A → List Lexeme → List Lexeme) → ((a : A) (rest : List Lexeme) → Are (spell a rest) → Are rest)
+      → (l : List A) (rest : List Lexeme) → Are (listed spell l rest) → Are rest
   behind_listed spell one [] rest all = all.1
   behind_listed spell one (a ∷ l) rest all = (behind_each (after_comma spell) (λ b more all. one b more all.1) l _ (one a _ all)).1
 

@@ -19,7 +19,8 @@ use Rattle.pst_cli_scripts.specs.Reading.{GivesUntil, stop_of}
 -- ---- the lines
 
 -- reading stopped, and all that was handed out is carried out
-pub until_carried : {A : Type 0} (m : Answering A) (h : A) (leaves breaks : A → Type 0) (fault : LinesFault) (a : InputState) (left : Option (List ℕ)) (c : InputState) (left'' : Option (List ℕ)) (given : List (List ℕ))
+pub until_carried : {A : Type 0} (m : Answering A) (h : A) (leaves breaks : A → Type 0) (fault : LinesFault) (a : InputState) (left : Option (List ℕ))
+    (c : InputState) (left'' : Option (List ℕ)) (given : List (List ℕ))
     → GivesUntil (stop_of fault) a left c left'' given → IsCutOff c → leaves (state_after m h given) → StopsCarrying m h leaves breaks (stop_of fault) a left c left'' given
 until_carried m h leaves breaks lines.Failed a left c left'' given g off kept = (g.0, off, kept)
 until_carried m h leaves breaks lines.TooLong a left c left'' given g off kept = (g.0, off, kept)
@@ -28,7 +29,8 @@ until_carried m h leaves breaks lines.Memory a left c left'' given g off kept = 
 -- ---- what is found
 
 -- carrying the script out stopped
-pub carrying_stopped : {T : Type 0} (rules : Rules) (leaves breaks : Meaning → T → History → Type 0) (old new : T) (m : Meaning) (s : Stop) (a b : InputState) (left left' : Option (List ℕ)) (lines : List (List ℕ))
+pub carrying_stopped : {T : Type 0} (rules : Rules) (leaves breaks : Meaning → T → History → Type 0) (old new : T) (m : Meaning) (s : Stop)
+    (a b : InputState) (left left' : Option (List ℕ)) (lines : List (List ℕ))
     → StopsCarrying (script_of rules m) (first_history rules m) (leaves m new) (breaks m new) s a left b left' lines
     → StopsAsking (new ≡ old) ((kept_by rules leaves breaks old new).leaves m) ((kept_by rules leaves breaks old new).breaks m) s a left b left'
 carrying_stopped rules leaves breaks old new m stop.Read a b left left' lines (g, off, kept) = (lines, g, off, kept)
@@ -39,11 +41,13 @@ carrying_stopped rules leaves breaks old new m stop.Memory a b left left' lines 
 
 module _ (k : Kept) (program : Program) (m : Meaning) (question : Question) (path : List ℕ) (a b : InputState) (left left' : Option (List ℕ)) where
   -- the fault of a call is handed on
-  pub found_stopped : (r : Result (List ℕ) Stop) (s t : Stop) → r ≡ Err t → t ≡ s → StopsAsking k.untouched (k.leaves m) (k.breaks m) s a left b left' → Finds k program m question path r a left b left'
+  pub found_stopped : (r : Result (List ℕ) Stop) (s t : Stop) → r ≡ Err t → t ≡ s → StopsAsking k.untouched (k.leaves m) (k.breaks m) s a left b left'
+      → Finds k program m question path r a left b left'
   found_stopped r s t is same w = subst (λ o. Finds k program m question path o a left b left') (sym (is ∙ ap (λ u. Err u) same)) w
 
   -- the answer was told of a program that is this one
-  pub answer_found : (told : Program) (lines : List (List ℕ)) (text : List ℕ) → told ≡ program → GivesAll a left b left' lines → k.leaves m lines → Tells told m (history_after by_tree m lines) question path text
+  pub answer_found : (told : Program) (lines : List (List ℕ)) (text : List ℕ) → told ≡ program → GivesAll a left b left' lines → k.leaves m lines
+      → Tells told m (history_after by_tree m lines) question path text
       → Finds k program m question path (Ok text) a left b left'
   answer_found told lines text same g kept tells = (lines, g, kept, subst (λ p. Tells p m (history_after by_tree m lines) question path text) same tells)
 

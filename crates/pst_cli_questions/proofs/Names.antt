@@ -1,5 +1,5 @@
 -- The names that a text declares are names.
-use Rattle.std.specs.Prelude.{ℕ, List, [], ◌∷◌, map, Option, Some, None}
+use Rattle.std.specs.Prelude.{ℕ, List, [], ◌∷◌, map}
 use Rattle.std.proofs.Common.{sym, subst}
 use Rattle.std.specs.List.{AllByRecursion}
 use Rattle.std.proofs.lemmas.List.Elements.{All-from_recursion}
@@ -8,10 +8,10 @@ use Rattle.pst_lex.specs.declared.types.TokenKind.{TokenKind}
 use Rattle.pst_lex.specs.declared.types.TokenKind.TheVariants as kind
 use Rattle.pst_lex.specs.declared.words.Mark.{Mark}
 use Rattle.pst_lex.specs.declared.words.Mark.TheVariants as mark
-use Rattle.pst_lex.specs.Words.{keyword_of, symbol_of, word_of}
+use Rattle.pst_lex.specs.Words.{word_of}
 use Rattle.pst_lex.specs.Lexing.{IsName, IsWord, LexedTo}
 use Rattle.pst_grammar.specs.Syntax as tree
-use Rattle.pst_grammar.specs.Lexemes.{Lexeme, Name, Number, Operator, Plain, Leading, Unknown, marked, marked_if, lexeme_in, lexemes}
+use Rattle.pst_grammar.specs.Lexemes.{Lexeme, Name, Number, Operator, Plain, Leading, marked, lexeme_in, lexemes}
 use Rattle.pst_grammar.specs.Spelling.{Item, Record, Root, Procedure, item, spelled_item, each}
 use Rattle.pst_cli_questions.specs.Accepted.{declared_name}
 use Rattle.pst_cli_questions.specs.Laws.{DeclaredAreNames}
@@ -26,7 +26,6 @@ IsNamed (Number v) = Unit {0}
 IsNamed (Operator o) = Unit {0}
 IsNamed (Plain s) = Unit {0}
 IsNamed (Leading l line) = Unit {0}
-IsNamed Unknown = Unit {0}
 
 abbrev AreNamed : List Lexeme → Type 0
 AreNamed ts = AllByRecursion IsNamed ts
@@ -35,15 +34,10 @@ mark_named : (line : ℕ) (m : Mark) → IsNamed (marked line m)
 mark_named line mark.Record = tt
 mark_named line m = tt
 
-mark_if_named : (line : ℕ) (m : Option Mark) → IsNamed (marked_if line m)
-mark_if_named line None = tt
-mark_if_named line (Some m) = mark_named line m
-
 lexeme_named : (line : ℕ) (k : TokenKind) → IsWord (word_of k) → IsNamed (lexeme_in line k)
 lexeme_named line (kind.Name x) word = word
 lexeme_named line (kind.Number v) word = tt
-lexeme_named line (kind.Keyword n) word = mark_if_named line (keyword_of n)
-lexeme_named line (kind.Symbol n) word = mark_if_named line (symbol_of n)
+lexeme_named line (kind.Mark m) word = mark_named line m
 
 lexemes_named : (End : List ℕ → ℕ → ℕ → Type 0) (text : List ℕ) (at line : ℕ) (ts : List Token) → LexedTo End text at line ts → AreNamed (lexemes ts)
 lexemes_named End text at line [] lexed = tt

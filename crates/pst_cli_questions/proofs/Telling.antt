@@ -44,7 +44,8 @@ before_end (y ∷ xs) (suc i) x e = let rest : i < length xs = before_end xs i x
 
 module _ {P R : Type 0} (s : State P R) (version : VersionNo) where
   -- no version has the number
-  pub none_there : (Is : List ℕ → Type 0) (out : List ℕ) → option_map (λ (row : VersionRow P). row.place) (slice_get s.versions version.0) ≡ None → out ≡ codes "refused version\n" → WhereThere s version Is out
+  pub none_there : (Is : List ℕ → Type 0) (out : List ℕ) → option_map (λ (row : VersionRow P). row.place) (slice_get s.versions version.0) ≡ None
+      → out ≡ codes "refused version\n" → WhereThere s version Is out
   none_there Is out none e = inl (past_end s.versions version.0 (none_mapped _ (slice_get s.versions version.0) none), e)
 
   -- the place of a version is that of its row
@@ -64,7 +65,8 @@ module _ {P R : Type 0} (s : State P R) (version : VersionNo) where
   place_has place known p = subst s.has p.same (known.places version.0 p.row p.found).has
 
   -- the dump at the place of a version is that of the version
-  pub dump_there : (names : List TypeEntry) (place : P) (out : List ℕ) → IsPlaced place → IsDump names (s.heap place) out → WhereThere s version (IsDump names (heap_from s.heap (slice_get s.versions version.0))) out
+  pub dump_there : (names : List TypeEntry) (place : P) (out : List ℕ) → IsPlaced place → IsDump names (s.heap place) out
+      → WhereThere s version (IsDump names (heap_from s.heap (slice_get s.versions version.0))) out
   dump_there names place out p is =
       let same : s.heap place ≡ heap_from s.heap (slice_get s.versions version.0) = ap s.heap (sym p.same) ∙ sym (ap (heap_from s.heap) p.found) in
       inr (before_end s.versions version.0 p.row p.found, subst (λ (heap : Heap). IsDump names heap out) same is)
@@ -83,7 +85,8 @@ module _ {P R : Type 0} (m : Meaning) (s : State P R) (h : History) (holds : Hol
   pub dump_told : (names : List TypeEntry) (version : VersionNo) (out : List ℕ) → WhereThere s version (IsDump names (heap_from s.heap (slice_get s.versions version.0))) out
       → TellsOf h version (IsDump names (heap_of m h version.0)) out
   dump_told names version out w =
-      there_told version (IsDump names (heap_from s.heap (slice_get s.versions version.0))) (IsDump names (heap_of m h version.0)) out (λ there is. subst (λ (heap : Heap). IsDump names heap out) (heap_at version.0 there) is) w
+      there_told version (IsDump names (heap_from s.heap (slice_get s.versions version.0))) (IsDump names (heap_of m h version.0)) out
+      (λ there is. subst (λ (heap : Heap). IsDump names heap out) (heap_at version.0 there) is) w
 
   same_parent : IsSoundHistory m h → (v : ℕ) → parent_in h v ≡ parent_of s.versions v
   same_parent sound zero = refl
@@ -123,15 +126,18 @@ module _ {P R : Type 0} (m : Meaning) (s : State P R) (h : History) (holds : Hol
   change_as law r r' same from out there (inl (w, first, e)) = inl (w, (law (version_count h) r r' same from there).0 w.0 first, e)
   change_as law r r' same from out there (inr (never, e)) = inr ((law (version_count h) r r' same from there).1 never, e)
 
-  pub change_told : VersionsThereDecide → IsSound s → IsSoundHistory m h → (path : List PathStep) (version : VersionNo) (out : List ℕ) → WhereThere s version (TellsChange (readings_of s path) version.0) out
+  pub change_told : VersionsThereDecide → IsSound s → IsSoundHistory m h → (path : List PathStep) (version : VersionNo) (out : List ℕ)
+      → WhereThere s version (TellsChange (readings_of s path) version.0) out
       → TellsOf h version (TellsChange (readings_in m h path) version.0) out
   change_told law sound history path version out w =
-      there_told version (TellsChange (readings_of s path) version.0) (TellsChange (readings_in m h path) version.0) out (λ there is. change_as law (readings_of s path) (readings_in m h path) (agree sound history path) version.0 out there is) w
+      there_told version (TellsChange (readings_of s path) version.0) (TellsChange (readings_in m h path) version.0) out
+      (λ there is. change_as law (readings_of s path) (readings_in m h path) (agree sound history path) version.0 out there is) w
 
 -- ---- the line of a change
 
 module _ {P R : Type 0} (s : State P R) (version : VersionNo) (path : List PathStep) where
-  pub none_changed : (out : List ℕ) → version.0 < length s.versions → NeverChanged (readings_of s path) version.0 → out ≡ codes "never\n" → WhereThere s version (TellsChange (readings_of s path) version.0) out
+  pub none_changed : (out : List ℕ) → version.0 < length s.versions → NeverChanged (readings_of s path) version.0 → out ≡ codes "never\n"
+      → WhereThere s version (TellsChange (readings_of s path) version.0) out
   none_changed out there never e = inr (there, inr (never, e))
 
   pub first_changed : (w : VersionNo) (out : List ℕ) → version.0 < length s.versions → IsFirstChange (readings_of s path) version.0 w.0 → out ≡ codes "changed " ++ decimal w.0 ++ codes "\n"
@@ -140,7 +146,8 @@ module _ {P R : Type 0} (s : State P R) (version : VersionNo) (path : List PathS
 
 -- ---- paths
 
-pub no_path : (program : Program) (m : Meaning) (h : History) (version : VersionNo) (path out : List ℕ) → None ≡ resolved program path → out ≡ codes "refused path\n" → Tells program m h (Changed version) path out
+pub no_path : (program : Program) (m : Meaning) (h : History) (version : VersionNo) (path out : List ℕ) → None ≡ resolved program path
+    → out ≡ codes "refused path\n" → Tells program m h (Changed version) path out
 no_path program m h version path out none e = subst (λ o. TellsPath m h version o out) none e
 
 pub path_told : (program : Program) (m : Meaning) (h : History) (version : VersionNo) (path out : List ℕ) (steps : List PathStep) → Some steps ≡ resolved program path

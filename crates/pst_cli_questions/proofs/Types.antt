@@ -70,7 +70,8 @@ record AreNoted (s : Scope) (items : List tree.Item) : Type 0 where
   pub new : AreNew s.types (record_names items)
   pub differ : AllPairs (λ x y. x ≢ y) (record_names items)
 
-one_more : (s : Scope) (x : List ℕ) (r : RecordType) (xs : List (List ℕ)) → is_named x s.types ≡ false → AreNew (s.types ++ (x, r) ∷ []) xs → AllPairs (λ x y. x ≢ y) xs → AreNew s.types (x ∷ xs) × AllPairs (λ x y. x ≢ y) (x ∷ xs)
+one_more : (s : Scope) (x : List ℕ) (r : RecordType) (xs : List (List ℕ)) → is_named x s.types ≡ false → AreNew (s.types ++ (x, r) ∷ []) xs
+    → AllPairs (λ x y. x ≢ y) xs → AreNew s.types (x ∷ xs) × AllPairs (λ x y. x ≢ y) (x ∷ xs)
 one_more s x r xs free new differ =
     let old = All-weaker (λ y. is_named y (s.types ++ (x, r) ∷ []) ≡ false) (λ y. is_named y s.types ≡ false) (λ y h. (not_last y x r s.types h).0) xs new in
     let others = All-weaker (λ y. is_named y (s.types ++ (x, r) ∷ []) ≡ false) (λ y. x ≢ y) (λ y h. (not_last y x r s.types h).1) xs new in

@@ -26,7 +26,8 @@ abbrev token : TokenKind → (from to : ℕ) → Token
 token k from to = record { kind = k; span = record { from = from; to = to }; line = 1 }
 
 abbrev tokens : List Token
-tokens = token (kind.Keyword 0) 0 6 ∷ token (kind.Name (codes "N")) 7 8 ∷ token (kind.Number (pos 1)) 9 10 ∷ token (kind.Symbol 0) 11 12 ∷ token (kind.Symbol 1) 13 14 ∷ []
+tokens = token (kind.Mark mark.Record) 0 6 ∷ token (kind.Name (codes "N")) 7 8 ∷ token (kind.Number (pos 1)) 9 10 ∷ token (kind.Mark mark.OpenBrace)
+    11 12 ∷ token (kind.Mark mark.CloseBrace) 13 14 ∷ []
 
 -- no keyword or symbol begins with `N`, `f` or `l`
 no_mark : (x : List ℕ) → (get_or x 0 0 ≡ 78) ⊎ ((get_or x 0 0 ≡ 102) ⊎ (get_or x 0 0 ≡ 108)) → (m : Mark) → x ≡ mark_text m → ⊥
@@ -70,9 +71,10 @@ language_is_name = record { starts = refl; all = refl; short = omega arith; no_k
 
 abbrev second_tokens : List Token
 second_tokens =
-    token (kind.Name (codes "language")) 0 8 ∷ token (kind.Number (pos 2)) 9 10 ∷ token (kind.Keyword 0) 11 17 ∷ token (kind.Name (codes "N")) 18 19
-    ∷ token (kind.Number (pos 1)) 20 21 ∷ token (kind.Symbol 0) 22 23 ∷ token (kind.Keyword 2) 24 27 ∷ token (kind.Name (codes "f")) 28 29 ∷ token (kind.Symbol 5) 29 30
-    ∷ token (kind.Name (codes "N")) 31 32 ∷ token (kind.Symbol 17) 33 34 ∷ token (kind.Number (pos 2)) 35 36 ∷ token (kind.Symbol 4) 36 37 ∷ token (kind.Symbol 1) 38 39 ∷ []
+    token (kind.Name (codes "language")) 0 8 ∷ token (kind.Number (pos 2)) 9 10 ∷ token (kind.Mark mark.Record) 11 17 ∷ token (kind.Name (codes "N")) 18 19
+    ∷ token (kind.Number (pos 1)) 20 21 ∷ token (kind.Mark mark.OpenBrace) 22 23 ∷ token (kind.Mark mark.Ptr) 24 27 ∷ token (kind.Name (codes "f")) 28 29 ∷ token (kind.Mark mark.Colon) 29 30
+    ∷ token (kind.Name (codes "N")) 31 32 ∷ token (kind.Mark mark.Star) 33 34 ∷ token (kind.Number (pos 2)) 35 36 ∷ token (kind.Mark mark.Semicolon)
+    36 37 ∷ token (kind.Mark mark.CloseBrace) 38 39 ∷ []
 
 abbrev SecondFrom : ℕ → List ℕ → (at : ℕ) → Type 0
 SecondFrom number text at = LexedTo (EndsAt 1) text at 1 (drop number second_tokens)

@@ -18,7 +18,7 @@ use pst_cli_scripts::{Session, Stop, read_text, reply_to, say};
 use pst_cli_serving::{Running, refuse, status_of};
 use pst_cli_words::{Question, Status};
 use pst_front::{NoProgram, program_of};
-use pst_io::{Lines, MOST_INPUT, Sink, Source};
+use pst_io::{Lines, Sink, Source};
 use pst_order::Order;
 use pst_program::Program;
 use pst_store::StoreOf;
@@ -41,7 +41,8 @@ pub fn carry_script<X: Session, S: Source>(
     requires near { IsNear lines.old.input }
     ensures carried { CarriesRest X.rules X.stands X.leaves X.breaks session.old held.old session.new held.new result S.left lines.old source.old lines.new source.new }
     ensures about { X.about session.new ≡ X.about session.old }
-    ensures within { bytes_read lines.new.input ≤ MOST_INPUT }
+    ensures within { bytes_read lines.new.input ≤ lines.new.input.most }
+    ensures limit { lines.new.input.most ≡ lines.old.input.most }
     ensures later { S.faults source.old ≤ S.faults source.new }
     ensures read { result ≡ Err Stop.Read → Rose (S.faults source.old) (S.faults source.new) }
     ensures not_write { result ≡ Err Stop.Write → ⊥ }
@@ -74,9 +75,10 @@ fn answer_to<S: Source, O: Order + Drop, N: FatNodes>(
     requires empty { store.old ≡ None }
     requires open { IsOpen lines.old (S.left source.old) }
     requires near { IsNear lines.old.input }
-    requires within_old { bytes_read lines.old.input ≤ MOST_INPUT }
+    requires within_old { bytes_read lines.old.input ≤ lines.old.input.most }
     ensures found { FindsInScript store.old store.new program question path.now result S.left lines.old source.old lines.new source.new }
-    ensures within { bytes_read lines.new.input ≤ MOST_INPUT }
+    ensures within { bytes_read lines.new.input ≤ lines.new.input.most }
+    ensures limit { lines.new.input.most ≡ lines.old.input.most }
     ensures later { S.faults source.old ≤ S.faults source.new }
     ensures read { result ≡ Err Stop.Read → Rose (S.faults source.old) (S.faults source.new) }
     ensures not_write { result ≡ Err Stop.Write → ⊥ }
@@ -108,9 +110,10 @@ fn inquire<S: Source, K: Sink, O: Order + Drop, N: FatNodes>(
     requires short { length text.items + 1 < 2 ^ 32 }
     requires open { IsOpen lines.old (S.left source.old) }
     requires near { IsNear lines.old.input }
-    requires within_old { bytes_read lines.old.input ≤ MOST_INPUT }
+    requires within_old { bytes_read lines.old.input ≤ lines.old.input.most }
     ensures asked { HasTaken K.taken sink.old sink.new (AsksScript result store.old store.new question path.now S.left lines.old source.old lines.new source.new text.items) }
-    ensures within { bytes_read lines.new.input ≤ MOST_INPUT }
+    ensures within { bytes_read lines.new.input ≤ lines.new.input.most }
+    ensures limit { lines.new.input.most ≡ lines.old.input.most }
     ensures later { S.faults source.old ≤ S.faults source.new }
     ensures sink_later { K.faults sink.old ≤ K.faults sink.new }
     ensures read { result ≡ Status.ReadFault → Rose (S.faults source.old) (S.faults source.new) }

@@ -1,7 +1,7 @@
 -- How reading goes on, and how it stops.
 use Rattle.std.proofs.Common.{◌≡◌, ℕ, ◌-◌, ◌≤◌, inl, inr, List, [], ◌∷◌, ◌++◌, length, refl, sym, ap, subst, arith, Option, append-nil}
 use Rattle.std.specs.Prelude.{max}
-use Rattle.pst_io.specs.declared.room.TheConstants.{MOST_INPUT, MOST_READ}
+use Rattle.pst_io.specs.declared.room.TheConstants.{MOST_READ}
 use Rattle.pst_io.specs.Input.{InputState, Hands, Gives, Reads, ReadsPast, IsOver, IsCutOff}
 use Rattle.pst_io.proofs.Handing.{gives_then}
 use Rattle.pst_io.specs.declared.fault.LinesFault.{LinesFault}
@@ -20,28 +20,32 @@ pub then_reads : (a : InputState) (left : Option (List ℕ)) (b : InputState) (l
 then_reads a left b left' c left'' given p r = subst (λ lines. Gives a left c left'' lines) (append-nil given) (gives_then a left b left' c left'' given [] p r.gives)
 
 then_reads_past : (a : InputState) (left : Option (List ℕ)) (b : InputState) (left' : Option (List ℕ)) (c : InputState) (left'' : Option (List ℕ)) (given : List (List ℕ))
-    → Gives a left b left' given → ReadsPast b left' c left'' MOST_INPUT → GivesPast a left c left'' given
+    → Gives a left b left' given → ReadsPast b left' c left'' → GivesPast a left c left'' given
 then_reads_past a left b left' c left'' given p r =
     record { before = r.before; more = r.more; gives = then_reads a left b left' c r.before given p r.reads; past = r.past; full = r.full }
 
 -- reading stopped
 pub until_fault : (fault : LinesFault) (a : InputState) (left : Option (List ℕ)) (b : InputState) (left' : Option (List ℕ)) (c : InputState) (left'' : Option (List ℕ)) (given : List (List ℕ))
-    → Gives a left b left' given → ((fault ≡ lines.TooLong → ⊥) → Reads b left' c left'') → (fault ≡ lines.TooLong → ReadsPast b left' c left'' MOST_INPUT) → IsCutOff c
+    → Gives a left b left' given → ((fault ≡ lines.TooLong → ⊥) → Reads b left' c left'') → (fault ≡ lines.TooLong → ReadsPast b left' c left'') → IsCutOff c
     → GivesUntil (stop_of fault) a left c left'' given
 until_fault lines.Failed a left b left' c left'' given p reads past off = (then_reads a left b left' c left'' given p (reads (λ e. cc)), off)
 until_fault lines.TooLong a left b left' c left'' given p reads past off = (then_reads_past a left b left' c left'' given p (past refl), off)
 until_fault lines.Memory a left b left' c left'' given p reads past off = (then_reads a left b left' c left'' given p (reads (λ e. cc)), inl off)
 
 -- reading stopped, and all that was handed out is answered
-pub until_answered : {A : Type 0} (m : Answering A) (h : A) (leaves breaks : A → Type 0) (fault : LinesFault) (a : InputState) (left : Option (List ℕ)) (c : InputState) (left'' : Option (List ℕ)) (given : List (List ℕ)) (out : List ℕ)
-    → GivesUntil (stop_of fault) a left c left'' given → IsCutOff c → IsAll (pieces_from m h given) out → leaves (state_after m h given) → StopsAnswering m h leaves breaks (stop_of fault) a left c left'' given out
+pub until_answered : {A : Type 0} (m : Answering A) (h : A) (leaves breaks : A → Type 0) (fault : LinesFault) (a : InputState)
+    (left : Option (List ℕ)) (c : InputState) (left'' : Option (List ℕ)) (given : List (List ℕ)) (out : List ℕ)
+    → GivesUntil (stop_of fault) a left c left'' given → IsCutOff c → IsAll (pieces_from m h given) out → leaves (state_after m h given)
+    → StopsAnswering m h leaves breaks (stop_of fault) a left c left'' given out
 until_answered m h leaves breaks lines.Failed a left c left'' given out g off all kept = (g.0, off, all, kept)
 until_answered m h leaves breaks lines.TooLong a left c left'' given out g off all kept = (g.0, off, all, kept)
 until_answered m h leaves breaks lines.Memory a left c left'' given out g off all kept = (g.0, inl (off, all, kept))
 
 -- answering stopped at a line
-pub until_reply : {A : Type 0} (m : Answering A) (h : A) (leaves breaks : A → Type 0) (s : Stop) (a : InputState) (left : Option (List ℕ)) (b : InputState) (left' : Option (List ℕ)) (given : List (List ℕ)) (line done out : List ℕ)
-    → IsAll (pieces_from m h given) done → StopsAtReply s (m.reply (state_after m h given) line) out → HeldAtReply m leaves breaks s (state_after m h given) line → Gives a left b left' (given ++ line ∷ []) → IsNear b
+pub until_reply : {A : Type 0} (m : Answering A) (h : A) (leaves breaks : A → Type 0) (s : Stop) (a : InputState) (left : Option (List ℕ))
+    (b : InputState) (left' : Option (List ℕ)) (given : List (List ℕ)) (line done out : List ℕ)
+    → IsAll (pieces_from m h given) done → StopsAtReply s (m.reply (state_after m h given) line) out
+    → HeldAtReply m leaves breaks s (state_after m h given) line → Gives a left b left' (given ++ line ∷ []) → IsNear b
     → StopsAnswering m h leaves breaks s a left b left' (given ++ line ∷ []) (done ++ out)
 until_reply m h leaves breaks stop.Write a left b left' given line done out all (piece, is, part) kept g near =
     (g, near, in_reply m h given line piece done out all is part, state_more m h leaves given line kept)

@@ -1,7 +1,7 @@
 -- How reading the lines of an input goes on and stops.
 use Rattle.std.specs.Prelude.{◌≡◌, ℕ, ◌<◌, ◌⊎◌, List, [], ◌∷◌, ◌++◌, ⊤, Option, Some, None, length}
 use Rattle.std.specs.Io.KnownBytes.{Consumes, IsAtEnd}
-use Rattle.pst_io.specs.declared.room.TheConstants.{MOST_INPUT, MOST_READ}
+use Rattle.pst_io.specs.declared.room.TheConstants.{MOST_READ}
 use Rattle.pst_io.specs.declared.fault.LinesFault.{LinesFault}
 use Rattle.pst_io.specs.declared.fault.LinesFault.TheVariants as fault
 use Rattle.pst_io.specs.Text.{lines_of}
@@ -22,7 +22,7 @@ pub record GivesPast (a : InputState) (left : Option (List ℕ)) (b : InputState
   pub more : ℕ
   pub gives : Gives a left b before lines
   pub past : Consumes before left' (more ∷ [])
-  pub full : bytes_read b ≡ MOST_INPUT
+  pub full : bytes_read b ≡ b.most
 
 -- less than one read is held beyond what was handed out
 abbrev pub IsNear : InputState → Type 0

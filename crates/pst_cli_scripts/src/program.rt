@@ -29,6 +29,7 @@ pub fn read_text<S: Source>(
     ensures stopped { IfErr result (λ stop. (given : List (List ℕ))
         × GivesUntil stop lines.old.input (S.left source.old) lines.new.input (S.left source.new) given × (cut given ≡ None)) }
     ensures within { bytes_read lines.new.input ≤ MOST_INPUT }
+    ensures limit { lines.new.input.most ≡ MOST_INPUT }
 
     ensures later { S.faults source.old ≤ S.faults source.new }
     ensures read { result ≡ Err Stop.Read → Rose (S.faults source.old) (S.faults source.new) }

@@ -10,7 +10,7 @@ ghost use Rattle.pst_cli_scripts.specs.Reading.{IsNear};
 use crate::answer::answer_line;
 use crate::session::Session;
 use crate::stop::Stop;
-use pst_io::{Lines, MOST_INPUT, Sink, Source};
+use pst_io::{Lines, Sink, Source};
 use std::alloc::Global;
 
 /// Answers the lines that are left.
@@ -27,7 +27,8 @@ pub fn answer_script<X: Session, S: Source, K: Sink>(
     requires near { IsNear lines.old.input }
 
     ensures answered { AnswersRest X.rules X.stands X.leaves X.breaks session.old held.old held.new result S.left lines.old source.old lines.new source.new K.taken sink.old sink.new }
-    ensures within { bytes_read lines.new.input ≤ MOST_INPUT }
+    ensures within { bytes_read lines.new.input ≤ lines.new.input.most }
+    ensures limit { lines.new.input.most ≡ lines.old.input.most }
 
     ensures later { S.faults source.old ≤ S.faults source.new }
     ensures sink_later { K.faults sink.old ≤ K.faults sink.new }

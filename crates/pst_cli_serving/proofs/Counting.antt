@@ -69,7 +69,9 @@ pub cut_bytes : (lines : List (List ℕ)) (c : CutInput) → cut lines ≡ Some 
 cut_bytes [] c h = let clash : None ≡ Some c = h in cc
 cut_bytes (line ∷ lines) c h = by_separator (λ d. cut_bytes lines d) (is_separator line) h
   where
-    by_separator : ((d : CutInput) → cut lines ≡ Some d → bytes_of lines ≡ up_to d d.script) → (b : Bool) → cond b (Some (record { text = []; separator = line; script = lines })) (option_map (behind_line line) (cut lines)) ≡ Some c → bytes_of (line ∷ lines) ≡ up_to c c.script
+    by_separator : ((d : CutInput) → cut lines ≡ Some d → bytes_of lines ≡ up_to d d.script) → (b : Bool)
+        → cond b (Some (record { text = []; separator = line; script = lines })) (option_map (behind_line line) (cut lines)) ≡ Some c
+        → bytes_of (line ∷ lines) ≡ up_to c c.script
     by_separator rest true k =
         let whole : CutInput = record { text = []; separator = line; script = lines } in
         let same : whole ≡ c = cc in

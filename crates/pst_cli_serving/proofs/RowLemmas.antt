@@ -1,5 +1,6 @@
 -- Which row of the table holds.
-use Rattle.std.proofs.Common.{◌≡◌, ℕ, zero, suc, ◌+◌, ◌-◌, ◌<◌, ◌≤◌, ◌⊎◌, inl, inr, Bool, true, false, List, [], ◌∷◌, ◌++◌, length, take, drop, refl, sym, ap, ◌∙◌, subst, arith, Option, None, Some, IsTrue, append-nil, append_assoc, length-append}
+use Rattle.std.proofs.Common.{◌≡◌, ℕ, zero, suc, ◌+◌, ◌-◌, ◌<◌, ◌≤◌, ◌⊎◌, inl, inr, Bool, true, false, List, [], ◌∷◌, ◌++◌, length, take, drop, refl, sym, ap}
+use Rattle.std.proofs.Common.{◌∙◌, subst, arith, Option, None, Some, IsTrue, append-nil, append_assoc, length-append}
 use Rattle.std.specs.Prelude.{IfSome, IsSome, min}
 use Rattle.std.specs.Io.KnownBytes.{Appends, Consumes, IsAtEnd}
 use Rattle.std.proofs.KnownBytes.{Appends-nil}
@@ -25,13 +26,14 @@ use Rattle.pst_front.specs.Verdict.{Verdict, Accepted, Refused as IsRefusedBy, J
 use Rattle.pst_cli_scripts.specs.Kept.{Kept, still}
 use Rattle.pst_cli_serving.specs.Output.{rules_of, replied, printed, Outputs, OfVerdict, Accepting, Refusing, StopsInPiece, StopsBeforePiece, StopsInPage}
 use Rattle.pst_cli_scripts.specs.Reading.{GivesPast, GivesUntil, IsTextOf, IsNear, ReadsText}
-use Rattle.pst_cli_serving.specs.Rows.{IsReadable, IsWithin, HasRead, ReadsUpTo, ReadsAll, Writes, CutOff, StopsReading, StopsScript, StopsWriting, LacksProgram, LacksReply, LacksRoom, Row, IsComplete, IsServable}
+use Rattle.pst_cli_serving.specs.Rows.{IsReadable, IsWithin, HasRead, ReadsUpTo, ReadsAll, Writes, CutOff, StopsReading, StopsScript, StopsWriting}
+use Rattle.pst_cli_serving.specs.Rows.{LacksProgram, LacksReply, LacksRoom, Row, IsComplete, IsServable}
 use Rattle.pst_cli_serving.specs.Serving.{ReadsNothing, ServesInPart, Serves, Prints, status_of}
 use Rattle.pst_cli_serving.proofs.Counting.{bytes_of-append, lines_least, lines_front, cut_bytes, whole_bytes, near_program}
 use Rattle.pst_cli_serving.proofs.Serving.{job_of_page}
 
 abbrev pub fresh : InputState
-fresh = record { handed = 0; held = []; ended = false }
+fresh = record { handed = 0; held = []; ended = false; most = MOST_INPUT }
 
 -- ---- how much was read of an input that is told
 
@@ -102,13 +104,15 @@ whole_front c input rest lines g off =
     ∙ ap (λ l. lines ++ l) (ap whole_lines (append-nil c.held) ∙ off.0) ∙ append-nil lines
 
 -- a read that was due did not come
-pub stops_front : (P : Option CutInput → Type 0) (c : InputState) (input : List ℕ) (left : Option (List ℕ)) (lines : List (List ℕ)) → Gives fresh (Some input) c left lines → IsCutOff c → bytes_read c ≤ MOST_INPUT
+pub stops_front : (P : Option CutInput → Type 0) (c : InputState) (input : List ℕ) (left : Option (List ℕ)) (lines : List (List ℕ))
+    → Gives fresh (Some input) c left lines → IsCutOff c → bytes_read c ≤ MOST_INPUT
     → P (cut lines) → (n : ℕ) × HasRead n input left × P (cut (whole_lines (take n input)))
 stops_front P c input None lines g off most p = absurd g.hands.consumed
 stops_front P c input (Some rest) lines g off most p =
     (bytes_read c, has_read c input rest lines g most, subst (λ l. P (cut l)) (sym (whole_front c input rest lines g off)) p)
 
-stops_reading : (k : Kept) (job : Job) (c : InputState) (input : List ℕ) (left : Option (List ℕ)) (lines : List (List ℕ)) (out : List ℕ) → Gives fresh (Some input) c left lines → IsCutOff c → bytes_read c ≤ MOST_INPUT
+stops_reading : (k : Kept) (job : Job) (c : InputState) (input : List ℕ) (left : Option (List ℕ)) (lines : List (List ℕ)) (out : List ℕ)
+    → Gives fresh (Some input) c left lines → IsCutOff c → bytes_read c ≤ MOST_INPUT
     → CutOff k (cut lines) job out → StopsReading k job input left out
 stops_reading k job c input left lines out g off most p = stops_front (λ o. CutOff k o job out) c input left lines g off most p
 
@@ -116,10 +120,12 @@ stops_reading k job c input left lines out g off most p = stops_front (λ o. Cut
 abbrev pub LongFront : (P : Option CutInput → Type 0) → List ℕ → Option (List ℕ) → Type 0
 LongFront P input left = (MOST_INPUT < length input) × (left ≡ Some (drop (MOST_INPUT + 1) input)) × P (cut (whole_lines (take MOST_INPUT input)))
 
-long_front : (P : Option CutInput → Type 0) (c : InputState) (input rest : List ℕ) (more : ℕ) (left : Option (List ℕ)) (lines : List (List ℕ)) → Gives fresh (Some input) c (Some rest) lines → IsCutOff c
-    → Consumes (Some rest) left (more ∷ []) → bytes_read c ≡ MOST_INPUT → P (cut lines) → LongFront P input left
+long_front : (P : Option CutInput → Type 0) (c : InputState) (input rest : List ℕ) (more : ℕ) (left : Option (List ℕ)) (lines : List (List ℕ))
+    → Gives fresh (Some input) c (Some rest) lines → IsCutOff c
+    → Consumes (Some rest) left (more ∷ []) → bytes_read c ≡ c.most → P (cut lines) → LongFront P input left
 long_front P c input rest more None lines g off past full p = absurd past
-long_front P c input rest more (Some y) lines g off past full p =
+long_front P c input rest more (Some y) lines g off past whole p =
+    let full : bytes_read c ≡ MOST_INPUT = whole ∙ g.hands.limit in
     let f = front c input rest lines g in
     let bytes = g.hands.bytes in
     let one_more : Front input y (MOST_INPUT + 1) (bytes ++ more ∷ []) = record {
@@ -131,8 +137,9 @@ long_front P c input rest more (Some y) lines g off past full p =
       subst (λ l. P (cut l)) (sym (ap (λ n. whole_lines (take n input)) (sym full) ∙ whole_front c input rest lines g off)) p,
     )
 
-pub long_by : (P : Option CutInput → Type 0) (c : InputState) (input : List ℕ) (before : Option (List ℕ)) (more : ℕ) (left : Option (List ℕ)) (lines : List (List ℕ)) → Gives fresh (Some input) c before lines → IsCutOff c
-    → Consumes before left (more ∷ []) → bytes_read c ≡ MOST_INPUT → P (cut lines) → LongFront P input left
+pub long_by : (P : Option CutInput → Type 0) (c : InputState) (input : List ℕ) (before : Option (List ℕ)) (more : ℕ) (left : Option (List ℕ))
+    (lines : List (List ℕ)) → Gives fresh (Some input) c before lines → IsCutOff c
+    → Consumes before left (more ∷ []) → bytes_read c ≡ c.most → P (cut lines) → LongFront P input left
 long_by P c input None more left lines g off past full p = absurd g.hands.consumed
 long_by P c input (Some rest) more left lines g off past full p = long_front P c input rest more left lines g off past full p
 
@@ -151,7 +158,8 @@ lacks_room k Check input left out p = p
 lacks_room k Code input left out p = p
 
 -- there was no room for a line that had been read
-pub lacks_text : (k : Kept) (c : InputState) (input : List ℕ) (left : Option (List ℕ)) (lines : List (List ℕ)) → k.untouched → Gives fresh (Some input) c left lines → IsNear c → cut lines ≡ None → bytes_read c ≤ MOST_INPUT
+pub lacks_text : (k : Kept) (c : InputState) (input : List ℕ) (left : Option (List ℕ)) (lines : List (List ℕ)) → k.untouched
+    → Gives fresh (Some input) c left lines → IsNear c → cut lines ≡ None → bytes_read c ≤ MOST_INPUT
     → LacksProgram k input left []
 lacks_text k c input None lines same g near none most = absurd g.hands.consumed
 lacks_text k c input (Some rest) lines same g near none most =
@@ -159,7 +167,8 @@ lacks_text k c input (Some rest) lines same g near none most =
     let e = extent c input rest lines g near in
     (refl, same, (bytes_read c, read, near_program input lines (lines_of (c.held ++ rest)) (bytes_read c) MOST_READ none g.told read.within e.near))
 
-stopped : (k : Kept) (job : Job) (s : Stop) (c : InputState) (input : List ℕ) (left : Option (List ℕ)) (lines : List (List ℕ)) → k.untouched → (s ≡ stop.Write → ⊥) → GivesUntil s fresh (Some input) c left lines
+stopped : (k : Kept) (job : Job) (s : Stop) (c : InputState) (input : List ℕ) (left : Option (List ℕ)) (lines : List (List ℕ)) → k.untouched
+    → (s ≡ stop.Write → ⊥) → GivesUntil s fresh (Some input) c left lines
     → cut lines ≡ None → bytes_read c ≤ MOST_INPUT → Row (status_of s) k job input left []
 stopped k job stop.Read c input left lines same unwritten g none most = stops_reading k job c input left lines [] g.0 g.1 most (subst (λ o. CutOff k o job []) (sym none) (refl, same))
 stopped k job stop.TooLong c input left lines same unwritten g none most = long_row (λ o. CutOff k o job []) c input left lines g.0 g.1 (subst (λ o. CutOff k o job []) (sym none) (refl, same))
@@ -168,7 +177,8 @@ stopped k job stop.Memory c input left lines same unwritten (g, inl off) none mo
 stopped k job stop.Memory c input left lines same unwritten (g, inr near) none most = inr (lacks_room k job input left [] (lacks_text k c input left lines same g near none most))
 
 -- nothing was written
-pub text_stopped : (k : Kept) (job : Job) (s : Stop) (status : Status) (a c : InputState) (left left' sink : Option (List ℕ)) (lines : List (List ℕ)) → k.untouched → status ≡ status_of s → a ≡ fresh → (s ≡ stop.Write → ⊥)
+pub text_stopped : (k : Kept) (job : Job) (s : Stop) (status : Status) (a c : InputState) (left left' sink : Option (List ℕ)) (lines : List (List ℕ))
+    → k.untouched → status ≡ status_of s → a ≡ fresh → (s ≡ stop.Write → ⊥)
     → GivesUntil s a left c left' lines → cut lines ≡ None → bytes_read c ≤ MOST_INPUT
     → IfSome left (λ input. (out : List ℕ) × Appends sink sink out × Row status k job input left' out)
 text_stopped k job s status a c None left' sink lines same is new unwritten g none most = tt
@@ -199,7 +209,8 @@ cuts t input rest text r going more = by_found r.found
     by_found (inl over) = let ended = over.1 in cc
     by_found (inr found) = found more
 
-readable_by : (b : Bool) (t : InputState) (input rest text : List ℕ) → t.ended ≡ b → ReadsText fresh (Some input) t (Some rest) text → EndsWhereSeen t (Some rest) → bytes_read t ≤ MOST_INPUT → IsReadable input
+readable_by : (b : Bool) (t : InputState) (input rest text : List ℕ) → t.ended ≡ b → ReadsText fresh (Some input) t (Some rest) text
+    → EndsWhereSeen t (Some rest) → bytes_read t ≤ MOST_INPUT → IsReadable input
 readable_by true t input rest text is r seen most =
     let f = front t input rest r.lines r.gives in
     inl (omega (arith, f.size, ap length f.whole, length-append r.gives.hands.bytes rest, ap length (seen is), most))
@@ -210,12 +221,14 @@ readable_by false t input rest text is r seen most =
     ap whole_lines (take_long MOST_INPUT input r.gives.hands.bytes rest f.whole (omega (arith, f.size, most))) ∙ r.gives.whole is more in
     inr (is_there (cut (whole_lines (take MOST_INPUT input))) _ (ap cut e ∙ cuts t input rest text r is (whole_lines (t.held ++ more))))
 
-pub readable : (t : InputState) (input : List ℕ) (left : Option (List ℕ)) (text : List ℕ) → ReadsText fresh (Some input) t left text → EndsWhereSeen t left → bytes_read t ≤ MOST_INPUT → IsReadable input
+pub readable : (t : InputState) (input : List ℕ) (left : Option (List ℕ)) (text : List ℕ) → ReadsText fresh (Some input) t left text
+    → EndsWhereSeen t left → bytes_read t ≤ MOST_INPUT → IsReadable input
 readable t input None text r seen most = absurd r.told
 readable t input (Some rest) text r seen most = readable_by t.ended t input rest text refl r seen most
 
 -- how far reading came where these lines of the script were handed out
-script_extent : (t u : InputState) (input rest more text : List ℕ) (given : List (List ℕ)) → ReadsText fresh (Some input) t (Some rest) text → EndsWhereSeen t (Some rest) → Gives t (Some rest) u (Some more) given → IsNear u
+script_extent : (t u : InputState) (input rest more text : List ℕ) (given : List (List ℕ)) → ReadsText fresh (Some input) t (Some rest) text
+    → EndsWhereSeen t (Some rest) → Gives t (Some rest) u (Some more) given → IsNear u
     → Extent (bytes_read u) (up_to (cut_of input) given) (length input)
 script_extent t u input rest more text given r seen g near = by_found r.found
   where
@@ -237,7 +250,8 @@ script_extent t u input rest more text given r seen g near = by_found r.found
         let bytes : bytes_of (r.lines ++ given) ≡ up_to (cut_of input) given = cut_bytes (r.lines ++ given) _ (found given) ∙ ap (λ c. up_to c given) (sym r.told) in
         subst (λ n. Extent (bytes_read u) n (length input)) bytes e
 
-pub reads_up_to : (t u : InputState) (input rest text : List ℕ) (left : Option (List ℕ)) (given : List (List ℕ)) → ReadsText fresh (Some input) t (Some rest) text → EndsWhereSeen t (Some rest) → Gives t (Some rest) u left given
+pub reads_up_to : (t u : InputState) (input rest text : List ℕ) (left : Option (List ℕ)) (given : List (List ℕ))
+    → ReadsText fresh (Some input) t (Some rest) text → EndsWhereSeen t (Some rest) → Gives t (Some rest) u left given
     → IsNear u → bytes_read u ≤ MOST_INPUT → ReadsUpTo given input left
 reads_up_to t u input rest text None given r seen g near most = absurd g.hands.consumed
 reads_up_to t u input rest text (Some more) given r seen g near most =
@@ -252,7 +266,8 @@ reads_up_to t u input rest text (Some more) given r seen g near most =
     }
 
 -- no more was read than the program needed
-pub reads_program : (t : InputState) (input : List ℕ) (left : Option (List ℕ)) (text : List ℕ) → ReadsText fresh (Some input) t left text → EndsWhereSeen t left → bytes_read t ≤ MOST_INPUT → ReadsUpTo [] input left
+pub reads_program : (t : InputState) (input : List ℕ) (left : Option (List ℕ)) (text : List ℕ) → ReadsText fresh (Some input) t left text
+    → EndsWhereSeen t left → bytes_read t ≤ MOST_INPUT → ReadsUpTo [] input left
 reads_program t input None text r seen most = absurd r.told
 reads_program t input (Some rest) text r seen most = reads_up_to t t input rest text (Some rest) [] r seen (gives_none t (Some rest)) r.near most
 
@@ -307,7 +322,8 @@ answers_stop k Line input left out is w = w
 answers_stop k Check input left out is w = absurd is
 answers_stop k Code input left out is w = absurd is
 
-answers_lack : (k : Kept) (job : Job) (input : List ℕ) (left : Option (List ℕ)) (out : List ℕ) → IsAnswering job → IsReadable input → LacksReply (rules_of job) k input left out → LacksRoom k job input left out
+answers_lack : (k : Kept) (job : Job) (input : List ℕ) (left : Option (List ℕ)) (out : List ℕ) → IsAnswering job → IsReadable input
+    → LacksReply (rules_of job) k input left out → LacksRoom k job input left out
 answers_lack k Run input left out is read w = inr (read, w)
 answers_lack k Replay input left out is read w = inr (read, w)
 answers_lack k Line input left out is read w = inr (read, w)
@@ -317,7 +333,8 @@ answers_lack k Code input left out is read w = absurd is
 -- ---- the script was answered
 
 -- the output of the same verdict for another script
-pub refused_alike : (k : Kept) (job : Job) (input text out : List ℕ) (c : CutInput) → IsAnswering job → Outputs (Refusing k) IsAll text (replied (rules_of job) []) out → c.text ≡ text → Writes (Refusing k) IsAll job c out
+pub refused_alike : (k : Kept) (job : Job) (input text out : List ℕ) (c : CutInput) → IsAnswering job
+    → Outputs (Refusing k) IsAll text (replied (rules_of job) []) out → c.text ≡ text → Writes (Refusing k) IsAll job c out
 refused_alike k job input text out c is (Accepted syntax program, judged, never, written) e = absurd never
 refused_alike k job input text out c is (IsRefusedBy fault, judged, same, written) e =
     answers_written (Refusing k) job c out is (IsRefusedBy fault, subst (λ t. Judged t (IsRefusedBy fault)) (sym e) judged, same, written)
@@ -331,7 +348,8 @@ pub record IsWhole (input : List ℕ) (left : Option (List ℕ)) (c : CutInput) 
   pub read : HasRead (length input) input left
   pub parts : cut_of input ≡ c
 
-pub whole_input : (t u : InputState) (input rest text : List ℕ) (left : Option (List ℕ)) (given : List (List ℕ)) (r : ReadsText fresh (Some input) t (Some rest) text) → Gives t (Some rest) u left given → IsOver u → IsAtEnd left
+pub whole_input : (t u : InputState) (input rest text : List ℕ) (left : Option (List ℕ)) (given : List (List ℕ))
+    (r : ReadsText fresh (Some input) t (Some rest) text) → Gives t (Some rest) u left given → IsOver u → IsAtEnd left
     → bytes_read u ≤ MOST_INPUT → IsWhole input left (record { text = text; separator = r.separator; script = given })
 whole_input t u input rest text None given r g over end most = absurd g.hands.consumed
 whole_input t u input rest text (Some more) given r g over end most =
@@ -357,24 +375,28 @@ after_program t u input rest text left r seen most same = subst (λ l. ReadsUpTo
 -- the script behind a program was read and answered by a job
 module _ (k : Kept) (job : Job) (is : IsAnswering job) (t u : InputState) (input rest text : List ℕ) (left : Option (List ℕ)) (r : ReadsText fresh (Some input) t (Some rest) text)
     (seen : EndsWhereSeen t (Some rest)) (most : bytes_read t ≤ MOST_INPUT) (most' : bytes_read u ≤ MOST_INPUT) where
-  done_row : (given : List (List ℕ)) (out : List ℕ) → Gives t (Some rest) u left given → IsOver u → IsAtEnd left → Outputs (Accepting k given) IsAll text (replied (rules_of job) given) out → Row Done k job input left out
+  done_row : (given : List (List ℕ)) (out : List ℕ) → Gives t (Some rest) u left given → IsOver u → IsAtEnd left
+      → Outputs (Accepting k given) IsAll text (replied (rules_of job) given) out → Row Done k job input left out
   done_row given out g over end w =
       let whole = whole_input t u input rest text left given r g over end most' in (
         answers_within job input is whole.within,
         answers_read job input left is whole.read,
-        subst (λ (c : CutInput). Writes (Accepting k c.script) IsAll job c out) (sym whole.parts) (answers_written (Accepting k given) job (record { text = text; separator = r.separator; script = given }) out is w),
+        subst (λ (c : CutInput). Writes (Accepting k c.script) IsAll job c out) (sym whole.parts)
+            (answers_written (Accepting k given) job (record { text = text; separator = r.separator; script = given }) out is w),
       )
 
   cut_off : (given : List (List ℕ)) (out : List ℕ) → t.ended ≡ false → Outputs (Accepting k given) IsAll text (replied (rules_of job) given) out → CutOff k (cut (r.lines ++ given)) job out
   cut_off given out going w =
       subst (λ o. CutOff k o job out) (sym (cuts t input rest text r going given)) (answers_cut k job (record { text = text; separator = r.separator; script = given }) out is w)
 
-  script_stops : (given : List (List ℕ)) (out : List ℕ) → Gives t (Some rest) u left given → IsCutOff u → Outputs (Accepting k given) IsAll text (replied (rules_of job) given) out → StopsReading k job input left out
+  script_stops : (given : List (List ℕ)) (out : List ℕ) → Gives t (Some rest) u left given → IsCutOff u
+      → Outputs (Accepting k given) IsAll text (replied (rules_of job) given) out → StopsReading k job input left out
   script_stops given out g off w =
       let all = gives_then fresh (Some input) t (Some rest) u left r.lines given r.gives g in
       stops_reading k job u input left (r.lines ++ given) out all off most' (cut_off given out (was_going t.ended u.ended g.still off.1) w)
 
-  script_long : (given : List (List ℕ)) (out : List ℕ) → GivesPast t (Some rest) u left given → IsCutOff u → Outputs (Accepting k given) IsAll text (replied (rules_of job) given) out → Row TooLong k job input left out
+  script_long : (given : List (List ℕ)) (out : List ℕ) → GivesPast t (Some rest) u left given → IsCutOff u
+      → Outputs (Accepting k given) IsAll text (replied (rules_of job) given) out → Row TooLong k job input left out
   script_long given out g off w =
       let all = gives_then fresh (Some input) t (Some rest) u g.before r.lines given r.gives g.gives in
       long_by (λ o. CutOff k o job out) u input g.before g.more left (r.lines ++ given) all off g.past g.full (cut_off given out (was_going t.ended u.ended g.gives.still off.1) w)
@@ -408,7 +430,8 @@ module _ (k : Kept) (job : Job) (is : IsAnswering job) (t u : InputState) (input
   served_row Memory out w = memory_row out w
   served_row Usage out never = absurd never
 
-served : (k : Kept) (job : Job) → IsAnswering job → (status : Status) (t u : InputState) (input text : List ℕ) (mid left sink sink' : Option (List ℕ)) → ReadsText fresh (Some input) t mid text → EndsWhereSeen t mid
+served : (k : Kept) (job : Job) → IsAnswering job → (status : Status) (t u : InputState) (input text : List ℕ) (mid left sink sink' : Option (List ℕ))
+    → ReadsText fresh (Some input) t mid text → EndsWhereSeen t mid
     → bytes_read t ≤ MOST_INPUT → bytes_read u ≤ MOST_INPUT → (out : List ℕ) × Appends sink sink' out × Serves status (rules_of job) k t mid u left text out
     → (out : List ℕ) × Appends sink sink' out × Row status k job input left out
 served k job is status t u input text None left sink sink' r seen most most' s = absurd r.told
@@ -416,7 +439,8 @@ served k job is status t u input text (Some rest) left sink sink' r seen most mo
     (out, written, served_row k job is t u input rest text left r seen most most' status out w)
 
 -- the script was read and answered
-pub text_served : (k : Kept) (job : Job) → IsAnswering job → (status : Status) (a t u : InputState) (left mid left' sink sink' : Option (List ℕ)) (text : List ℕ) → a ≡ fresh → ReadsText a left t mid text
+pub text_served : (k : Kept) (job : Job) → IsAnswering job → (status : Status) (a t u : InputState) (left mid left' sink sink' : Option (List ℕ))
+    (text : List ℕ) → a ≡ fresh → ReadsText a left t mid text
     → EndsWhereSeen t mid → bytes_read t ≤ MOST_INPUT → bytes_read u ≤ MOST_INPUT → (out : List ℕ) × Appends sink sink' out × Serves status (rules_of job) k t mid u left' text out
     → IfSome left (λ input. (out : List ℕ) × Appends sink sink' out × Row status k job input left' out)
 text_served k job is status a t u None mid left' sink sink' text new r seen most most' s = tt
@@ -438,7 +462,8 @@ page_writes : (Is : Verdict → Type 0) (page : Page) (c : CutInput) (text out :
 page_writes Is Canonical c text out e w = subst (λ v. Outputs Is IsAll v (printed Canonical) out) (sym e) w
 page_writes Is Listing c text out e w = subst (λ v. Outputs Is IsAll v (printed Listing) out) (sym e) w
 
-accepted_still : (P : Type 0) → P → (page : Page) (text out : List ℕ) (lines : List (List ℕ)) → Outputs IsAccepted IsAll text (printed page) out → Outputs (Accepting (still P) lines) IsAll text (printed page) out
+accepted_still : (P : Type 0) → P → (page : Page) (text out : List ℕ) (lines : List (List ℕ)) → Outputs IsAccepted IsAll text (printed page) out
+    → Outputs (Accepting (still P) lines) IsAll text (printed page) out
 accepted_still P p page text out lines (Accepted syntax program, judged, is, w) = (Accepted syntax program, judged, p, w)
 accepted_still P p page text out lines (IsRefusedBy fault, judged, never, w) = absurd never
 
@@ -446,17 +471,20 @@ refused_still : (P : Type 0) → P → (page : Page) (text out : List ℕ) → O
 refused_still P p page text out (Accepted syntax program, judged, never, w) = absurd never
 refused_still P p page text out (IsRefusedBy fault, judged, is, w) = (IsRefusedBy fault, judged, p, w)
 
-page_stops : (P : Type 0) → P → (page : Page) (input : List ℕ) (left : Option (List ℕ)) (out : List ℕ) → ReadsUpTo [] input left → OfVerdict (cut_of input).text (λ verdict. StopsInPage page verdict out)
+page_stops : (P : Type 0) → P → (page : Page) (input : List ℕ) (left : Option (List ℕ)) (out : List ℕ) → ReadsUpTo [] input left
+    → OfVerdict (cut_of input).text (λ verdict. StopsInPage page verdict out)
     → StopsWriting (still P) (job_of_page page) input left out
 page_stops P p Canonical input left out r w = (r, w, p)
 page_stops P p Listing input left out r w = (r, w, p)
 
-printed_row : (status : Status) (P : Type 0) → P → (page : Page) (t : InputState) (input text out : List ℕ) (left : Option (List ℕ)) → ReadsText fresh (Some input) t left text → EndsWhereSeen t left → bytes_read t ≤ MOST_INPUT
+printed_row : (status : Status) (P : Type 0) → P → (page : Page) (t : InputState) (input text out : List ℕ) (left : Option (List ℕ))
+    → ReadsText fresh (Some input) t left text → EndsWhereSeen t left → bytes_read t ≤ MOST_INPUT
     → Prints status page text out → Row status (still P) (job_of_page page) input left out
 printed_row Done P p page t input text out left r seen most w = (
   page_within page input (readable t input left text r seen most),
   page_read page input left (reads_program t input left text r seen most),
-  page_writes (Accepting (still P) (cut_of input).script) page (cut_of input) text out (told_text input text r.separator (pending t left) r.told) (accepted_still P p page text out (cut_of input).script w),
+  page_writes (Accepting (still P) (cut_of input).script) page (cut_of input) text out (told_text input text r.separator (pending t left) r.told)
+      (accepted_still P p page text out (cut_of input).script w),
 )
 printed_row Refused P p page t input text out left r seen most w = (
   readable t input left text r seen most,
@@ -474,7 +502,8 @@ printed_row TooLong P p page t input text out left r seen most w = absurd w
 printed_row Usage P p page t input text out left r seen most w = absurd w
 
 -- nothing is done with what is held
-pub text_printed : (status : Status) (P : Type 0) → P → (page : Page) (a t : InputState) (left left' sink sink' : Option (List ℕ)) (text : List ℕ) → a ≡ fresh → ReadsText a left t left' text → EndsWhereSeen t left'
+pub text_printed : (status : Status) (P : Type 0) → P → (page : Page) (a t : InputState) (left left' sink sink' : Option (List ℕ)) (text : List ℕ)
+    → a ≡ fresh → ReadsText a left t left' text → EndsWhereSeen t left'
     → bytes_read t ≤ MOST_INPUT → (out : List ℕ) × Appends sink sink' out × Prints status page text out
     → IfSome left (λ input. (out : List ℕ) × Appends sink sink' out × Row status (still P) (job_of_page page) input left' out)
 text_printed status P p page a t None left' sink sink' text new r seen most w = tt
@@ -517,7 +546,8 @@ named o p job same is = sym same ∙ is
 pub one_job : (o : Option Task) (a b : Job) → o ≡ Some (Input a) → o ≡ Some (Input b) → a ≡ b
 one_job o a b is is' = cc
 
-pub completes : (k : Kept) (status : Status) (job : Job) (o : Option Task) (left left' sink sink' : Option (List ℕ)) (R W : Type 0) → o ≡ Some (Input job) → (status ≡ ReadFault → R) → (status ≡ WriteFault → W)
+pub completes : (k : Kept) (status : Status) (job : Job) (o : Option Task) (left left' sink sink' : Option (List ℕ)) (R W : Type 0)
+    → o ≡ Some (Input job) → (status ≡ ReadFault → R) → (status ≡ WriteFault → W)
     → IfSome left (λ input. (out : List ℕ) × Appends sink sink' out × Row status k job input left' out) → IfSome left (λ input. IsServable o input → (R → ⊥) → (W → ⊥) → IsComplete status)
 completes k status job o None left' sink sink' R W is read write p = tt
 completes k status job o (Some input) left' sink sink' R W is read write (out, written, row) = λ servable sound whole.

@@ -43,7 +43,8 @@ fault_printed ReadFault page text out fault has w = absurd w
 fault_printed TooLong page text out fault has w = absurd w
 fault_printed Usage page text out fault has w = absurd w
 
-pub fault_served : (status : Status) (rules : Rules) (k : Kept) (a : InputState) (left : Option (List ℕ)) (text out : List ℕ) (fault : Fault) → k.untouched → IsNear a → HasFault text fault.kind fault.line → Refuses status fault out
+pub fault_served : (status : Status) (rules : Rules) (k : Kept) (a : InputState) (left : Option (List ℕ)) (text out : List ℕ) (fault : Fault)
+    → k.untouched → IsNear a → HasFault text fault.kind fault.line → Refuses status fault out
     → Serves status rules k a left a left text out
 fault_served Refused rules k a left text out fault same near has w = ((refl, refl), (IsRefusedBy fault, has, same, one_whole _ out w))
 fault_served WriteFault rules k a left text out fault same near has w = ([], gives_none a left, near, (IsRefusedBy fault, has, (refl, w, same)))
@@ -70,7 +71,8 @@ page_stopped stop.TooLong page text piece out syntax program judged is s = absur
 
 -- ---- the script
 
-pub script_answered : {T : Type 0} (rules : Rules) (leaves breaks : Meaning → T → History → Type 0) (old new : T) (a b : InputState) (left left' : Option (List ℕ)) (text out : List ℕ) (syntax : ProgramText) (program : Program)
+pub script_answered : {T : Type 0} (rules : Rules) (leaves breaks : Meaning → T → History → Type 0) (old new : T) (a b : InputState)
+    (left left' : Option (List ℕ)) (text out : List ℕ) (syntax : ProgramText) (program : Program)
     (given : List (List ℕ)) → Judged text (Accepted syntax (program_of program)) → Gives a left b left' given → IsOver b → IsAtEnd left'
     → IsAll (pieces_from (script_of rules (meaning_of program)) (first_history rules (meaning_of program)) given) out
     → leaves (meaning_of program) new (state_after (script_of rules (meaning_of program)) (first_history rules (meaning_of program)) given)
@@ -78,15 +80,19 @@ pub script_answered : {T : Type 0} (rules : Rules) (leaves breaks : Meaning → 
 script_answered rules leaves breaks old new a b left left' text out syntax program given judged g over end w kept =
     (given, g, over, end, (Accepted syntax (program_of program), judged, kept, w))
 
-pub script_stopped : {T : Type 0} (rules : Rules) (leaves breaks : Meaning → T → History → Type 0) (old new : T) (s : Stop) (a b : InputState) (left left' : Option (List ℕ)) (text out : List ℕ) (syntax : ProgramText)
+pub script_stopped : {T : Type 0} (rules : Rules) (leaves breaks : Meaning → T → History → Type 0) (old new : T) (s : Stop) (a b : InputState)
+    (left left' : Option (List ℕ)) (text out : List ℕ) (syntax : ProgramText)
     (program : Program) (given : List (List ℕ)) → Judged text (Accepted syntax (program_of program))
     → StopsAnswering (script_of rules (meaning_of program)) (first_history rules (meaning_of program)) (leaves (meaning_of program) new) (breaks (meaning_of program) new) s a left b left' given out
     → Serves (status_of s) rules (kept_by rules leaves breaks old new) a left b left' text out
 script_stopped rules leaves breaks old new stop.Read a b left left' text out syntax program given judged (g, off, w, kept) = (given, g, off, (Accepted syntax (program_of program), judged, kept, w))
 script_stopped rules leaves breaks old new stop.TooLong a b left left' text out syntax program given judged (g, off, w, kept) = (given, g, off, (Accepted syntax (program_of program), judged, kept, w))
-script_stopped rules leaves breaks old new stop.Write a b left left' text out syntax program given judged (g, near, w, kept) = (given, g, near, (Accepted syntax (program_of program), judged, (w, kept)))
-script_stopped rules leaves breaks old new stop.Memory a b left left' text out syntax program given judged (g, inl (off, w, kept)) = inr (inl (given, g, off, (Accepted syntax (program_of program), judged, kept, w)))
-script_stopped rules leaves breaks old new stop.Memory a b left left' text out syntax program given judged (g, inr (near, w, kept)) = inr (inr (given, g, near, (Accepted syntax (program_of program), judged, (w, kept))))
+script_stopped rules leaves breaks old new stop.Write a b left left' text out syntax program given judged (g, near, w, kept) =
+    (given, g, near, (Accepted syntax (program_of program), judged, (w, kept)))
+script_stopped rules leaves breaks old new stop.Memory a b left left' text out syntax program given judged (g, inl (off, w, kept)) =
+    inr (inl (given, g, off, (Accepted syntax (program_of program), judged, kept, w)))
+script_stopped rules leaves breaks old new stop.Memory a b left left' text out syntax program given judged (g, inr (near, w, kept)) =
+    inr (inr (given, g, near, (Accepted syntax (program_of program), judged, (w, kept))))
 
 -- ---- what is held, said otherwise
 
@@ -96,7 +102,8 @@ pub record Implies (k n : Kept) : Type 0 where
   pub breaks : (m : Meaning) (lines : List (List ℕ)) → k.breaks m lines → n.breaks m lines
   pub untouched : k.untouched → n.untouched
 
-accepted_as : (rules : Rules) (k n : Kept) → Implies k n → (text out : List ℕ) (lines : List (List ℕ)) → Outputs (Accepting k lines) IsAll text (replied rules lines) out → Outputs (Accepting n lines) IsAll text (replied rules lines) out
+accepted_as : (rules : Rules) (k n : Kept) → Implies k n → (text out : List ℕ) (lines : List (List ℕ))
+    → Outputs (Accepting k lines) IsAll text (replied rules lines) out → Outputs (Accepting n lines) IsAll text (replied rules lines) out
 accepted_as rules k n i text out lines (Accepted syntax program, judged, kept, w) = (Accepted syntax program, judged, i.leaves _ lines kept, w)
 accepted_as rules k n i text out lines (IsRefusedBy fault, judged, never, w) = absurd never
 
@@ -104,16 +111,19 @@ refused_as : (rules : Rules) (k n : Kept) → Implies k n → (text out : List �
 refused_as rules k n i text out (Accepted syntax program, judged, never, w) = absurd never
 refused_as rules k n i text out (IsRefusedBy fault, judged, same, w) = (IsRefusedBy fault, judged, i.untouched same, w)
 
-in_piece_as : (rules : Rules) (k n : Kept) → Implies k n → (text out : List ℕ) (lines : List (List ℕ)) → OfVerdict text (λ verdict. StopsInPiece rules k lines verdict out) → OfVerdict text (λ verdict. StopsInPiece rules n lines verdict out)
+in_piece_as : (rules : Rules) (k n : Kept) → Implies k n → (text out : List ℕ) (lines : List (List ℕ))
+    → OfVerdict text (λ verdict. StopsInPiece rules k lines verdict out) → OfVerdict text (λ verdict. StopsInPiece rules n lines verdict out)
 in_piece_as rules k n i text out lines (Accepted syntax program, judged, (w, kept)) = (Accepted syntax program, judged, (w, i.leaves _ lines kept))
 in_piece_as rules k n i text out lines (IsRefusedBy fault, judged, (none, w, same)) = (IsRefusedBy fault, judged, (none, w, i.untouched same))
 
-before_piece_as : (rules : Rules) (k n : Kept) → Implies k n → (text out : List ℕ) (lines : List (List ℕ)) → OfVerdict text (λ verdict. StopsBeforePiece rules k lines verdict out) → OfVerdict text (λ verdict. StopsBeforePiece rules n lines verdict out)
+before_piece_as : (rules : Rules) (k n : Kept) → Implies k n → (text out : List ℕ) (lines : List (List ℕ))
+    → OfVerdict text (λ verdict. StopsBeforePiece rules k lines verdict out) → OfVerdict text (λ verdict. StopsBeforePiece rules n lines verdict out)
 before_piece_as rules k n i text out lines (Accepted syntax program, judged, (w, kept)) = (Accepted syntax program, judged, (w, i.breaks _ lines kept))
 before_piece_as rules k n i text out lines (IsRefusedBy fault, judged, never) = absurd never
 
 -- what is left of a program and its script is left so too
-pub serves_as : (status : Status) (rules : Rules) (k n : Kept) → Implies k n → (a b : InputState) (left left' : Option (List ℕ)) (text out : List ℕ) → Serves status rules k a left b left' text out → Serves status rules n a left b left' text out
+pub serves_as : (status : Status) (rules : Rules) (k n : Kept) → Implies k n → (a b : InputState) (left left' : Option (List ℕ)) (text out : List ℕ)
+    → Serves status rules k a left b left' text out → Serves status rules n a left b left' text out
 serves_as Done rules k n i a b left left' text out (lines, g, over, end, w) = (lines, g, over, end, accepted_as rules k n i text out lines w)
 serves_as Refused rules k n i a b left left' text out (same, w) = (same, refused_as rules k n i text out w)
 serves_as WriteFault rules k n i a b left left' text out (lines, g, near, w) = (lines, g, near, in_piece_as rules k n i text out lines w)

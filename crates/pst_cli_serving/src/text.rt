@@ -12,7 +12,7 @@ use crate::stopped::status_of;
 use pst_cli_scripts::{Session, answer_script, say};
 use pst_cli_words::Status;
 use pst_front::{Fault, NoProgram, Page, fault_text, page_of, program_of};
-use pst_io::{Lines, MOST_INPUT, Sink, Source};
+use pst_io::{Lines, Sink, Source};
 use std::alloc::Global;
 
 /// Writes the line of a fault as one piece. `Refused` where it was written whole; `WriteFault` where a write failed, after a
@@ -46,9 +46,10 @@ pub fn serve<X: Session, S: Source, K: Sink>(
     requires short { length text.items + 1 < 2 ^ 32 }
     requires open { IsOpen lines.old (S.left source.old) }
     requires near { IsNear lines.old.input }
-    requires within_old { bytes_read lines.old.input ≤ MOST_INPUT }
+    requires within_old { bytes_read lines.old.input ≤ lines.old.input.most }
     ensures served { HasTaken K.taken sink.old sink.new (ServesScript result X.rules X.leaves X.breaks held.old held.new S.left lines.old source.old lines.new source.new text.items) }
-    ensures within { bytes_read lines.new.input ≤ MOST_INPUT }
+    ensures within { bytes_read lines.new.input ≤ lines.new.input.most }
+    ensures limit { lines.new.input.most ≡ lines.old.input.most }
     ensures later { S.faults source.old ≤ S.faults source.new }
     ensures sink_later { K.faults sink.old ≤ K.faults sink.new }
     ensures read { result ≡ Status.ReadFault → Rose (S.faults source.old) (S.faults source.new) }

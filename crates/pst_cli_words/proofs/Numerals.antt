@@ -19,7 +19,9 @@ ok_if Q v (Err e) false h to from = refl
 
 pub number_read : {E : Type 0} (word : List ℕ) (r : Result ℕ E) → is_numeral word ≡ true → ParsesUnsigned 64 10 word r → result_ok r ≡ long_number word
 number_read word r h p =
-    rw (number_of-numeral word h) (ok_if ((0 < length word) × (digits_value 10 word < 2 ^ 64)) (digits_value 10 word) r (nat_lt (digits_value 10 word) (2 ^ 64)) (parse_digits own 64 word r p (numeral_digits word h)) (λ t. (numeral_some word h, search (rules, tests))) (λ t. search (rules, tests)))
+    rw (number_of-numeral word h) (ok_if ((0 < length word) × (digits_value 10 word < 2 ^ 64)) (digits_value 10 word) r
+    (nat_lt (digits_value 10 word) (2 ^ 64)) (parse_digits own 64 word r p (numeral_digits word h))
+    (λ t. (numeral_some word h, search (rules, tests))) (λ t. search (rules, tests)))
 
 -- ---- versions
 

@@ -1,13 +1,11 @@
 //! What the words ask for.
 
 ghost use Rattle.std.specs.Prelude.{◌≡◌, map, string_bytes, true};
-ghost use Rattle.std.specs.Char.{is_ascii_digit};
-ghost use Rattle.std.specs.List.{list_all};
-ghost use Rattle.pst_script.specs.Numerals.{is_numeral};
 ghost use Rattle.pst_cli_words.specs.Jobs.{long_number, version_number, job_named, task_of, path_in};
 
 use pst_base::VersionNo;
 use pst_questions::path_form;
+use pst_script::is_numeral;
 
 /// What the program can do.
 #[derive(Clone, Copy, PartialEq, Eq)]
@@ -66,23 +64,6 @@ fn job_named(word: &[u8]) -> Option<Job>
         Some(Job::Code)
     } else {
         None
-    }
-}
-
-fn are_digits(bytes: &[u8]) -> bool
-    ensures { result ≡ list_all is_ascii_digit bytes.now }
-{
-    bytes.iter().all(|byte| byte.is_ascii_digit())
-}
-
-/// Whether the word is a numeral: `0`, or a digit from 1 to 9 and then digits.
-fn is_numeral(word: &[u8]) -> bool
-    ensures { result ≡ is_numeral word.now }
-{
-    match word.split_first() {
-        None => false,
-        Some((b'0', rest)) => rest.is_empty(),
-        Some((first, rest)) => first.is_ascii_digit() && are_digits(rest),
     }
 }
 

@@ -13,7 +13,8 @@ use Rattle.pst_base.specs.Heap.{kind_in, type_in}
 use Rattle.pst_program.specs.declared.meaning.Value.{Value}
 use Rattle.pst_program.specs.declared.meaning.Value.TheVariants.{Number as ANumber, Truth as ATruth, Null as ANull, Record as ARecord}
 use Rattle.pst_program.specs.Value.{Answer, Gives, Traps, number_of, limited, operate, and_then, index_of, object_of, load, load_element}
-use Rattle.pst_program.specs.Meaning.{World, Ending, Normal, Trapped, choose, same_type, is_full, is_target, write_pointer, write_kind, next_name, record_made, pointer_written, with_object, with_index}
+use Rattle.pst_program.specs.Meaning.{World, Ending, Normal, Trapped, choose, same_type, is_full, is_target, write_pointer, write_kind, next_name, record_made}
+use Rattle.pst_program.specs.Meaning.{pointer_written, with_object, with_index}
 use Rattle.pst_program.specs.Sound.{world_in}
 use Rattle.pst_code.specs.declared.instr.Reg.{Reg}
 use Rattle.pst_code.specs.declared.instr.Instr.{Instr}

@@ -10,7 +10,8 @@ use Rattle.pst_base.specs.declared.names.Op.{Op}
 use Rattle.pst_base.specs.declared.names.Op.TheVariants as op
 use Rattle.pst_base.specs.declared.shape.TypeShape.{TypeShape}
 use Rattle.pst_program.specs.Syntax as syntax
-use Rattle.pst_program.specs.Syntax.{Expr, Action, Actions, Number, Null, Local, Root, Parens, Load, LoadIndexed, Negate, Not, Binary, Set, SetRoot, Store, StoreIndexed, New, Call, Print, If, Either, While, Return, Empty, Then, Routines}
+use Rattle.pst_program.specs.Syntax.{Expr, Action, Actions, Number, Null, Local, Root, Parens, Load, LoadIndexed, Negate, Not, Binary, Set, SetRoot, Store}
+use Rattle.pst_program.specs.Syntax.{StoreIndexed, New, Call, Print, If, Either, While, Return, Empty, Then, Routines}
 use Rattle.pst_program.specs.Typed as typed
 use Rattle.pst_program.specs.Typed.{Sort, Of, Truth, root_kind, sort_of, depth, deepest, action_depth, block_depth, IsTyped, IsTypedProcedure, IsTypedAction, IsTypedBlock}
 use Rattle.pst_program.proofs.Soundness.{given_some}
@@ -19,7 +20,8 @@ use Rattle.pst_translation.specs.declared.need.Need.{Need}
 use Rattle.pst_translation.specs.Needs.{need, expr_needs, test_needs, arguments_needs, return_needs, action_needs, block_needs, end_needs, table_of}
 use Rattle.pst_translation.proofs.Valid.{few_registers}
 use Rattle.pst_translation.proofs.ValidLists.{all_front, all_back}
-use Rattle.pst_translation.proofs.ValidSorts.{of_truth, FieldOf, field_is, ArrayOf, array_is, load_kind, element_kind, negated, no_not, denied, Operands, number_operands, and_operands, or_operands, is_logical, Compared, compared_operands}
+use Rattle.pst_translation.proofs.ValidSorts.{of_truth, FieldOf, field_is, ArrayOf, array_is, load_kind, element_kind, negated, no_not, denied, Operands}
+use Rattle.pst_translation.proofs.ValidSorts.{number_operands, and_operands, or_operands, is_logical, Compared, compared_operands}
 use Rattle.pst_translation.proofs.ValidActions.{Put, put}
 use Rattle.pst_translation.proofs.ValidTables.{noted_covers}
 use Rattle.pst_codegen_expressions.specs.Ready.{Has, HasAll, HasNoted, HasEnd, IsOperand, IsTest, AreArguments, IsResult, IsReady, AreReady, IsReadyProcedure}
@@ -69,11 +71,14 @@ module _ (shape : List TypeShape) (kinds : List Kind) (has : Has) where
         (back (expr_needs shape b (k + 1)) (need k Int ∷ []) (back (expr_needs shape a k) rest h)).0,
       )
 
-  comparison : (operator : Op) (a b : Expr) → is_logical operator ≡ false → sort (Binary operator a b) ≡ Some Truth → depth (Binary operator a b) ≤ 64 → HasEach (expr_needs shape a 0 ++ expr_needs shape b 1)
+  comparison : (operator : Op) (a b : Expr) → is_logical operator ≡ false → sort (Binary operator a b) ≡ Some Truth → depth (Binary operator a b) ≤ 64
+      → HasEach (expr_needs shape a 0 ++ expr_needs shape b 1)
       → IsOperand shape has a 0 × IsOperand shape has b 1
   comparison operator a b other s d h =
-      let c : Compared operator (sort a) (sort b) = compared_operands operator (sort a) (sort b) other s in
-      (operand a 0 c.kind c.operands.left_is (omega (arith, d)) (front (expr_needs shape a 0) (expr_needs shape b 1) h), operand b 1 c.kind c.operands.right_is (omega (arith, d)) (back (expr_needs shape a 0) (expr_needs shape b 1) h))
+      let c : Compared operator (sort a) (sort b) = compared_operands operator (sort a) (sort b) other s in (
+        operand a 0 c.kind c.operands.left_is (omega (arith, d)) (front (expr_needs shape a 0) (expr_needs shape b 1) h),
+        operand b 1 c.kind c.operands.right_is (omega (arith, d)) (back (expr_needs shape a 0) (expr_needs shape b 1) h),
+      )
 
   no_truth : (o : Option Kind) → option_map Of o ≡ Some Truth → ⊥
   no_truth None s = absurd (cc)
@@ -138,8 +143,10 @@ module _ (r : Routines) (q : syntax.Procedure) (others : (i : ℕ) (callee : syn
       → IsOperand r.shape has o 0 × IsOperand r.shape has e 1
   store_ready o slot e t d h =
       let f : Put (typed.field_of r.shape (sort_in o) slot) (sort_in e) = put (typed.field_of r.shape (sort_in o) slot) (sort_in e) t.1 in
-      let g : FieldOf r.shape (sort_in o) slot f.kind = field_is r.shape (sort_in o) slot f.kind f.there in
-      (one o 0 (Pointer g.ty) g.object (omega (arith, d)) (first_of_two (expr_needs r.shape o 0) (expr_needs r.shape e 1) h), one e 1 f.kind f.is (omega (arith, d)) (second_of_two (expr_needs r.shape o 0) (expr_needs r.shape e 1) h))
+      let g : FieldOf r.shape (sort_in o) slot f.kind = field_is r.shape (sort_in o) slot f.kind f.there in (
+        one o 0 (Pointer g.ty) g.object (omega (arith, d)) (first_of_two (expr_needs r.shape o 0) (expr_needs r.shape e 1) h),
+        one e 1 f.kind f.is (omega (arith, d)) (second_of_two (expr_needs r.shape o 0) (expr_needs r.shape e 1) h),
+      )
 
   store_element_ready : (o : Expr) (slot elements : ℕ) (i e : Expr) → IsTypedAction r q (StoreIndexed o slot elements i e) → action_depth (StoreIndexed o slot elements i e) ≤ 64
       → All (expr_needs r.shape o 0 ++ (expr_needs r.shape i 1 ++ expr_needs r.shape e 2)) → IsOperand r.shape has o 0 × IsOperand r.shape has i 1 × IsOperand r.shape has e 2
@@ -154,7 +161,8 @@ module _ (r : Routines) (q : syntax.Procedure) (others : (i : ℕ) (callee : syn
         one e 2 f.kind f.is (omega (arith, d)) (second_of_two (expr_needs r.shape i 1) (expr_needs r.shape e 2) behind),
       )
 
-  arguments_ready : (es : List Expr) (kinds : List Kind) (k : ℕ) → map sort_in es ≡ map (λ (kind : Kind). Some (Of kind)) kinds → deepest es ≤ 64 → k + length kinds ≤ 9 → All (arguments_needs r.shape es k) → AreArguments r.shape has es k
+  arguments_ready : (es : List Expr) (kinds : List Kind) (k : ℕ) → map sort_in es ≡ map (λ (kind : Kind). Some (Of kind)) kinds → deepest es ≤ 64
+      → k + length kinds ≤ 9 → All (arguments_needs r.shape es k) → AreArguments r.shape has es k
   arguments_ready [] kinds k t d few h = tt
   arguments_ready (e ∷ es) [] k t d few h = absurd (cc)
   arguments_ready (e ∷ es) (kind ∷ kinds) k t d few h =
@@ -165,7 +173,8 @@ module _ (r : Routines) (q : syntax.Procedure) (others : (i : ℕ) (callee : syn
         arguments_ready es kinds (k + 1) rest (omega (arith, d)) (omega (arith, few)) (second_of_two (expr_needs r.shape e k) (arguments_needs r.shape es (k + 1)) h),
       )
 
-  call_ready : (local : Option ℕ) (es : List Expr) (o : Option syntax.Procedure) → ((callee : syntax.Procedure) → o ≡ Some callee → IsTypedProcedure r callee) → typed.IsCall r.shape q local es o → deepest es ≤ 64
+  call_ready : (local : Option ℕ) (es : List Expr) (o : Option syntax.Procedure)
+      → ((callee : syntax.Procedure) → o ≡ Some callee → IsTypedProcedure r callee) → typed.IsCall r.shape q local es o → deepest es ≤ 64
       → All (arguments_needs r.shape es 0) → AreArguments r.shape has es 0
   call_ready local es None known t d h = absurd t
   call_ready local es (Some callee) known t d h =
@@ -187,22 +196,28 @@ module _ (r : Routines) (q : syntax.Procedure) (others : (i : ℕ) (callee : syn
     action_ready (New x ty) t d h = tt
     action_ready (Call local callee es) t d h = call_ready local es (slice_get r.procedures callee) (others callee) t d h
     action_ready (Print e) t d h = one e 0 Int t (omega (arith, d)) h
-    action_ready (If e first) t d h =
-        (condition e t.0 (omega (arith, d)) (first_of_two (test_needs r.shape e) (block_needs r.shape first) h), block_ready first t.1 (omega (arith, d)) (second_of_two (test_needs r.shape e) (block_needs r.shape first) h))
+    action_ready (If e first) t d h = (
+      condition e t.0 (omega (arith, d)) (first_of_two (test_needs r.shape e) (block_needs r.shape first) h),
+      block_ready first t.1 (omega (arith, d)) (second_of_two (test_needs r.shape e) (block_needs r.shape first) h),
+    )
     action_ready (Either e first other) t d h =
         let sides : List Need = block_needs r.shape first ++ block_needs r.shape other in (
           condition e t.0 (omega (arith, d)) (first_of_two (test_needs r.shape e) sides h),
           block_ready first t.1 (omega (arith, d)) (first_of_two (block_needs r.shape first) (block_needs r.shape other) (second_of_two (test_needs r.shape e) sides h)),
           block_ready other t.2 (omega (arith, d)) (second_of_two (block_needs r.shape first) (block_needs r.shape other) (second_of_two (test_needs r.shape e) sides h)),
         )
-    action_ready (While e body) t d h =
-        (condition e t.0 (omega (arith, d)) (first_of_two (test_needs r.shape e) (block_needs r.shape body) h), block_ready body t.1 (omega (arith, d)) (second_of_two (test_needs r.shape e) (block_needs r.shape body) h))
+    action_ready (While e body) t d h = (
+      condition e t.0 (omega (arith, d)) (first_of_two (test_needs r.shape e) (block_needs r.shape body) h),
+      block_ready body t.1 (omega (arith, d)) (second_of_two (test_needs r.shape e) (block_needs r.shape body) h),
+    )
     action_ready (Return e) t d h = return_ready e t d h
 
     block_ready : (actions : Actions) → IsTypedBlock r q actions → block_depth actions ≤ 64 → All (block_needs r.shape actions) → AreReady r.shape has actions
     block_ready Empty t d h = tt
-    block_ready (Then line action rest) t d h =
-        (action_ready action t.0 (omega (arith, d)) (first_of_two (action_needs r.shape action) (block_needs r.shape rest) h), block_ready rest t.1 (omega (arith, d)) (second_of_two (action_needs r.shape action) (block_needs r.shape rest) h))
+    block_ready (Then line action rest) t d h = (
+      action_ready action t.0 (omega (arith, d)) (first_of_two (action_needs r.shape action) (block_needs r.shape rest) h),
+      block_ready rest t.1 (omega (arith, d)) (second_of_two (action_needs r.shape action) (block_needs r.shape rest) h),
+    )
 
 -- ---- procedures
 
@@ -221,7 +236,8 @@ procedure_ready r t i p at =
     let covered : AllByRecursion (λ (n : Need). HasNoted (table_of r.shape p) n.level n.kind) (block ++ end_needs p.result) = noted_covers (block ++ end_needs p.result) [] in
     record {
       low = block_ready r p t.procedures HasAll p.body is.body is.shallow.expressions (all_there block);
-      noted = block_ready r p t.procedures (HasNoted (table_of r.shape p)) p.body is.body is.shallow.expressions (all_front (λ (n : Need). HasNoted (table_of r.shape p) n.level n.kind) block (end_needs p.result) covered);
+      noted = block_ready r p t.procedures (HasNoted (table_of r.shape p)) p.body is.body is.shallow.expressions
+          (all_front (λ (n : Need). HasNoted (table_of r.shape p) n.level n.kind) block (end_needs p.result) covered);
       end = end_ready (HasNoted (table_of r.shape p)) p.result (all_back (λ (n : Need). HasNoted (table_of r.shape p) n.level n.kind) block (end_needs p.result) covered);
       few = (few_registers r t i p at).registers;
     }

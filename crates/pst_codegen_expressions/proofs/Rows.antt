@@ -82,7 +82,8 @@ or_none : (o : Option ℕ) → option_or o None ≡ o
 or_none None = refl
 or_none (Some k) = refl
 
-module _ (rows rows2 : List (List Temporary)) (table : List Need) (l : ℕ) (kind : Kind) (h : IsIndexed rows table) (same : (level : ℕ) → row_at rows2 level ≡ row_at rows level) (inside : l < length rows2) where
+module _ (rows rows2 : List (List Temporary)) (table : List Need) (l : ℕ) (kind : Kind) (h : IsIndexed rows table)
+    (same : (level : ℕ) → row_at rows2 level ≡ row_at rows level) (inside : l < length rows2) where
   temporary : Temporary
   temporary = record { kind = kind; index = length table }
 
@@ -113,7 +114,8 @@ module _ (rows rows2 : List (List Temporary)) (table : List Need) (l : ℕ) (kin
   indexed : IsIndexed new_rows (table ++ need l kind ∷ [])
   indexed level k = ⊎_elim (λ t. here level k t.0 t.1) (λ t. there level k t.0 (λ e. t.1 (sym e))) (eqb_tells l level)
 
-pub indexed_push : (rows rows2 : List (List Temporary)) (table table2 : List Need) (l : ℕ) (kind : Kind) (row : List Temporary) (index : ℕ) → IsIndexed rows table → ((level : ℕ) → row_at rows2 level ≡ row_at rows level) → l < length rows2
+pub indexed_push : (rows rows2 : List (List Temporary)) (table table2 : List Need) (l : ℕ) (kind : Kind) (row : List Temporary) (index : ℕ)
+    → IsIndexed rows table → ((level : ℕ) → row_at rows2 level ≡ row_at rows level) → l < length rows2
     → table2 ≡ table ++ need l kind ∷ [] → index ≡ length table → row ≡ row_at rows2 l ++ record { kind = kind; index = index } ∷ []
     → IsIndexed (slice_set rows2 l row) table2
 unfolding new_rows temporary

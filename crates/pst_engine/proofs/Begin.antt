@@ -34,14 +34,17 @@ pub idle-counts : (m : Meaning) → IsLawful m → (h : History) (version : Vers
 idle-counts m law h version = ap (λ (o : Outcome). o.counts) (law.idle (record { 0 = next_run h }) h.budget 0 (heap_of m h version.0))
 
 -- no version is that of a run to come
-no-version : {H P R : Type 0} (m : Meaning) (x : Runs P R (Activation H R P)) (s : State P R) (active : List (OpenEntry H R P)) (budget next : ℕ) (h : History) → StandsFor m x active budget next s h → HasVersion h (next_run h) → ⊥
+no-version : {H P R : Type 0} (m : Meaning) (x : Runs P R (Activation H R P)) (s : State P R) (active : List (OpenEntry H R P)) (budget next : ℕ)
+    (h : History) → StandsFor m x active budget next s h → HasVersion h (next_run h) → ⊥
 no-version m x s active budget next h stand has =
     let v = stand.sound.versions has.0 has.1 has.2 in
     let within = numbered-within h.start.next_run h.runs has.1.run.0 v.run v.found in
     omega (arith, within.1, has.3)
 
-module _ {H P R : Type 0} (m : Meaning) (x : Runs P R (Activation H R P)) (law : IsLawful m) (s t : State P R) (still : SurvivesOthers x s t) (known : IsVersioned s) (placed : (p : P) → s.writable p → s.has p) where
-  forks-opened : (h : History) (before : ℕ) (version : VersionNo) (row : VersionRow P) (place : P) → slice_get s.versions version.0 ≡ Some row → Forked s row.place place t → (HasVersion h (next_run h) → ⊥) → HoldsForks s h before → HoldsForks t (opened h version []) before
+module _ {H P R : Type 0} (m : Meaning) (x : Runs P R (Activation H R P)) (law : IsLawful m) (s t : State P R) (still : SurvivesOthers x s t)
+    (known : IsVersioned s) (placed : (p : P) → s.writable p → s.has p) where
+  forks-opened : (h : History) (before : ℕ) (version : VersionNo) (row : VersionRow P) (place : P) → slice_get s.versions version.0 ≡ Some row
+      → Forked s row.place place t → (HasVersion h (next_run h) → ⊥) → HoldsForks s h before → HoldsForks t (opened h version []) before
   forks-opened h before version row place found f none holds =
       let new = new_run h version [] in
       let mine : ForkRow P = record { place = place; from = row.place; published = false } in
@@ -85,12 +88,15 @@ module _ {H P R : Type 0} (m : Meaning) (x : Runs P R (Activation H R P)) (law :
               index = w.index;
               number = w.number;
               fork = w.fork;
-              found = ap (λ rows. slice_get rows (before + w.index)) f.forks ∙ slice_get-before s.forks (mine ∷ []) (before + w.index) (slice_get_within s.forks (before + w.index) w.fork w.found) ∙ w.found;
+              found = ap (λ rows. slice_get rows (before + w.index)) f.forks
+                  ∙ slice_get-before s.forks (mine ∷ []) (before + w.index) (slice_get_within s.forks (before + w.index) w.fork w.found) ∙ w.found;
               place = w.place;
             };
       }
 
-  pub open-keeps : (active : List (OpenEntry H R P)) (budget next : ℕ) (h : History) (stand : StandsFor m x active budget next s h) (version : VersionNo) → MayOpen m h version [] → (row : VersionRow P) → slice_get s.versions version.0 ≡ Some row → (place : P) (a : Activation H R P) (run : RunNo) → run.0 ≡ next → Forked s row.place place t → x.place a ≡ place
+  pub open-keeps : (active : List (OpenEntry H R P)) (budget next : ℕ) (h : History) (stand : StandsFor m x active budget next s h)
+      (version : VersionNo) → MayOpen m h version [] → (row : VersionRow P) → slice_get s.versions version.0 ≡ Some row
+      → (place : P) (a : Activation H R P) (run : RunNo) → run.0 ≡ next → Forked s row.place place t → x.place a ≡ place
       → x.stands a t (record { run = run; calls = []; budget = budget }) 0 (t.heap place) no_counts
       → StandsFor m x (active ++ record { run = run; parent = version; calls = 0; activation = a } ∷ []) budget (next + 1) t (opened h version [])
   open-keeps active budget next h stand version may row found place a run number f at starts =
@@ -123,7 +129,8 @@ module _ {H P R : Type 0} (m : Meaning) (x : Runs P R (Activation H R P)) (law :
         counts = f.counts ∙ stand.counts ∙ sym (counts_of-opened m h version [] sound ∙ ap (counts_plus (counts_of m h)) nothing ∙ counts_plus-none (counts_of m h));
         calls = omega arith;
         older = λ p has. elim (f.only p has) as (λ _. IsOlder (t.heap p) (next + 1)) [
-          | inl q ↦ subst (λ z. IsOlder (t.heap z) (next + 1)) (sym q) (subst (λ z. IsOlder z (next + 1)) (sym f.heap) (older-more (s.heap row.place) next (next + 1) (omega arith) (stand.older row.place source.has)))
+          | inl q ↦ subst (λ z. IsOlder (t.heap z) (next + 1)) (sym q)
+              (subst (λ z. IsOlder z (next + 1)) (sym f.heap) (older-more (s.heap row.place) next (next + 1) (omega arith) (stand.older row.place source.has)))
           | inr q ↦ subst (λ z. IsOlder z (next + 1)) (sym (f.heaps p q)) (older-more (s.heap p) next (next + 1) (omega arith) (stand.older p q))
         ];
         rooted = λ q zero other. (forked-alone s t row.place place row.place q.run f source.has source.has).fresh q refl (stand.rooted q zero other);
@@ -138,7 +145,9 @@ module _ {H P R : Type 0} (m : Meaning) (x : Runs P R (Activation H R P)) (law :
               entry-kept m x s t h stand.before (h.runs ++ new ∷ []) h.versions e old
               (slice_get-before h.runs (new ∷ []) old.index (slice_get_within h.runs old.index old.run old.found) ∙ old.found)
               (heaps old.run.parent.0) still (forked-alone s t row.place place (x.place e.activation) e.run f source.has has)
-              (ap (λ rows. slice_get rows (stand.before + old.index)) f.forks ∙ slice_get-before s.forks (fork ∷ []) (stand.before + old.index) (slice_get_within s.forks (stand.before + old.index) old.fork old.fork_found) ∙ old.fork_found)
+              (ap (λ rows. slice_get rows (stand.before + old.index)) f.forks
+              ∙ slice_get-before s.forks (fork ∷ []) (stand.before + old.index)
+              (slice_get_within s.forks (stand.before + old.index) old.fork old.fork_found) ∙ old.fork_found)
           | inr u ↦ subst (λ z. IsEntry m x t (opened h version []) stand.before z) (sym u.1) (record {
             run = new;
             index = length h.runs;
@@ -173,7 +182,10 @@ module _ {H P R : Type 0} (m : Meaning) (x : Runs P R (Activation H R P)) (law :
           let is = stand.same_next in
           omega (arith, within.1)
 
-      mine_stands : (r : RunNo) → t.heap place ≡ heap_of m (opened h version []) version.0 → r.0 ≡ next → (stand' : StandsFor m x active budget next s h) → x.stands a t (record { run = r; calls = []; budget = budget }) 0 (t.heap place) no_counts → x.stands a t (work_of r.0 (new_run h version [])) 0 (heap_of m (opened h version []) version.0) (run_counts m (opened h version []) r.0 (new_run h version []))
+      mine_stands : (r : RunNo) → t.heap place ≡ heap_of m (opened h version []) version.0 → r.0 ≡ next
+          → (stand' : StandsFor m x active budget next s h) → x.stands a t (record { run = r; calls = []; budget = budget }) 0 (t.heap place)
+          no_counts → x.stands a t (work_of r.0 (new_run h version [])) 0 (heap_of m (opened h version []) version.0)
+          (run_counts m (opened h version []) r.0 (new_run h version []))
       mine_stands r begun number stand' starts' =
           let w : Work = work_of r.0 (new_run h version []) in
           let b : record { run = r; calls = []; budget = budget } ≡ w = ap (λ (k : ℕ). record w { budget = k }) stand'.same_budget in
@@ -182,7 +194,8 @@ module _ {H P R : Type 0} (m : Meaning) (x : Runs P R (Activation H R P)) (law :
           let S : Work → Heap → Counts → Type 0 = λ v y c. x.stands a t v 0 y c in
           subst (λ c. S w heap c) none (subst (λ y. S w y no_counts) begun (subst (λ v. S v (t.heap place) no_counts) b starts'))
 
-      everyone : (n : ℕ) (r : Run) → run_at (opened h version []) n ≡ Some r → is_open r ≡ true → (k : ℕ) × (g : OpenEntry H R P) × (slice_get (active ++ record { run = run; parent = version; calls = 0; activation = a } ∷ []) k ≡ Some g) × (g.run.0 ≡ n)
+      everyone : (n : ℕ) (r : Run) → run_at (opened h version []) n ≡ Some r → is_open r ≡ true → (k : ℕ) × (g : OpenEntry H R P)
+          × (slice_get (active ++ record { run = run; parent = version; calls = 0; activation = a } ∷ []) k ≡ Some g) × (g.run.0 ≡ n)
       everyone n r q is_so =
           let mine : OpenEntry H R P = record { run = run; parent = version; calls = 0; activation = a } in
           let first = h.start.next_run in
@@ -196,7 +209,8 @@ module _ {H P R : Type 0} (m : Meaning) (x : Runs P R (Activation H R P)) (law :
 
 -- ---- a run that is opened with a call
 
-pub opened-called : (h : History) (version : VersionNo) (c : NamedCall) → with_run (opened h version []) (next_run h) (called_more c) (run_at (opened h version []) (next_run h)) ≡ opened h version (c ∷ [])
+pub opened-called : (h : History) (version : VersionNo) (c : NamedCall)
+    → with_run (opened h version []) (next_run h) (called_more c) (run_at (opened h version []) (next_run h)) ≡ opened h version (c ∷ [])
 opened-called h version c =
     let first = h.start.next_run in
     let new = new_run h version [] in
@@ -210,13 +224,15 @@ opened-called h version c =
     set-last (r ∷ runs) a b = ap (λ rest. r ∷ rest) (set-last runs a b)
 
 -- the same, under the number that the engine keeps
-pub opened-called-as : (h : History) (version : VersionNo) (c : NamedCall) (k : ℕ) → k ≡ next_run h → with_run (opened h version []) k (called_more c) (run_at (opened h version []) k) ≡ opened h version (c ∷ [])
+pub opened-called-as : (h : History) (version : VersionNo) (c : NamedCall) (k : ℕ) → k ≡ next_run h
+    → with_run (opened h version []) k (called_more c) (run_at (opened h version []) k) ≡ opened h version (c ∷ [])
 opened-called-as h version c k same = ap (λ (j : ℕ). with_run (opened h version []) j (called_more c) (run_at (opened h version []) j)) same ∙ opened-called h version c
 
 -- the new run can be given its first call
 opened-may-call : (m : Meaning) (h : History) (version : VersionNo) (c : NamedCall) → MayOpen m h version (c ∷ []) → MayCall m (opened h version []) (next_run h) c
 opened-may-call m h version c may = record {
-  room = λ r found. let same : new_run h version [] ≡ r = same_Some (new_run h version []) r (sym (run_at-new h version []) ∙ found) in let none : 0 ≡ length r.calls = ap (λ (z : Run). length z.calls) same in omega arith;
+  room = λ r found. let same : new_run h version [] ≡ r = same_Some (new_run h version []) r (sym (run_at-new h version []) ∙ found) in
+      let none : 0 ≡ length r.calls = ap (λ (z : Run). length z.calls) same in omega arith;
   fits = may.fits 0 c refl;
 }
 

@@ -39,12 +39,15 @@ use Rattle.pst_history.proofs.LawLemmas.{refused_changes_nothing, only_refused_a
 run-number : (run : RunNo) (k : ℕ) → run.0 ≡ k → run ≡ record { 0 = k }
 run-number run k e = let N : ℕ → RunNo = λ j. record { 0 = j } in ap N e
 
-pub opened-reply : {H P R : Type 0} (m : Meaning) (x : Runs P R (Activation H R P)) (s : State P R) (active : List (OpenEntry H R P)) (budget : ℕ) (run : RunNo) (h : History) → StandsFor m x active budget run.0 s h → answer.Opened run ≡ answer.Opened (record { 0 = next_run h })
+pub opened-reply : {H P R : Type 0} (m : Meaning) (x : Runs P R (Activation H R P)) (s : State P R) (active : List (OpenEntry H R P)) (budget : ℕ)
+    (run : RunNo) (h : History) → StandsFor m x active budget run.0 s h → answer.Opened run ≡ answer.Opened (record { 0 = next_run h })
 opened-reply m x s active budget run h stand = ap answer.Opened (run-number run (next_run h) stand.same_next)
 
 -- a run that is opened and closed at once
-pub run-answers : {H P R : Type 0} (m : Meaning) (x : Runs P R (Activation H R P)) (t : State P R) (active : List (OpenEntry H R P)) (budget next : ℕ) (run : RunNo) (h : History) (call : Call) (r : Reply) → IsSoundHistory m h → run.0 ≡ next_run h
-    → StandsFor m x active budget next t (closed m (opened h call.version (call_of call ∷ [])) run.0) × (r ≡ close_reply m (opened h call.version (call_of call ∷ [])) run (run_at (opened h call.version (call_of call ∷ [])) run.0))
+pub run-answers : {H P R : Type 0} (m : Meaning) (x : Runs P R (Activation H R P)) (t : State P R) (active : List (OpenEntry H R P)) (budget next : ℕ)
+    (run : RunNo) (h : History) (call : Call) (r : Reply) → IsSoundHistory m h → run.0 ≡ next_run h
+    → StandsFor m x active budget next t (closed m (opened h call.version (call_of call ∷ [])) run.0)
+    × (r ≡ close_reply m (opened h call.version (call_of call ∷ [])) run (run_at (opened h call.version (call_of call ∷ [])) run.0))
     → StandsFor m x active budget next t (changed m h (command.Run call)) × (r ≡ answered m h (command.Run call))
 run-answers m x t active budget next run h call r sound number both =
     let new = opened h call.version (call_of call ∷ []) in
@@ -54,13 +57,15 @@ run-answers m x t active budget next run h call r sound number both =
 
 -- ---- a run that is given up
 
-pub drop-keeps : {H P R : Type 0} (m : Meaning) (x : Runs P R (Activation H R P)) (s : State P R) (active : List (OpenEntry H R P)) (budget next : ℕ) (h : History) (stand : StandsFor m x active budget next s h) (at : ℕ) (run : RunNo) (e : OpenEntry H R P) → slice_get active at ≡ Some e → e.run ≡ run
+pub drop-keeps : {H P R : Type 0} (m : Meaning) (x : Runs P R (Activation H R P)) (s : State P R) (active : List (OpenEntry H R P)) (budget next : ℕ)
+    (h : History) (stand : StandsFor m x active budget next s h) (at : ℕ) (run : RunNo) (e : OpenEntry H R P) → slice_get active at ≡ Some e → e.run ≡ run
     → StandsFor m x (remove active at) budget next s (with_run h run.0 dropped_run (run_at h run.0))
 drop-keeps {H = H} {P = P} {R = R} m x s active budget next h stand at run e found number =
     let o = stand.entries at e found in
     let left = leave-keeps m x s active budget next h stand at e found o Dropped refl in
     let there : run_at h e.run.0 ≡ Some o.run = entry-run m x s h stand.before e o in
-    let all : StandsFor m x (remove active at) budget next s (with_run h e.run.0 dropped_run (run_at h e.run.0)) = subst (λ z. StandsFor m x (remove active at) budget next s (with_run h e.run.0 dropped_run z)) (sym there) left in
+    let all : StandsFor m x (remove active at) budget next s (with_run h e.run.0 dropped_run (run_at h e.run.0)) =
+    subst (λ z. StandsFor m x (remove active at) budget next s (with_run h e.run.0 dropped_run z)) (sym there) left in
     subst (λ (n : RunNo). StandsFor m x (remove active at) budget next s (with_run h n.0 dropped_run (run_at h n.0))) number all
 
 -- ---- the versions
@@ -71,21 +76,26 @@ take-more f (y ∷ xs) zero x e = ap (λ z. f z ∷ []) (sym (same_Some y x e))
 take-more f (y ∷ xs) (suc j) x e = ap (λ zs. f y ∷ zs) (take-more f xs j x e)
 
 -- one parent more
-pub parents-more : {P : Type 0} (rows : List (VersionRow P)) (k : ℕ) (p : VersionNo) → parent_of rows k ≡ Some p → map (λ row. row.parent) (take (k - 1) (drop 1 rows)) ++ p ∷ [] ≡ map (λ row. row.parent) (take (k + 1 - 1) (drop 1 rows))
+pub parents-more : {P : Type 0} (rows : List (VersionRow P)) (k : ℕ) (p : VersionNo) → parent_of rows k ≡ Some p
+    → map (λ row. row.parent) (take (k - 1) (drop 1 rows)) ++ p ∷ [] ≡ map (λ row. row.parent) (take (k + 1 - 1) (drop 1 rows))
 parents-more rows zero p e = absurd (cc)
 parents-more [] (suc j) p e = absurd (cc)
 parents-more {P = P} (r ∷ rest) (suc j) p e = on (slice_get rest j) refl e
   where
-    on : (o : Option (VersionRow P)) → slice_get rest j ≡ o → option_map (λ (row : VersionRow P). row.parent) o ≡ Some p → map (λ row. row.parent) (take (suc j - 1) (drop 1 (r ∷ rest))) ++ p ∷ [] ≡ map (λ row. row.parent) (take (suc j + 1 - 1) (drop 1 (r ∷ rest)))
+    on : (o : Option (VersionRow P)) → slice_get rest j ≡ o → option_map (λ (row : VersionRow P). row.parent) o ≡ Some p
+        → map (λ row. row.parent) (take (suc j - 1) (drop 1 (r ∷ rest))) ++ p ∷ [] ≡ map (λ row. row.parent) (take (suc j + 1 - 1) (drop 1 (r ∷ rest)))
     on None q e = absurd (cc)
     on (Some row) q e =
         let one : suc j - 1 ≡ j = omega arith in
         let two : suc j ≡ suc j + 1 - 1 = omega arith in
         let is : row.parent ≡ p = same_Some row.parent p e in
-        ap (λ n. map (λ (y : VersionRow P). y.parent) (take n rest) ++ p ∷ []) one ∙ ap (λ (v : VersionNo). map (λ (y : VersionRow P). y.parent) (take j rest) ++ v ∷ []) (sym is) ∙ take-more (λ (y : VersionRow P). y.parent) rest j row q ∙ ap (λ n. map (λ (y : VersionRow P). y.parent) (take n rest)) two
+        ap (λ n. map (λ (y : VersionRow P). y.parent) (take n rest) ++ p ∷ []) one
+        ∙ ap (λ (v : VersionNo). map (λ (y : VersionRow P). y.parent) (take j rest) ++ v ∷ []) (sym is)
+        ∙ take-more (λ (y : VersionRow P). y.parent) rest j row q ∙ ap (λ n. map (λ (y : VersionRow P). y.parent) (take n rest)) two
 
 -- lists of one length with the same elements
-same-lists : {X Y Z : Type 0} (f : X → Z) (g : Y → Z) (xs : List X) (ys : List Y) → length xs ≡ length ys → ((i : ℕ) (x : X) (y : Y) → slice_get xs i ≡ Some x → slice_get ys i ≡ Some y → f x ≡ g y) → map f xs ≡ map g ys
+same-lists : {X Y Z : Type 0} (f : X → Z) (g : Y → Z) (xs : List X) (ys : List Y) → length xs ≡ length ys
+    → ((i : ℕ) (x : X) (y : Y) → slice_get xs i ≡ Some x → slice_get ys i ≡ Some y → f x ≡ g y) → map f xs ≡ map g ys
 same-lists f g [] [] len same = refl
 same-lists f g [] (y ∷ ys) len same = absurd (omega arith)
 same-lists f g (x ∷ xs) [] len same = absurd (omega arith)
@@ -100,7 +110,8 @@ get-append [] ys i y e = inr (i, omega arith, e)
 get-append (x ∷ xs) ys zero y e = inl e
 get-append (x ∷ xs) ys (suc i) y e = elim (get-append xs ys i y e) [ inl q ↦ inl q | inr q ↦ inr (q.0, omega (arith, q.1), q.2) ]
 
-pub parents-are : {P R : Type 0} (m : Meaning) (s : State P R) (h : History) → IsSoundHistory m h → HoldsVersions m s h → map (λ row. row.parent) (drop 1 s.versions) ≡ map (λ v. v.parent) (h.start.versions ++ h.versions)
+pub parents-are : {P R : Type 0} (m : Meaning) (s : State P R) (h : History) → IsSoundHistory m h → HoldsVersions m s h
+    → map (λ row. row.parent) (drop 1 s.versions) ≡ map (λ v. v.parent) (h.start.versions ++ h.versions)
 parents-are {P = P} m s h sound holds =
     let many = holds.many in
     let base = sound.start.same in
@@ -120,10 +131,13 @@ parents-are {P = P} m s h sound holds =
 -- ---- another budget
 
 -- a budget that a line can give
-pub budget-set : (m : Meaning) → IsLawful m → (h : History) (charges : ℕ) → in_range (command.Budget charges) ≡ true → IsSoundHistory m h → refusal m h (command.Budget charges) ≡ None → IsSoundHistory m (record h { budget = charges })
+pub budget-set : (m : Meaning) → IsLawful m → (h : History) (charges : ℕ) → in_range (command.Budget charges) ≡ true → IsSoundHistory m h
+    → refusal m h (command.Budget charges) ≡ None → IsSoundHistory m (record h { budget = charges })
 budget-set m law h charges range sound none = (changed-extends m law h (command.Budget charges) range sound none).sound
 
-pub budget-keeps : {H P R : Type 0} (m : Meaning) (x : Runs P R (Activation H R P)) (s : State P R) (active : List (OpenEntry H R P)) (budget charges next : ℕ) (h : History) → IsSoundHistory m (record h { budget = charges }) → StandsFor m x active budget next s h → StandsFor m x active charges next s (record h { budget = charges })
+pub budget-keeps : {H P R : Type 0} (m : Meaning) (x : Runs P R (Activation H R P)) (s : State P R) (active : List (OpenEntry H R P))
+    (budget charges next : ℕ) (h : History) → IsSoundHistory m (record h { budget = charges }) → StandsFor m x active budget next s h
+    → StandsFor m x active charges next s (record h { budget = charges })
 unfolding heaps_of counts_of
 budget-keeps m x s active budget charges next h sound stand = record {
   sound = sound;
@@ -134,11 +148,46 @@ budget-keeps m x s active budget charges next h sound stand = record {
   calls = stand.calls;
   older = stand.older;
   rooted = stand.rooted;
-  versions = record { many = stand.versions.many; versions = λ k row q. let v = stand.versions.versions k row q in record { has = v.has; heap = v.heap }; given = stand.versions.given; rows = stand.versions.rows };
+  versions = record {
+    many = stand.versions.many;
+    versions = λ k row q. let v = stand.versions.versions k row q in
+        record { has = v.has; heap = v.heap };
+    given = stand.versions.given;
+    rows = stand.versions.rows;
+  };
   before = stand.before;
-  forks = record { given = stand.forks.given; many = stand.forks.many; forks = λ i r q. let f = stand.forks.forks i r q in record { row = f.row; found = f.found; parent = f.parent; parent_found = f.parent_found; from = f.from; published = f.published; has_version = f.has_version }; placed = λ i v row q r. let w = stand.forks.placed i v row q r in record { index = w.index; number = w.number; fork = w.fork; found = w.found; place = w.place } };
+  forks = record {
+    given = stand.forks.given;
+    many = stand.forks.many;
+    forks = λ i r q. let f = stand.forks.forks i r q in
+        record {
+          row = f.row;
+          found = f.found;
+          parent = f.parent;
+          parent_found = f.parent_found;
+          from = f.from;
+          published = f.published;
+          has_version =
+              f.has_version;
+        };
+    placed = λ i v row q r. let w = stand.forks.placed i v row q r in
+        record { index = w.index; number = w.number; fork = w.fork; found = w.found; place = w.place };
+  };
   many = stand.many;
-  entries = λ i e q. let o = stand.entries i e q in record { run = o.run; index = o.index; number = o.number; found = o.found; is_so = o.is_so; parent = o.parent; calls = o.calls; stands = o.stands; fork = o.fork; fork_found = o.fork_found; place = o.place };
+  entries = λ i e q. let o = stand.entries i e q in record {
+    run = o.run;
+    index = o.index;
+    number = o.number;
+    found = o.found;
+    is_so =
+        o.is_so;
+    parent = o.parent;
+    calls = o.calls;
+    stands = o.stands;
+    fork = o.fork;
+    fork_found = o.fork_found;
+    place = o.place;
+  };
   all = stand.all;
   apart = stand.apart;
 }
@@ -146,7 +195,8 @@ budget-keeps m x s active budget charges next h sound stand = record {
 -- ---- the history after, and the reply
 
 -- what was not refused
-pub carried-stands : {H P R : Type 0} (m : Meaning) (x : Runs P R (Activation H R P)) (t : State P R) (active : List (OpenEntry H R P)) (budget next : ℕ) (h : History) (line : Command) → refusal m h line ≡ None
+pub carried-stands : {H P R : Type 0} (m : Meaning) (x : Runs P R (Activation H R P)) (t : State P R) (active : List (OpenEntry H R P))
+    (budget next : ℕ) (h : History) (line : Command) → refusal m h line ≡ None
     → StandsFor m x active budget next t (changed m h line) → StandsFor m x active budget next t (after m h line)
 unfolding after
 carried-stands m x t active budget next h line none stand = subst (λ o. StandsFor m x active budget next t (unless o (changed m h line) h)) (sym none) stand
@@ -156,7 +206,8 @@ unfolding reply
 carried-reply m h line r none is = is ∙ ap (λ o. unless_refused o (answered m h line)) (sym none)
 
 -- what was refused
-pub refused-stands : {H P R : Type 0} (m : Meaning) (x : Runs P R (Activation H R P)) (s : State P R) (active : List (OpenEntry H R P)) (budget next : ℕ) (h : History) (line : Command) (why : Refusal) → refusal m h line ≡ Some why
+pub refused-stands : {H P R : Type 0} (m : Meaning) (x : Runs P R (Activation H R P)) (s : State P R) (active : List (OpenEntry H R P))
+    (budget next : ℕ) (h : History) (line : Command) (why : Refusal) → refusal m h line ≡ Some why
     → StandsFor m x active budget next s h → StandsFor m x active budget next s (after m h line)
 refused-stands m x s active budget next h line why e stand = subst (λ y. StandsFor m x active budget next s y) (sym (refused_changes_nothing m h line why e).0) stand
 

@@ -15,7 +15,8 @@ use Rattle.pst_versions.specs.State.{State, WritesStay, IsVersioned, IsOpenFork,
 use Rattle.pst_history.specs.declared.history.RunState.TheVariants.{Closed}
 use Rattle.pst_history.specs.declared.history.Run.{Run}
 use Rattle.pst_history.specs.Meaning.{Meaning, Work, IsLawful}
-use Rattle.pst_history.specs.History.{History, run_at, work_of, heap_of, run_counts, outcome_of, closed, closed_run, close_reply, ended, version_count, with_version, with_index, with_numbered, index_from}
+use Rattle.pst_history.specs.History.{History, run_at, work_of, heap_of, run_counts, outcome_of, closed, closed_run, close_reply, ended, version_count}
+use Rattle.pst_history.specs.History.{with_version, with_index, with_numbered, index_from}
 use Rattle.pst_history.proofs.Lists.{slice_get-set_same}
 use Rattle.pst_history.proofs.Numbered.{numbered-same, numbered-length}
 use Rattle.pst_history.proofs.Steps.{restated, run-sound, heap_of-restated}
@@ -45,7 +46,8 @@ index-twice runs (Some i) a b = set-twice runs i a b
 numbered-twice : (first : ℕ) (runs : List Run) (n : ℕ) (a b : Run) → with_numbered first (with_numbered first runs n a) n b ≡ with_numbered first runs n b
 numbered-twice first runs n a b = index-twice runs (index_from first n) a b
 
-module _ {H P R : Type 0} (m : Meaning) (x : Runs P R (Activation H R P)) (law : IsLawful m) (s : State P R) (waits : StandingWaits x s) (known : IsVersioned s) (placed : (p : P) → s.writable p → s.has p)
+module _ {H P R : Type 0} (m : Meaning) (x : Runs P R (Activation H R P)) (law : IsLawful m) (s : State P R) (waits : StandingWaits x s)
+    (known : IsVersioned s) (placed : (p : P) → s.writable p → s.has p)
     (active : List (OpenEntry H R P)) (budget next : ℕ) (h : History) (stand : StandsFor m x active budget next s h) (at : ℕ) (e : OpenEntry H R P) (found : slice_get active at ≡ Some e)
     (t : State P R) (still : SurvivesOthers x s t) (b : Activation H R P) (end : Ended) (kept : KeepsOthers (x.place e.activation) s t) (writes : WritesStay s t)
     (ok : (w : Work) (k : ℕ) (y : Heap) (c : Counts) → IsWaiting m x s e.activation w k y c → RanOn m x s e.activation w (min (k + 4294967295) w.budget) y c end t b) where
@@ -98,7 +100,8 @@ module _ {H P R : Type 0} (m : Meaning) (x : Runs P R (Activation H R P)) (law :
       let i = carried.entries at (record e { activation = b }) here in
       let left = leave-keeps m x t (slice_set active at (record e { activation = b })) budget next (restated h n whole) carried at (record e { activation = b }) here i Closed refl in
       let S : List Run → Type 0 = λ runs. StandsFor m x (remove (slice_set active at (record e { activation = b })) at) budget next t (record h { runs = runs }) in
-      subst S (ap (λ (r : Run). with_numbered h.start.next_run (with_numbered h.start.next_run h.runs n whole) n (record r { state = Closed })) (whole-is i) ∙ numbered-twice h.start.next_run h.runs n whole (closed_run run)) left
+      subst S (ap (λ (r : Run). with_numbered h.start.next_run (with_numbered h.start.next_run h.runs n whole) n (record r { state = Closed }))
+      (whole-is i) ∙ numbered-twice h.start.next_run h.runs n whole (closed_run run)) left
 
   open-there : IsOpenAt t (restated h n whole) (x.place b) (carried.before + (carried.entries at (record e { activation = b }) here).index) (carried.entries at (record e { activation = b }) here).run
   open-there = entry-open m x t (restated h n whole) carried.before (record e { activation = b }) carried.sound carried.forks (carried.entries at (record e { activation = b }) here)
@@ -140,12 +143,14 @@ module _ {H P R : Type 0} (m : Meaning) (x : Runs P R (Activation H R P)) (law :
 
   -- ---- the answer
 
-  module _ (known_t : IsVersioned t) (placed_t : (p : P) → t.writable p → t.has p) (u : State P R) (still_u : SurvivesOthers x t u) (printed : List ℤ) (is_printed : printed ≡ x.printed b) (r : Reply) (same : Type 0) (stays : same → (Q : State P R → Type 0) → Q t → Q u) where
+  module _ (known_t : IsVersioned t) (placed_t : (p : P) → t.writable p → t.has p) (u : State P R) (still_u : SurvivesOthers x t u) (printed : List ℤ)
+      (is_printed : printed ≡ x.printed b) (r : Reply) (same : Type 0) (stays : same → (Q : State P R → Type 0) → Q t → Q u) where
     abbrev Result : RunNo → Type 0
     Result number = StandsFor m x (remove (slice_set active at (record e { activation = b })) at) budget next u (closed m h number.0) × (r ≡ close_reply m h number (run_at h number.0))
 
     -- what there is to show, by how the run ended
-    finish : (z : Ended) → o.end ≡ z → StandsFor m x (remove (slice_set active at (record e { activation = b })) at) budget next u (with_version (restated h n (closed_run run)) n run.parent z) → r ≡ ended (version_count h) o.printed z → Result e.run
+    finish : (z : Ended) → o.end ≡ z → StandsFor m x (remove (slice_set active at (record e { activation = b })) at) budget next u
+        (with_version (restated h n (closed_run run)) n run.parent z) → r ≡ ended (version_count h) o.printed z → Result e.run
     finish z is stands reply =
         let S : History → Type 0 = λ y. StandsFor m x (remove (slice_set active at (record e { activation = b })) at) budget next u y in (
           subst S (ap (with_version (restated h n (closed_run run)) n run.parent) (sym is) ∙ sym (closed-is m h n run run-found)) stands,
@@ -156,9 +161,11 @@ module _ {H P R : Type 0} (m : Meaning) (x : Runs P R (Activation H R P)) (law :
     by-end Done is w =
         let parent : e.parent ≡ run.parent = mine.parent in
         let d : Published t run.parent e.run (x.place b) w.0 u = let S : VersionNo → Type 0 = λ p. Published t p e.run (x.place b) w.0 u in subst S parent w.1 in
-        let stands = publish-keeps m x t u still_u known_t placed_t (remove (slice_set active at (record e { activation = b })) at) budget next (restated h n (closed_run run)) ended-there n (closed_run run) (x.place b) w.0 is-ended d in
+        let stands = publish-keeps m x t u still_u known_t placed_t (remove (slice_set active at (record e { activation = b })) at) budget next
+        (restated h n (closed_run run)) ended-there n (closed_run run) (x.place b) w.0 is-ended d in
         let number : w.0.0 ≡ version_count h = d.number ∙ ended-there.versions.many in
-        finish Done is stands (w.2 ∙ ap (λ (v : ℕ). answer.Version printed (record { 0 = v })) number ∙ ap (λ ns. answer.Version ns (record { 0 = version_count h })) (is_printed ∙ advanced-whole.printed))
+        finish Done is stands (w.2 ∙ ap (λ (v : ℕ). answer.Version printed (record { 0 = v })) number
+        ∙ ap (λ ns. answer.Version ns (record { 0 = version_count h })) (is_printed ∙ advanced-whole.printed))
     by-end (Trapped trap) is w =
         finish (Trapped trap) is (stays w.0 (λ y. StandsFor m x (remove (slice_set active at (record e { activation = b })) at) budget next y (restated h n (closed_run run))) ended-there)
         (w.1 ∙ ap (λ ns. answer.Trapped ns trap) (is_printed ∙ advanced-whole.printed))

@@ -53,7 +53,8 @@ drop_one : {X : Type 0} (xs : List X) → 0 < length xs → length (drop 1 xs) +
 drop_one [] less = absurd (omega arith)
 drop_one (x ∷ xs) less = omega arith
 
-module _ {P R : Type 0} (m : Meaning) (law : IsLawful m) (s : State P R) (sound : IsSound s) (known : IsVersioned s) (next budget : ℕ) (is : IsOpeningHeap m s next) (low : 0 < next) (high : next ≤ RUNS + 1) (some : 0 < budget) (most : budget ≤ MOST_CHARGES) where
+module _ {P R : Type 0} (m : Meaning) (law : IsLawful m) (s : State P R) (sound : IsSound s) (known : IsVersioned s) (next budget : ℕ)
+    (is : IsOpeningHeap m s next) (low : 0 < next) (high : next ≤ RUNS + 1) (some : 0 < budget) (most : budget ≤ MOST_CHARGES) where
   pub opening-is : IsOpening m (opening_of s next budget)
   opening-is =
       let all : length (map (λ (row : VersionRow P). s.heap row.place) s.versions) ≡ length s.versions = length-map s.versions (λ (row : VersionRow P). s.heap row.place) in
@@ -85,7 +86,11 @@ module _ {P R : Type 0} (m : Meaning) (law : IsLawful m) (s : State P R) (sound 
             let w = mapped (λ (row : VersionRow P). s.heap row.place) s.versions k heap q in
             let has = (known.places k w.0 w.1).has in
             let Q : Heap → Type 0 = λ y. IsBefore m y next in
-            subst Q w.2 (record { well_formed = (let S : List TypeShape → Type 0 = λ z. IsWellFormed z (s.heap w.0.place) in subst S is.shape (sound.well_formed w.0.place has)); older = is.older w.0.place has });
+            subst Q w.2 (record {
+              well_formed = (let S : List TypeShape → Type 0 = λ z. IsWellFormed z (s.heap w.0.place) in
+                  subst S is.shape (sound.well_formed w.0.place has));
+              older = is.older w.0.place has;
+            });
       }
 
   counts-same : s.counts ≡ counts_of m (begun (opening_of s next budget))
@@ -107,10 +112,13 @@ module _ {P R : Type 0} (m : Meaning) (law : IsLawful m) (s : State P R) (sound 
         versions = record {
           many = omega arith;
           versions = λ k row q.
-              let at : slice_get (map (λ (row : VersionRow P). s.heap row.place) s.versions) k ≡ Some (s.heap row.place) = slice_get-map (λ (row : VersionRow P). s.heap row.place) s.versions k ∙ ap (option_map (λ (row : VersionRow P). s.heap row.place)) q in
+              let at : slice_get (map (λ (row : VersionRow P). s.heap row.place) s.versions) k ≡ Some (s.heap row.place) =
+              slice_get-map (λ (row : VersionRow P). s.heap row.place) s.versions k ∙ ap (option_map (λ (row : VersionRow P). s.heap row.place)) q in
               record {
                 has = (known.places k row q).has;
-                heap = sym (heap_of-given m (begun (opening_of s next budget)) k (slice_get_within (map (λ (row : VersionRow P). s.heap row.place) s.versions) k (s.heap row.place) at) ∙ get_or-is (map (λ (row : VersionRow P). s.heap row.place) s.versions) k (initial_heap m.shape) (s.heap row.place) at);
+                heap = sym (heap_of-given m (begun (opening_of s next budget)) k
+                    (slice_get_within (map (λ (row : VersionRow P). s.heap row.place) s.versions) k (s.heap row.place) at)
+                    ∙ get_or-is (map (λ (row : VersionRow P). s.heap row.place) s.versions) k (initial_heap m.shape) (s.heap row.place) at);
               };
           given = λ i v row p q.
               let w = mapped row_of (drop 1 s.versions) i v p in
@@ -155,5 +163,12 @@ started-opens {P = P} m law s is = record {
 pub started-opening : {P R : Type 0} (m : Meaning) (s : State P R) → IsStartedHeap m s → opening_of s 1 BUDGET ≡ opening m.shape
 started-opening {P = P} m s is =
     let one : opening_of s 1 BUDGET ≡ record { versions = []; heaps = s.heap is.place ∷ []; next_run = 1; budget = BUDGET; counts = s.counts } =
-    ap (λ (rows : List (VersionRow P)). record { versions = map row_of (drop 1 rows); heaps = map (λ (row : VersionRow P). s.heap row.place) rows; next_run = 1; budget = BUDGET; counts = s.counts }) is.versions in
+    ap (λ (rows : List (VersionRow P)). record {
+      versions = map row_of (drop 1 rows);
+      heaps =
+          map (λ (row : VersionRow P). s.heap row.place) rows;
+      next_run = 1;
+      budget = BUDGET;
+      counts = s.counts;
+    }) is.versions in
     one ∙ ap (λ y. record { versions = []; heaps = y ∷ []; next_run = 1; budget = BUDGET; counts = s.counts }) is.heap ∙ ap (λ c. record (opening m.shape) { counts = c }) is.counts

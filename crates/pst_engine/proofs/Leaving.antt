@@ -26,7 +26,8 @@ module _ {H P R : Type 0} (m : Meaning) (x : Runs P R (Activation H R P)) (s : S
   pub leaving : (h : History) (n : ℕ) (r : Run) (state : RunState) → (sound : IsSoundHistory m h) → run_at h n ≡ Some r → is_open r ≡ true → IsRestated m h n r (record r { state = state })
   leaving h n r state sound found is_so = same_calls m h n r (record r { state = state }) sound found is_so refl refl refl (run-granted m h n r sound found) (omega arith)
 
-  pub leave-keeps : (active : List (OpenEntry H R P)) (budget next : ℕ) (h : History) (stand : StandsFor m x active budget next s h) (i : ℕ) (e : OpenEntry H R P) → slice_get active i ≡ Some e → (o : IsEntry m x s h stand.before e) (state : RunState) → is_open_state state ≡ false
+  pub leave-keeps : (active : List (OpenEntry H R P)) (budget next : ℕ) (h : History) (stand : StandsFor m x active budget next s h) (i : ℕ)
+      (e : OpenEntry H R P) → slice_get active i ≡ Some e → (o : IsEntry m x s h stand.before e) (state : RunState) → is_open_state state ≡ false
       → StandsFor m x (remove active i) budget next s (restated h e.run.0 (record o.run { state = state }))
   leave-keeps active budget next h stand i e found o state shut =
       let n = e.run.0 in
@@ -39,7 +40,8 @@ module _ {H P R : Type 0} (m : Meaning) (x : Runs P R (Activation H R P)) (s : S
       let same_next = stand.same_next in
       let open_old : unit_of (is_open o.run) ≡ 1 = ap unit_of step.was_open in
       let open_new : unit_of (is_open new) ≡ 0 = ap unit_of shut in
-      let count : count_by is_open (with_numbered first h.runs n new) + unit_of (is_open o.run) ≡ count_by is_open h.runs + unit_of (is_open new) = numbered-count first h.runs is_open n o.run new step.found in
+      let count : count_by is_open (with_numbered first h.runs n new) + unit_of (is_open o.run) ≡ count_by is_open h.runs + unit_of (is_open new) =
+      numbered-count first h.runs is_open n o.run new step.found in
       let many = stand.many in
       let fewer : length (remove active i) + 1 ≡ length active = length-remove active i (slice_get_within active i e found) in
       record {
@@ -80,7 +82,8 @@ module _ {H P R : Type 0} (m : Meaning) (x : Runs P R (Activation H R P)) (s : S
             same_left active i j k f g one two (stand.apart one.index two.index f g one.found two.found same);
       }
     where
-      everyone : (k : ℕ) (r : Run) → run_at (restated h e.run.0 (record o.run { state = state })) k ≡ Some r → is_open r ≡ true → (l : ℕ) × (g : OpenEntry H R P) × (slice_get (remove active i) l ≡ Some g) × (g.run.0 ≡ k)
+      everyone : (k : ℕ) (r : Run) → run_at (restated h e.run.0 (record o.run { state = state })) k ≡ Some r → is_open r ≡ true → (l : ℕ)
+          × (g : OpenEntry H R P) × (slice_get (remove active i) l ≡ Some g) × (g.run.0 ≡ k)
       everyone k r q is_so =
           let first = h.start.next_run in
           let n = e.run.0 in

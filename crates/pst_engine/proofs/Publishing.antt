@@ -45,7 +45,8 @@ same_or (suc a) zero = inr (λ e. cc)
 same_or (suc a) (suc b) = elim (same_or a b) [ inl e ↦ inl (ap suc e) | inr ne ↦ inr (λ e. ne (omega (arith, e))) ]
 
 -- each fork stays with its place, published or not
-still_there : {P : Type 0} (rows new : List (ForkRow P)) (i k : ℕ) (f : ForkRow P) → new ≡ published_in rows i → slice_get rows k ≡ Some f → (g : ForkRow P) × (slice_get new k ≡ Some g) × (g.place ≡ f.place)
+still_there : {P : Type 0} (rows new : List (ForkRow P)) (i k : ℕ) (f : ForkRow P) → new ≡ published_in rows i → slice_get rows k ≡ Some f
+    → (g : ForkRow P) × (slice_get new k ≡ Some g) × (g.place ≡ f.place)
 still_there {P = P} rows new i k f e at = elim (same_or k i) as (λ _. (g : ForkRow P) × (slice_get new k ≡ Some g) × (g.place ≡ f.place)) [
   | inl same ↦ (record f { published = true }, ap (λ r. slice_get r k) e ∙ ap (slice_get (published_in rows i)) same ∙ published_in-same rows i f (ap (slice_get rows) (sym same) ∙ at), refl)
   | inr ne ↦ (f, ap (λ r. slice_get r k) e ∙ published_in-other rows i k ne ∙ at, refl)
@@ -65,7 +66,8 @@ pub record IsEnded {P R : Type 0} (m : Meaning) (s : State P R) (h : History) (b
   pub heap : s.heap at ≡ (m.outcome (work_of n r) r.budget (heap_of m h r.parent.0)).heap
 
 module _ {H P R : Type 0} (m : Meaning) (x : Runs P R (Activation H R P)) (s t : State P R) (still : SurvivesOthers x s t) (known : IsVersioned s) (placed : (p : P) → s.writable p → s.has p) where
-  pub publish-keeps : (active : List (OpenEntry H R P)) (budget next : ℕ) (h : History) (stand : StandsFor m x active budget next s h) (n : ℕ) (r : Run) (at : P) (version : VersionNo) → IsEnded m s h stand.before n r at → Published s r.parent (record { 0 = n }) at version t
+  pub publish-keeps : (active : List (OpenEntry H R P)) (budget next : ℕ) (h : History) (stand : StandsFor m x active budget next s h) (n : ℕ)
+      (r : Run) (at : P) (version : VersionNo) → IsEnded m s h stand.before n r at → Published s r.parent (record { 0 = n }) at version t
       → StandsFor m x active budget next t (published h n r.parent)
   publish-keeps active budget next h stand n r at version o d =
       let v : Descent = record { run = record { 0 = n }; parent = r.parent } in
@@ -80,8 +82,10 @@ module _ {H P R : Type 0} (m : Meaning) (x : Runs P R (Activation H R P)) (s t :
       let len_t : length (s.versions ++ row ∷ []) ≡ length s.versions + 1 = length-append s.versions (row ∷ []) in
       let len_h : length (h.versions ++ v ∷ []) ≡ length h.versions + 1 = length-append h.versions (v ∷ []) in
       let len : length t.versions ≡ length (s.versions ++ row ∷ []) = ap (λ rows. length rows) d.versions in
-      let old_row : (k : ℕ) (y : VersionRow P) → slice_get t.versions k ≡ Some y → (slice_get s.versions k ≡ Some y) ⊎ ((k ≡ length s.versions) × (y ≡ row)) = λ k y q. slice_get-of_append s.versions row y k (ap (λ rows. slice_get rows k) (sym d.versions) ∙ q) in
-      let index : d.fork.index ≡ stand.before + o.index = known.apart d.fork.index (stand.before + o.index) (record { place = at; from = d.from; published = false }) (record { place = at; from = o.from; published = false }) d.fork.row o.row refl in
+      let old_row : (k : ℕ) (y : VersionRow P) → slice_get t.versions k ≡ Some y → (slice_get s.versions k ≡ Some y)
+      ⊎ ((k ≡ length s.versions) × (y ≡ row)) = λ k y q. slice_get-of_append s.versions row y k (ap (λ rows. slice_get rows k) (sym d.versions) ∙ q) in
+      let index : d.fork.index ≡ stand.before + o.index = known.apart d.fork.index (stand.before + o.index)
+      (record { place = at; from = d.from; published = false }) (record { place = at; from = o.from; published = false }) d.fork.row o.row refl in
       let forks_t : t.forks ≡ published_in s.forks (stand.before + o.index) = d.forks ∙ ap (published_in s.forks) index in
       record {
         sound = published-sound m h n r sound o.closed;
@@ -101,7 +105,8 @@ module _ {H P R : Type 0} (m : Meaning) (x : Runs P R (Activation H R P)) (s t :
                 record { has = d.grows.has y.place was.has; heap = d.heaps y.place was.has ∙ was.heap ∙ sym (heap_of-more m h v k (omega arith)) }
             | inr u ↦ subst (λ z. IsVersion m t (published h n r.parent) k z) (sym u.1) (record {
               has = d.grows.has at o.has;
-              heap = d.heaps at o.has ∙ o.heap ∙ ap (λ z. made_by m n z (heap_of m h r.parent.0)) (sym o.closed.found) ∙ sym (heap_of-new m h v) ∙ ap (heap_of m (published h n r.parent)) (sym (u.0 ∙ many));
+              heap = d.heaps at o.has ∙ o.heap ∙ ap (λ z. made_by m n z (heap_of m h r.parent.0)) (sym o.closed.found) ∙ sym (heap_of-new m h v)
+                  ∙ ap (heap_of m (published h n r.parent)) (sym (u.0 ∙ many));
             })
           ];
           given = λ i w y p q. elim (old_row (i + 1) y q) as (λ _. SameRow w y) [
@@ -141,7 +146,8 @@ module _ {H P R : Type 0} (m : Meaning) (x : Runs P R (Activation H R P)) (s t :
                 index = o.index;
                 number = (let e : w.run.0 ≡ n = ap (λ (g : Descent). g.run.0) u.1 in e ∙ o.number);
                 fork = record { place = at; from = o.from; published = true };
-                found = ap (λ rows. slice_get rows (stand.before + o.index)) forks_t ∙ published_in-same s.forks (stand.before + o.index) (record { place = at; from = o.from; published = false }) o.row;
+                found = ap (λ rows. slice_get rows (stand.before + o.index)) forks_t
+                    ∙ published_in-same s.forks (stand.before + o.index) (record { place = at; from = o.from; published = false }) o.row;
                 place = ap (λ (g : VersionRow P). g.place) (sym z.1);
               }
             ]
@@ -152,7 +158,9 @@ module _ {H P R : Type 0} (m : Meaning) (x : Runs P R (Activation H R P)) (s t :
             let old = stand.entries j e q in
             let has = placed (x.place e.activation) (entry-writable m x s h stand.before e known sound stand.forks old) in
             let apart : stand.before + old.index ≢ stand.before + o.index = λ same. not_mine stand o e old (omega (arith, same)) in
-            let elsewhere : x.place e.activation ≡ at → ⊥ = λ same. apart (known.apart (stand.before + old.index) (stand.before + o.index) old.fork (record { place = at; from = o.from; published = false }) old.fork_found o.row (old.place ∙ same)) in
+            let elsewhere : x.place e.activation ≡ at → ⊥ = λ same. apart
+            (known.apart (stand.before + old.index) (stand.before + o.index) old.fork (record { place = at; from = o.from; published = false })
+            old.fork_found o.row (old.place ∙ same)) in
             let version_below = (run-sound m h sound e.run.0 old.run (entry-run m x s h stand.before e old)).version in
             entry-kept m x s t h stand.before h.runs (h.versions ++ v ∷ []) e old old.found (heap_of-more m h v old.run.parent.0 version_below) still
             (published-alone s t r.parent (record { 0 = n }) at version (x.place e.activation) e.run d has elsewhere)
@@ -162,16 +170,25 @@ module _ {H P R : Type 0} (m : Meaning) (x : Runs P R (Activation H R P)) (s t :
       }
     where
       -- a version that there was has the place of its fork, published or not
-      placed_before : (stand : StandsFor m x active budget next s h) (k : ℕ) → t.forks ≡ published_in s.forks k → (w : Descent) (y : VersionRow P) → IsPlaced s h stand.before w y → IsPlaced t (published h n r.parent) stand.before w y
+      placed_before : (stand : StandsFor m x active budget next s h) (k : ℕ) → t.forks ≡ published_in s.forks k → (w : Descent) (y : VersionRow P)
+          → IsPlaced s h stand.before w y → IsPlaced t (published h n r.parent) stand.before w y
       placed_before stand k forks_t w y z = elim (same_or (stand.before + z.index) k) as (λ _. IsPlaced t (published h n r.parent) stand.before w y) [
         | inl same ↦ record {
           index = z.index;
           number = z.number;
           fork = record z.fork { published = true };
-          found = ap (λ rows. slice_get rows (stand.before + z.index)) forks_t ∙ ap (slice_get (published_in s.forks k)) same ∙ published_in-same s.forks k z.fork (ap (slice_get s.forks) (sym same) ∙ z.found);
+          found = ap (λ rows. slice_get rows (stand.before + z.index)) forks_t ∙ ap (slice_get (published_in s.forks k)) same
+              ∙ published_in-same s.forks k z.fork (ap (slice_get s.forks) (sym same) ∙ z.found);
           place = z.place;
         }
-        | inr ne ↦ record { index = z.index; number = z.number; fork = z.fork; found = ap (λ rows. slice_get rows (stand.before + z.index)) forks_t ∙ published_in-other s.forks k (stand.before + z.index) ne ∙ z.found; place = z.place }
+        | inr ne ↦ record {
+          index = z.index;
+          number = z.number;
+          fork = z.fork;
+          found = ap (λ rows. slice_get rows (stand.before + z.index)) forks_t
+              ∙ published_in-other s.forks k (stand.before + z.index) ne ∙ z.found;
+          place = z.place;
+        }
       ]
 
       -- the run is not open
@@ -182,20 +199,26 @@ module _ {H P R : Type 0} (m : Meaning) (x : Runs P R (Activation H R P)) (s t :
           let was_open = old.is_so in
           cc (shut, was_open)
 
-      each : (stand : StandsFor m x active budget next s h) (o : IsEnded m s h stand.before n r at) → Published s r.parent (record { 0 = n }) at version t → t.forks ≡ published_in s.forks (stand.before + o.index) → (j : ℕ) (z : Run) → slice_get h.runs j ≡ Some z → IsForkOf t (published h n r.parent) (stand.before + j) (h.start.next_run + j) z
+      each : (stand : StandsFor m x active budget next s h) (o : IsEnded m s h stand.before n r at)
+          → Published s r.parent (record { 0 = n }) at version t → t.forks ≡ published_in s.forks (stand.before + o.index) → (j : ℕ) (z : Run)
+          → slice_get h.runs j ≡ Some z → IsForkOf t (published h n r.parent) (stand.before + j) (h.start.next_run + j) z
       each stand o d forks_t j z q =
           let v : Descent = record { run = record { 0 = n }; parent = r.parent } in
           let row : VersionRow P = record { parent = r.parent; run = record { 0 = n }; place = at } in
           let f = stand.forks.forks j z q in
-          let parent : slice_get t.versions z.parent.0 ≡ Some f.parent = ap (λ rows. slice_get rows z.parent.0) d.versions ∙ slice_get-before s.versions (row ∷ []) z.parent.0 (slice_get_within s.versions z.parent.0 f.parent f.parent_found) ∙ f.parent_found in
-          let later : (k : ℕ) → HasVersion h k → HasVersion (published h n r.parent) k = λ k has. (has.0, has.1, slice_get-before h.versions (v ∷ []) has.0 (slice_get_within h.versions has.0 has.1 has.2) ∙ has.2, has.3) in
+          let parent : slice_get t.versions z.parent.0 ≡ Some f.parent = ap (λ rows. slice_get rows z.parent.0) d.versions
+          ∙ slice_get-before s.versions (row ∷ []) z.parent.0 (slice_get_within s.versions z.parent.0 f.parent f.parent_found) ∙ f.parent_found in
+          let later : (k : ℕ) → HasVersion h k → HasVersion (published h n r.parent) k =
+          λ k has. (has.0, has.1, slice_get-before h.versions (v ∷ []) has.0 (slice_get_within h.versions has.0 has.1 has.2) ∙ has.2, has.3) in
           let mine : HasVersion (published h n r.parent) n = (length h.versions, v, slice_get-last h.versions v, refl) in
           elim (same_or j o.index) as (λ _. IsForkOf t (published h n r.parent) (stand.before + j) (h.start.next_run + j) z) [
             | inl same ↦
                 let at_row : slice_get s.forks (stand.before + j) ≡ Some f.row = f.found in
                 record {
                   row = record f.row { published = true };
-                  found = ap (λ rows. slice_get rows (stand.before + j)) forks_t ∙ ap (λ k. slice_get (published_in s.forks (stand.before + k)) (stand.before + j)) (sym same) ∙ published_in-same s.forks (stand.before + j) f.row at_row;
+                  found = ap (λ rows. slice_get rows (stand.before + j)) forks_t
+                      ∙ ap (λ k. slice_get (published_in s.forks (stand.before + k)) (stand.before + j)) (sym same)
+                      ∙ published_in-same s.forks (stand.before + j) f.row at_row;
                   parent = f.parent;
                   parent_found = parent;
                   from = f.from;

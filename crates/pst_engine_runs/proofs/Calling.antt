@@ -182,7 +182,8 @@ module _ (parts : Parts) (valid : IsValidCode parts) (p : Procedure) (one : IsOn
       leaves_on parts (first_frame p vs) w (first_spends parts valid p vs w one) (stand parts p vs w) (has_stopped parts valid p one vs w) (sound_stand w s)
       (steps_pay parts valid (bound parts p vs w) (first_frame p vs) [] w (begins w s))
 
-  more_on : (d : ℕ) (w : World) → IsSoundWorld parts.shape (granted d w) → (v : Move) → stand parts p vs w ≡ v → HasStopped v → MoveIsSound parts (first_frame p vs) [] w v → More d (end_or w (spent v)) (machine_run parts (Some p) vs (granted d w))
+  more_on : (d : ℕ) (w : World) → IsSoundWorld parts.shape (granted d w) → (v : Move) → stand parts p vs w ≡ v → HasStopped v
+      → MoveIsSound parts (first_frame p vs) [] w v → More d (end_or w (spent v)) (machine_run parts (Some p) vs (granted d w))
   more_on d w s (Goes g c u) e stop sound = absurd stop
   more_on d w s (Waits line g c u) e stop sound =
       let r = grants_reach parts d (bound parts p vs w) (first_frame p vs) [] w in
@@ -194,7 +195,8 @@ module _ (parts : Parts) (valid : IsValidCode parts) (p : Procedure) (one : IsOn
       record { records = counts.records; pointer_writes = counts.pointer_writes; value_writes = counts.value_writes }
   more_on d w s (Over o) e stop sound =
       let r = grants_reach parts d (bound parts p vs w) (first_frame p vs) [] w in
-      more_end d o (machine_run parts (Some p) vs (granted d w)) (run_is parts valid p one vs (granted d w) (granted_end d o) (record { within = r.within; comes = ap spent (r.comes ∙ ap (granted_move d) e) }))
+      more_end d o (machine_run parts (Some p) vs (granted d w))
+      (run_is parts valid p one vs (granted d w) (granted_end d o) (record { within = r.within; comes = ap spent (r.comes ∙ ap (granted_move d) e) }))
   more_on d w s Stuck e stop sound = absurd sound
 
   run_more : (d : ℕ) (w : World) → IsSoundWorld parts.shape w → More d (machine_run parts (Some p) vs w) (machine_run parts (Some p) vs (ahead d w))

@@ -71,24 +71,33 @@ module _ (r : Routines) (typed : IsTyped r) where
 
   -- ---- calls that fit
 
-  fits-procedure : (query : Bool) (c : NamedCall) (i : ℕ) (p : Procedure) (b : Bool) → slice_get r.procedures i ≡ Some p → p.query ≡ b → fits_one (parameters_if query (signature p)) c.arguments ≡ true → length c.arguments ≡ p.arguments
-  fits-procedure true c i p true e q t = let le = (typed.procedures i p e).parameters in fits-length (take p.arguments p.kinds) c.arguments (ap (λ x. fits_one (if x then Some (take p.arguments p.kinds) else None) c.arguments) (sym q) ∙ t) ∙ length-take-le p.arguments p.kinds le
+  fits-procedure : (query : Bool) (c : NamedCall) (i : ℕ) (p : Procedure) (b : Bool) → slice_get r.procedures i ≡ Some p → p.query ≡ b
+      → fits_one (parameters_if query (signature p)) c.arguments ≡ true → length c.arguments ≡ p.arguments
+  fits-procedure true c i p true e q t = let le = (typed.procedures i p e).parameters in
+      fits-length (take p.arguments p.kinds) c.arguments (ap (λ x. fits_one (if x then Some (take p.arguments p.kinds) else None) c.arguments) (sym q)
+      ∙ t) ∙ length-take-le p.arguments p.kinds le
   fits-procedure true c i p false e q t = absurd (cc (ap (λ x. fits_one (if x then Some (take p.arguments p.kinds) else None) c.arguments) (sym q) ∙ t))
   fits-procedure false c i p true e q t = absurd (cc (ap (λ x. fits_one (if x then None else Some (take p.arguments p.kinds)) c.arguments) (sym q) ∙ t))
-  fits-procedure false c i p false e q t = let le = (typed.procedures i p e).parameters in fits-length (take p.arguments p.kinds) c.arguments (ap (λ x. fits_one (if x then None else Some (take p.arguments p.kinds)) c.arguments) (sym q) ∙ t) ∙ length-take-le p.arguments p.kinds le
+  fits-procedure false c i p false e q t = let le = (typed.procedures i p e).parameters in
+      fits-length (take p.arguments p.kinds) c.arguments (ap (λ x. fits_one (if x then None else Some (take p.arguments p.kinds)) c.arguments) (sym q)
+      ∙ t) ∙ length-take-le p.arguments p.kinds le
 
   is-call : (query : Bool) (c : NamedCall) → fits_one (parameters_named query r c.procedure) c.arguments ≡ true → IsCallOf r (direct_call r c)
   is-call query c t = on (procedure_named r c.procedure) t
     where
-      at : (i : ℕ) (o : Option Procedure) → slice_get r.procedures i ≡ o → fits_one (option_and_then (of_program query) o) c.arguments ≡ true → IsCallOf r (record { procedure = i; arguments = c.arguments })
+      at : (i : ℕ) (o : Option Procedure) → slice_get r.procedures i ≡ o → fits_one (option_and_then (of_program query) o) c.arguments ≡ true
+          → IsCallOf r (record { procedure = i; arguments = c.arguments })
       at i None e t = absurd (cc)
       at i (Some p) e t = record { procedure = p; found = e; fits = fits-procedure query c i p p.query e refl t }
 
-      on : (o : Option ℕ) → fits_one (option_and_then (of_program query) (option_and_then (slice_get r.procedures) o)) c.arguments ≡ true → IsCallOf r (record { procedure = unwrap_or o (length r.procedures); arguments = c.arguments })
+      on : (o : Option ℕ) → fits_one (option_and_then (of_program query) (option_and_then (slice_get r.procedures) o)) c.arguments ≡ true
+          → IsCallOf r (record { procedure = unwrap_or o (length r.procedures); arguments = c.arguments })
       on None t = absurd (cc)
       on (Some i) t = at i (slice_get r.procedures i) refl t
 
-  all-calls : (query : Bool) (calls : List NamedCall) → ((i : ℕ) (c : NamedCall) → slice_get calls i ≡ Some c → fits_one (parameters_named query r c.procedure) c.arguments ≡ true) → (i : ℕ) (c : TaskCall) → slice_get (map (direct_call r) calls) i ≡ Some c → IsCallOf r c
+  all-calls : (query : Bool) (calls : List NamedCall) → ((i : ℕ) (c : NamedCall) → slice_get calls i ≡ Some c
+      → fits_one (parameters_named query r c.procedure) c.arguments ≡ true) → (i : ℕ) (c : TaskCall)
+      → slice_get (map (direct_call r) calls) i ≡ Some c → IsCallOf r c
   all-calls query calls fit i c e = on (slice_get calls i) refl (sym (slice_get-map (direct_call r) calls i) ∙ e)
     where
       on : (o : Option NamedCall) → slice_get calls i ≡ o → option_map (direct_call r) o ≡ Some c → IsCallOf r c
@@ -104,10 +113,12 @@ module _ (r : Routines) (typed : IsTyped r) where
     proc = λ name. kinds-same false name;
     query = λ name. kinds-same true name;
     comes = λ w granted heap ready.
-        let are : (i : ℕ) (c : TaskCall) → slice_get (map (direct_call r) w.calls) i ≡ Some c → IsCallOf r c = elim ready.work [ inl q ↦ all-calls false w.calls q | inr q ↦ all-calls true w.calls q ] in
+        let are : (i : ℕ) (c : TaskCall) → slice_get (map (direct_call r) w.calls) i ≡ Some c → IsCallOf r c =
+        elim ready.work [ inl q ↦ all-calls false w.calls q | inr q ↦ all-calls true w.calls q ] in
         let all = comes r typed (task_of r w) are granted heap in
         (all.0, subst (λ calls. CallsEndIn (code_of r) calls (first_world w.run (min granted w.budget) heap) all.0) (sym (calls-same w.calls)) all.1);
-    outcome = λ w granted heap o ends. sym (only r typed (task_of r w) granted heap o (subst (λ calls. CallsEndIn (code_of r) calls (first_world w.run (min granted w.budget) heap) o) (calls-same w.calls) ends));
+    outcome = λ w granted heap o ends. sym (only r typed (task_of r w) granted heap o
+        (subst (λ calls. CallsEndIn (code_of r) calls (first_world w.run (min granted w.budget) heap) o) (calls-same w.calls) ends));
   }
 
 pub compiled_code_means : CodeComesToTheOutcome → CodeHasTheOutcome → CompiledCodeMeansTheProgram

@@ -30,7 +30,8 @@ module _ (parts : Parts) where
       let same : x.procedure ≡ y.procedure = cc in
       one_end parts y.procedure (map ANumber c.arguments) w a b (subst (λ (p : Procedure). EndsIn parts p (map ANumber c.arguments) w a) same x.ends) y.ends
 
-  next_one_end : (calls : List TaskCall) (e a b : Ending) → ((w : World) → CallsEndIn parts calls w a → CallsEndIn parts calls w b → a ≡ b) → NextEndsIn e (λ v. CallsEndIn parts calls v a) a → NextEndsIn e (λ v. CallsEndIn parts calls v b) b → a ≡ b
+  next_one_end : (calls : List TaskCall) (e a b : Ending) → ((w : World) → CallsEndIn parts calls w a → CallsEndIn parts calls w b → a ≡ b)
+      → NextEndsIn e (λ v. CallsEndIn parts calls v a) a → NextEndsIn e (λ v. CallsEndIn parts calls v b) b → a ≡ b
   next_one_end calls (Normal env w) a b on x y = on w x y
   next_one_end calls (Returned v w) a b on x y = on w x y
   next_one_end calls (Trapped t line w) a b on x y = x ∙ sym y
@@ -62,7 +63,9 @@ module _ (parts : Parts) where
     };
   }
 
-  next_counted : (d : Counts) (calls : List TaskCall) (e o : Ending) → ((w : World) → CallsEndIn parts calls w o → CallsEndIn parts calls (counted d w) (counted_end d o)) → NextEndsIn e (λ v. CallsEndIn parts calls v o) o → NextEndsIn (counted_end d e) (λ v. CallsEndIn parts calls v (counted_end d o)) (counted_end d o)
+  next_counted : (d : Counts) (calls : List TaskCall) (e o : Ending)
+      → ((w : World) → CallsEndIn parts calls w o → CallsEndIn parts calls (counted d w) (counted_end d o))
+      → NextEndsIn e (λ v. CallsEndIn parts calls v o) o → NextEndsIn (counted_end d e) (λ v. CallsEndIn parts calls v (counted_end d o)) (counted_end d o)
   next_counted d calls (Normal env w) o on x = on w x
   next_counted d calls (Returned v w) o on x = on w x
   next_counted d calls (Trapped t line w) o on x = ap (counted_end d) x
@@ -82,7 +85,8 @@ module _ (parts : Parts) where
   lead_ends (c ∷ done) rest first w o d ends = (Returned d.1.0 d.0, comes_ends c first (Over (Returned d.1.0 d.0)) (Returned d.1.0 d.0) refl d.1.1, lead_ends done rest d.0 w o d.2 ends)
 
   -- a call that ends early ends them all
-  early : (calls : List TaskCall) (first : World) (waiting : List TaskCall) (m : Move) (o : Ending) → spent m ≡ Over o → NextEndsIn o (λ v. CallsEndIn parts waiting v o) o → ComesIn parts calls first waiting m → CallsEndIn parts calls first o
+  early : (calls : List TaskCall) (first : World) (waiting : List TaskCall) (m : Move) (o : Ending) → spent m ≡ Over o
+      → NextEndsIn o (λ v. CallsEndIn parts waiting v o) o → ComesIn parts calls first waiting m → CallsEndIn parts calls first o
   early calls first waiting m o over next d =
       subst (λ (cs : List TaskCall). CallsEndIn parts cs first o) (sym d.split)
       (lead_ends d.done (d.call ∷ waiting) first d.before o d.leads (o, comes_ends d.call d.before m o over d.comes, next))
@@ -94,7 +98,8 @@ pub record AnswerEnds {P R : Type 0} (parts : Parts) (calls : List TaskCall) (fi
   pub outcome : outcome_of (nat_le b.budget b.granted) end ≡ left (ended_of p) (world_of t b.standing)
 
 module _ {P R : Type 0} (parts : Parts) (calls : List TaskCall) (first : World) (t : State P R) (b : Stage P R) where
-  trap_ends : (trap : Trap) (waiting : List TaskCall) (m : Move) (whole : Bool) → nat_le b.budget b.granted ≡ whole → ComesIn parts calls first waiting m → TrapsBy whole trap (world_of t b.standing) m → AnswerEnds parts calls first t b (TrappedAt trap)
+  trap_ends : (trap : Trap) (waiting : List TaskCall) (m : Move) (whole : Bool) → nat_le b.budget b.granted ≡ whole
+      → ComesIn parts calls first waiting m → TrapsBy whole trap (world_of t b.standing) m → AnswerEnds parts calls first t b (TrappedAt trap)
   trap_ends trap waiting (Over (Trapped kind line w)) whole q d traps = record {
     end = Trapped kind line w;
     ends = early parts calls first waiting (Over (Trapped kind line w)) (Trapped kind line w) refl refl d;
@@ -114,12 +119,14 @@ module _ {P R : Type 0} (parts : Parts) (calls : List TaskCall) (first : World) 
   pub answer_ends : (p : Progress) → ComesToAnswer p parts calls first t b → AnswerEnds parts calls first t b p
   answer_ends Running d = record {
     end = Spent d.2.0 (world_of t b.standing);
-    ends = early parts calls first (calls_of b.waiting) (Waits d.2.0 (current_of parts t b.standing) (waiting_of parts t b.standing) (world_of t b.standing)) (Spent d.2.0 (world_of t b.standing)) refl refl d.2.1;
+    ends = early parts calls first (calls_of b.waiting) (Waits d.2.0 (current_of parts t b.standing) (waiting_of parts t b.standing)
+        (world_of t b.standing)) (Spent d.2.0 (world_of t b.standing)) refl refl d.2.1;
     outcome = ap (λ (x : Bool). outcome_of x (Spent d.2.0 (world_of t b.standing))) d.1;
   }
   answer_ends Done d = record {
     end = Returned None (world_of t b.standing);
-    ends = subst (λ (cs : List TaskCall). CallsEndIn parts cs first (Returned None (world_of t b.standing))) (sym d.2.split) (lead_ends parts d.2.done [] first (world_of t b.standing) (Returned None (world_of t b.standing)) d.2.leads refl);
+    ends = subst (λ (cs : List TaskCall). CallsEndIn parts cs first (Returned None (world_of t b.standing))) (sym d.2.split)
+        (lead_ends parts d.2.done [] first (world_of t b.standing) (Returned None (world_of t b.standing)) d.2.leads refl);
     outcome = refl;
   }
   answer_ends (TrappedAt trap) d = trap_ends trap d.waiting d.move (nat_le b.budget b.granted) refl d.comes d.traps

@@ -49,10 +49,11 @@ none-of p (y ∷ xs) le (suc i) x e t = elim (p y) as (λ b. length (y ∷ xs) �
 ] le
 
 past : {X : Type 0} (p : X → Bool) (xs : List X) → position p xs ≡ None → length xs ≤ position_or_len p xs
-past p xs e = elim (nat_lt (position_or_len p xs) (length xs)) as (λ b. nat_lt (position_or_len p xs) (length xs) ≡ b → cond b (Some (position_or_len p xs)) None ≡ None → length xs ≤ position_or_len p xs) [
-  | true ↦ λ is q. absurd (cc)
-  | false ↦ λ is q. not_below (position_or_len p xs) (length xs) is
-] refl e
+past p xs e = elim (nat_lt (position_or_len p xs) (length xs)) as
+    (λ b. nat_lt (position_or_len p xs) (length xs) ≡ b → cond b (Some (position_or_len p xs)) None ≡ None → length xs ≤ position_or_len p xs) [
+      | true ↦ λ is q. absurd (cc)
+      | false ↦ λ is q. not_below (position_or_len p xs) (length xs) is
+    ] refl e
 
 absent : {X : Type 0} (p : X → Bool) (xs : List X) → position p xs ≡ None → (i : ℕ) (x : X) → slice_get xs i ≡ Some x → p x ≡ true → ⊥
 unfolding pos_of
@@ -91,7 +92,8 @@ pub is-run-at : {H P R : Type 0} (active : List (OpenEntry H R P)) (run : RunNo)
 is-run-at active run at w = if-some (λ f. f.run ≡ run) (slice_get active at) w.entry w.found w.run_is
 
 -- the entry at an index
-pub entry-there : {H P R : Type 0} (active : List (OpenEntry H R P)) (at : ℕ) (run : RunNo) → at < length active → IsRunAt active at run → (e : OpenEntry H R P) × (slice_get active at ≡ Some e) × (e.run ≡ run)
+pub entry-there : {H P R : Type 0} (active : List (OpenEntry H R P)) (at : ℕ) (run : RunNo) → at < length active → IsRunAt active at run
+    → (e : OpenEntry H R P) × (slice_get active at ≡ Some e) × (e.run ≡ run)
 entry-there active at run less is = let w = present active at less in (w.0, w.1, run-is active at w.0 run w.1 is)
 
 -- a run that has an entry is open
@@ -102,7 +104,8 @@ open-at {H = H} {P = P} {R = R} active run at less is = by-position (position (i
     by-position None p = let w = entry-there active at run less is in absurd (absent (is_run run) active p at w.0 w.1 (eq-eqb w.0.run.0 run.0 (ap (λ (r : RunNo). r.0) w.2)))
     by-position (Some k) p = let w = found-at active run k p in sym (ap run_by w.found)
 
-pub open-where : {H P R : Type 0} (active : List (OpenEntry H R P)) (run : RunNo) (o : Option ℕ) → is_some o ≡ true → IfSome o (λ at. at < length active) → IfSome o (λ at. IsRunAt active at run) → None ≡ run_by (entry_of active run)
+pub open-where : {H P R : Type 0} (active : List (OpenEntry H R P)) (run : RunNo) (o : Option ℕ) → is_some o ≡ true
+    → IfSome o (λ at. at < length active) → IfSome o (λ at. IsRunAt active at run) → None ≡ run_by (entry_of active run)
 open-where active run None some within is = absurd (false≢true some)
 open-where active run (Some at) some within is = open-at active run at within is
 
@@ -111,10 +114,12 @@ pub looked-at : {H P R : Type 0} (active : List (OpenEntry H R P)) (run : RunNo)
 looked-at active run at e found is = if-some (λ f. f.run ≡ run) (slice_get active at) e found (same-run run e is)
 
 -- it is the entry of the run
-pub entry_of-at : {H P R : Type 0} (active : List (OpenEntry H R P)) (run : RunNo) (at : ℕ) (e : OpenEntry H R P) → position (is_run run) active ≡ Some at → slice_get active at ≡ Some e → entry_of active run ≡ Some e
+pub entry_of-at : {H P R : Type 0} (active : List (OpenEntry H R P)) (run : RunNo) (at : ℕ) (e : OpenEntry H R P)
+    → position (is_run run) active ≡ Some at → slice_get active at ≡ Some e → entry_of active run ≡ Some e
 entry_of-at active run at e is found = ap (option_and_then (slice_get active)) is ∙ found
 
-module _ {H P R : Type 0} (m : Meaning) (x : Runs P R (Activation H R P)) (s : State P R) (active : List (OpenEntry H R P)) (budget next : ℕ) (h : History) (stand : StandsFor m x active budget next s h) where
+module _ {H P R : Type 0} (m : Meaning) (x : Runs P R (Activation H R P)) (s : State P R) (active : List (OpenEntry H R P)) (budget next : ℕ)
+    (h : History) (stand : StandsFor m x active budget next s h) where
   -- an open run has an entry
   pub open-found : (run : RunNo) (r : Run) → run_at h run.0 ≡ Some r → is_open r ≡ true → IsSome (position (is_run run) active)
   open-found run r found is_so = on (position (is_run run) active) refl
@@ -185,7 +190,8 @@ module _ {H P R : Type 0} (m : Meaning) (x : Runs P R (Activation H R P)) (s : S
           let w = found-at active run at e in
           let o = entry-is run at w in
           let is : is_open_run (run_at h run.0) ≡ true = ap is_open_run o.there ∙ o.is_so in
-          ap calls_by (entry-found run at w e) ∙ ap (λ k. when (nat_le CALLS k) because.Calls) o.calls ∙ ap (λ r. when (is_full_run r) because.Calls) (sym o.there) ∙ ap (λ b. first (when (not b) because.Run) (calls_refusal h run)) (sym is)
+          ap calls_by (entry-found run at w e) ∙ ap (λ k. when (nat_le CALLS k) because.Calls) o.calls
+          ∙ ap (λ r. when (is_full_run r) because.Calls) (sym o.there) ∙ ap (λ b. first (when (not b) because.Run) (calls_refusal h run)) (sym is)
 
   version-same : (version : VersionNo) → version_by s version ≡ version_refusal h version
   version-same version = ap (λ n. when (nat_le n version.0) because.Version) stand.versions.many
@@ -199,10 +205,16 @@ module _ {H P R : Type 0} (m : Meaning) (x : Runs P R (Activation H R P)) (s : S
   -- what is refused by engine and heap is refused by the history
   pub refusal-is : (c : Command) → refusal_by m s active next c ≡ refusal m h c
   unfolding refusal
-  refusal-is (command.Run call) = ap (λ o. first (first (kinds_refusal (m.proc call.procedure) call.arguments) o) (runs_by next)) (version-same call.version) ∙ ap (first (call_refusal h (m.proc call.procedure) call)) runs-same
+  refusal-is (command.Run call) = ap (λ o. first (first (kinds_refusal (m.proc call.procedure) call.arguments) o) (runs_by next))
+      (version-same call.version) ∙ ap (first (call_refusal h (m.proc call.procedure) call)) runs-same
   refusal-is (command.Query call) = ap (first (kinds_refusal (m.query call.procedure) call.arguments)) (version-same call.version)
-  refusal-is (command.OpenRun call) = ap (λ o. first (first (kinds_refusal (m.proc call.procedure) call.arguments) o) (first (runs_by next) (open_by active))) (version-same call.version) ∙ ap (λ o. first (call_refusal h (m.proc call.procedure) call) (first o (open_by active))) runs-same ∙ ap (λ o. first (call_refusal h (m.proc call.procedure) call) (first (runs_refusal h) o)) open-same
-  refusal-is (command.OpenEmpty version) = ap (λ o. first o (first (runs_by next) (open_by active))) (version-same version) ∙ ap (λ o. first (version_refusal h version) (first o (open_by active))) runs-same ∙ ap (λ o. first (version_refusal h version) (first (runs_refusal h) o)) open-same
+  refusal-is (command.OpenRun call) = ap (λ o. first (first (kinds_refusal (m.proc call.procedure) call.arguments) o)
+      (first (runs_by next) (open_by active))) (version-same call.version)
+      ∙ ap (λ o. first (call_refusal h (m.proc call.procedure) call) (first o (open_by active))) runs-same
+      ∙ ap (λ o. first (call_refusal h (m.proc call.procedure) call) (first (runs_refusal h) o)) open-same
+  refusal-is (command.OpenEmpty version) = ap (λ o. first o (first (runs_by next) (open_by active))) (version-same version)
+      ∙ ap (λ o. first (version_refusal h version) (first o (open_by active))) runs-same
+      ∙ ap (λ o. first (version_refusal h version) (first (runs_refusal h) o)) open-same
   refusal-is (command.CallRun run procedure arguments) = ap (first (kinds_refusal (m.proc procedure) arguments)) (calls-same run)
   refusal-is (command.StepRun run charges) = run-same run
   refusal-is (command.CloseRun run) = run-same run
@@ -212,14 +224,16 @@ module _ {H P R : Type 0} (m : Meaning) (x : Runs P R (Activation H R P)) (s : S
   refusal-is command.Stats = refl
 
 -- so what was found by the code for the entries is what the history says
-pub refusal-told : {H P R : Type 0} (m : Meaning) (x : Runs P R (Activation H R P)) (s : State P R) (active : List (OpenEntry H R P)) (budget next : ℕ) (h : History) → StandsFor m x active budget next s h
+pub refusal-told : {H P R : Type 0} (m : Meaning) (x : Runs P R (Activation H R P)) (s : State P R) (active : List (OpenEntry H R P))
+    (budget next : ℕ) (h : History) → StandsFor m x active budget next s h
     → (line : Command) (items : List (OpenEntry H R P)) (told : Option Refusal) → items ≡ active → told ≡ refusal_by m s items next line → refusal m h line ≡ told
 refusal-told m x s active budget next h stand line items told same is =
     sym (refusal-is m x s active budget next h stand line) ∙ ap (λ entries. refusal_by m s entries next line) (sym same) ∙ sym is
 
 -- ---- what is known where a call is not refused
 
-pub may-call : (m : Meaning) (h : History) (run : RunNo) (procedure : List ℕ) (arguments : List ℤ) → refusal m h (command.CallRun run procedure arguments) ≡ None → MayCall m h run.0 (record { procedure = procedure; arguments = arguments })
+pub may-call : (m : Meaning) (h : History) (run : RunNo) (procedure : List ℕ) (arguments : List ℤ)
+    → refusal m h (command.CallRun run procedure arguments) ≡ None → MayCall m h run.0 (record { procedure = procedure; arguments = arguments })
 unfolding refusal
 may-call m h run procedure arguments e =
     let both = first-none (kinds_refusal (m.proc procedure) arguments) (first (run_refusal h run) (calls_refusal h run)) e in

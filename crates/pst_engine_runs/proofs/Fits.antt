@@ -40,7 +40,8 @@ pub record FitsCode (query : Bool) (parts : Parts) (c : NamedCall) : Type 0 wher
   pub takes : parameters_of procedure ≡ replicate (length c.arguments) Int
 
 -- a query was asked for and found, or a procedure that is none
-is_asked : (query : Bool) (name : List ℕ) (b : Bool) (kinds : List Kind) (result : Option Kind) (xs : List ℤ) → fits_one (parameters_if query (record { name = name; query = b; parameters = kinds; result = result })) xs ≡ true
+is_asked : (query : Bool) (name : List ℕ) (b : Bool) (kinds : List Kind) (result : Option Kind) (xs : List ℤ)
+    → fits_one (parameters_if query (record { name = name; query = b; parameters = kinds; result = result })) xs ≡ true
     → (b ≡ query) × (kinds ≡ replicate (length xs) Int)
 is_asked true name true kinds result xs e = (refl, fits_ints kinds xs e)
 is_asked true name false kinds result xs e = absurd (cc)
@@ -51,25 +52,32 @@ module _ (parts : Parts) where
   pub fits_code : (query : Bool) (c : NamedCall) → fits_one (code_parameters query parts c.procedure) c.arguments ≡ true → FitsCode query parts c
   fits_code query c t = on (procedure_named parts c.procedure) refl t
     where
-      at : (i : ℕ) → procedure_named parts c.procedure ≡ Some i → (o : Option Procedure) → slice_get parts.procedures i ≡ o → fits_one (option_and_then (λ q. parameters_if query (signature q)) o) c.arguments ≡ true → FitsCode query parts c
+      at : (i : ℕ) → procedure_named parts c.procedure ≡ Some i → (o : Option Procedure) → slice_get parts.procedures i ≡ o
+          → fits_one (option_and_then (λ q. parameters_if query (signature q)) o) c.arguments ≡ true → FitsCode query parts c
       at i n None e t = absurd (cc)
-      at i n (Some p) e t = let both = is_asked query p.name p.query (parameters_of p) p.result c.arguments t in record { number = i; named = n; procedure = p; found = e; is_query = both.0; takes = both.1 }
+      at i n (Some p) e t = let both = is_asked query p.name p.query (parameters_of p) p.result c.arguments t in
+          record { number = i; named = n; procedure = p; found = e; is_query = both.0; takes = both.1 }
 
-      on : (o : Option ℕ) → procedure_named parts c.procedure ≡ o → fits_one (option_and_then (λ q. parameters_if query (signature q)) (option_and_then (slice_get parts.procedures) o)) c.arguments ≡ true → FitsCode query parts c
+      on : (o : Option ℕ) → procedure_named parts c.procedure ≡ o
+          → fits_one (option_and_then (λ q. parameters_if query (signature q)) (option_and_then (slice_get parts.procedures) o)) c.arguments ≡ true
+          → FitsCode query parts c
       on None n t = absurd (cc)
       on (Some i) n t = at i n (slice_get parts.procedures i) refl t
 
-  pub may_call : {P R : Type 0} (s : State P R) (at : P) (query : Bool) (c : NamedCall) (d : ProcCall) → FitsCode query parts c → task_call d ≡ code_call parts c → (query ≡ false → s.writable at) → MayCall parts s at d
+  pub may_call : {P R : Type 0} (s : State P R) (at : P) (query : Bool) (c : NamedCall) (d : ProcCall) → FitsCode query parts c
+      → task_call d ≡ code_call parts c → (query ≡ false → s.writable at) → MayCall parts s at d
   may_call s at query c d k same writes =
       let number : d.procedure.0 ≡ k.number = ap (λ (t : TaskCall). t.procedure) same ∙ ap (λ (o : Option ℕ). unwrap_or o (length parts.procedures)) k.named in
       let arguments : d.arguments ≡ c.arguments = ap (λ (t : TaskCall). t.arguments) same in
       let found : slice_get parts.procedures d.procedure.0 ≡ Some k.procedure = ap (slice_get parts.procedures) number ∙ k.found in
       record {
-        takes = subst (λ (o : Option Procedure). TakesNumbers o (length d.arguments)) (sym found) (subst (λ (xs : List ℤ). parameters_of k.procedure ≡ replicate (length xs) Int) (sym arguments) k.takes);
+        takes = subst (λ (o : Option Procedure). TakesNumbers o (length d.arguments)) (sym found)
+            (subst (λ (xs : List ℤ). parameters_of k.procedure ≡ replicate (length xs) Int) (sym arguments) k.takes);
         writable = λ e. writes (sym k.is_query ∙ ap (λ (o : Option Procedure). (unwrap_or o no_procedure).query) (sym found) ∙ e);
       }
 
-module _ {P R A : Type 0} (parts : Parts) (m : Meaning) (means : IsMeaningOf parts m) (x : Runs P R A) (s : State P R) (a : A) (w : Work) (k : ℕ) (y : Heap) (c : Counts) (call : NamedCall) (may : MayAdd m x s a w k y c call) where
+module _ {P R A : Type 0} (parts : Parts) (m : Meaning) (means : IsMeaningOf parts m) (x : Runs P R A) (s : State P R) (a : A) (w : Work) (k : ℕ)
+    (y : Heap) (c : Counts) (call : NamedCall) (may : MayAdd m x s a w k y c call) where
   last_fits : (kinds : List ℕ → Option (List Kind)) → AllFit kinds (w.calls ++ call ∷ []) → IsTrue (fits_one (kinds call.procedure) call.arguments)
   last_fits kinds all = all (length w.calls) call (slice_get-last w.calls call)
 
@@ -85,6 +93,7 @@ module _ {P R A : Type 0} (parts : Parts) (m : Meaning) (means : IsMeaningOf par
 
   pub call_may : (d : ProcCall) → task_call d ≡ code_call parts call → MayCall parts s (x.place a) d
   call_may d same = elim may.writable [
-    | inl q ↦ may_call parts s (x.place a) true call d (fits_code parts true call (ap (λ (o : Option (List Kind)). fits_one o call.arguments) (sym (means.query call.procedure)) ∙ q)) same (λ e. absurd (cc))
+    | inl q ↦ may_call parts s (x.place a) true call d (fits_code parts true call
+        (ap (λ (o : Option (List Kind)). fits_one o call.arguments) (sym (means.query call.procedure)) ∙ q)) same (λ e. absurd (cc))
     | inr there ↦ may_call parts s (x.place a) fits_some.0 call d fits_some.1 same (λ e. there)
   ]

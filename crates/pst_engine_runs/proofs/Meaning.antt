@@ -54,7 +54,8 @@ module _ (parts : Parts) (valid : IsValidCode parts) where
   same-parameters false true p xs q t = absurd (cc (ap (λ x. fits_one (if x then None else Some (parameters_of p)) xs) (sym q) ∙ t))
   same-parameters false false p xs q t = ap (λ x. fits_one (if x then None else Some (parameters_of p)) xs) (sym q) ∙ t
 
-  at-procedure : (query : Bool) (i : ℕ) (xs : List ℤ) (o : Option Procedure) → slice_get parts.procedures i ≡ o → fits_one (option_and_then (λ p. parameters_if query (signature p)) o) xs ≡ true → IsCallable parts (record { procedure = i; arguments = xs })
+  at-procedure : (query : Bool) (i : ℕ) (xs : List ℤ) (o : Option Procedure) → slice_get parts.procedures i ≡ o
+      → fits_one (option_and_then (λ p. parameters_if query (signature p)) o) xs ≡ true → IsCallable parts (record { procedure = i; arguments = xs })
   at-procedure query i xs None e t = absurd (cc)
   at-procedure query i xs (Some p) e t =
       let fit : fits (parameters_of p) xs ≡ true = same-parameters query p.query p xs refl t in
@@ -66,7 +67,9 @@ module _ (parts : Parts) (valid : IsValidCode parts) where
         numbers = λ heap. are-numbers (parameters_of p) xs heap fit;
       }
 
-  at-number : (query : Bool) (xs : List ℤ) (o : Option ℕ) → fits_one (option_and_then (λ p. parameters_if query (signature p)) (option_and_then (slice_get parts.procedures) o)) xs ≡ true → IsCallable parts (record { procedure = unwrap_or o (length parts.procedures); arguments = xs })
+  at-number : (query : Bool) (xs : List ℤ) (o : Option ℕ) → fits_one
+      (option_and_then (λ p. parameters_if query (signature p)) (option_and_then (slice_get parts.procedures) o)) xs ≡ true
+      → IsCallable parts (record { procedure = unwrap_or o (length parts.procedures); arguments = xs })
   at-number query xs None t = absurd (cc)
   at-number query xs (Some i) t = at-procedure query i xs (slice_get parts.procedures i) refl t
 
@@ -160,7 +163,8 @@ module _ (parts : Parts) (valid : IsValidCode parts) where
   runs w charges heap = machine_calls parts (map (code_call parts) w.calls) (first_world w.run charges heap)
 
   leaves : (w : Work) (charges : ℕ) (heap : Heap) → CanBeDone (by_machine parts) w heap → LeavesSound parts (first_world w.run charges heap) (runs w charges heap)
-  leaves w charges heap ready = calls_leave parts valid (map (code_call parts) w.calls) (work-callable parts valid w heap ready) (first_world w.run charges heap) (first-sound parts w charges heap ready)
+  leaves w charges heap ready = calls_leave parts valid (map (code_call parts) w.calls) (work-callable parts valid w heap ready)
+      (first_world w.run charges heap) (first-sound parts w charges heap ready)
 
   runs-more : (w : Work) (c n : ℕ) (heap : Heap) → CanBeDone (by_machine parts) w heap → c ≤ n → More (n - c) (runs w c heap) (runs w n heap)
   runs-more w c n heap ready le =
@@ -169,10 +173,12 @@ module _ (parts : Parts) (valid : IsValidCode parts) where
       (calls_more parts valid (n - c) (map (code_call parts) w.calls) (work-callable parts valid w heap ready) (first_world w.run c heap) (first-sound parts w c heap ready))
 
   -- with more calls
-  more-calls : (w : Work) (more : List NamedCall) (charges : ℕ) (heap : Heap) → runs (with_calls w more) charges heap ≡ next_call (runs w charges heap) (machine_calls parts (map (code_call parts) more))
+  more-calls : (w : Work) (more : List NamedCall) (charges : ℕ) (heap : Heap)
+      → runs (with_calls w more) charges heap ≡ next_call (runs w charges heap) (machine_calls parts (map (code_call parts) more))
   more-calls w more charges heap =
       let first = first_world w.run charges heap in
-      ap (λ calls. machine_calls parts calls first) (map-append (code_call parts) w.calls more) ∙ in_order-append (machine_call parts) (map (code_call parts) w.calls) (map (code_call parts) more) first
+      ap (λ calls. machine_calls parts calls first) (map-append (code_call parts) w.calls more)
+      ∙ in_order-append (machine_call parts) (map (code_call parts) w.calls) (map (code_call parts) more) first
 
   fewer-fit : (kinds : List ℕ → Option (List Kind)) (calls more : List NamedCall) → AllFit kinds (calls ++ more) → AllFit kinds calls
   fewer-fit kinds calls more fit i c e = fit i c (slice_get-before calls more i (slice_get_within calls i c e) ∙ e)
@@ -184,7 +190,8 @@ module _ (parts : Parts) (valid : IsValidCode parts) where
     work = elim ready.work [ inl q ↦ inl (fewer-fit m.proc w.calls more q) | inr q ↦ inr (fewer-fit m.query w.calls more q) ];
   }
 
-  grow : (w : Work) (more : List NamedCall) (a b : ℕ) (heap : Heap) → CanBeDone (by_machine parts) (with_calls w more) heap → a ≤ b → CountsBelow (world_in (runs w a heap)).counts (world_in (runs (with_calls w more) b heap)).counts
+  grow : (w : Work) (more : List NamedCall) (a b : ℕ) (heap : Heap) → CanBeDone (by_machine parts) (with_calls w more) heap → a ≤ b
+      → CountsBelow (world_in (runs w a heap)).counts (world_in (runs (with_calls w more) b heap)).counts
   grow w more a b heap ready le =
       let go = machine_calls parts (map (code_call parts) more) in
       let below = more-counted (b - a) (runs w a heap) (runs w b heap) (runs-more w a b heap (fewer-done (by_machine parts) w more heap ready) le) in
@@ -201,18 +208,21 @@ module _ (parts : Parts) (valid : IsValidCode parts) where
       ap (λ b. outcome_of b (runs w (min n w.budget) heap)) all ∙ ap (λ c. outcome_of true (runs w c heap)) same
   over w k n heap false ready le is ended =
       let less : min k w.budget ≤ min n w.budget = omega arith in
-      over-from (min n w.budget - min k w.budget) (nat_le w.budget n) (runs w (min k w.budget) heap) (runs w (min n w.budget) heap) (runs-more w (min k w.budget) (min n w.budget) heap ready less) ended
+      over-from (min n w.budget - min k w.budget) (nat_le w.budget n) (runs w (min k w.budget) heap) (runs w (min n w.budget) heap)
+      (runs-more w (min k w.budget) (min n w.budget) heap ready less) ended
 
   lawful : IsLawful (by_machine parts)
   unfolding by_machine
   lawful = record {
     valid = valid.shape;
-    well_formed = λ w granted heap ready. subst (IsWellFormed parts.shape) (sym (outcome-heap (nat_le w.budget granted) (runs w (min granted w.budget) heap))) (leaves w (min granted w.budget) heap ready).world.well_formed;
+    well_formed = λ w granted heap ready. subst (IsWellFormed parts.shape)
+        (sym (outcome-heap (nat_le w.budget granted) (runs w (min granted w.budget) heap))) (leaves w (min granted w.budget) heap ready).world.well_formed;
     names = λ w granted heap ready.
         let P : Heap → Type 0 = λ h. IsOlder h (w.run.0 + 1) in
         subst P (sym (outcome-heap (nat_le w.budget granted) (runs w (min granted w.budget) heap)))
         (grown-older w.run (min granted w.budget) heap (runs w (min granted w.budget) heap) ready.older (leaves w (min granted w.budget) heap ready).grown);
-    ends = λ w heap ready. subst (λ (b : Bool). (outcome_of b (runs w (min w.budget w.budget) heap)).end ≢ Stopped) (sym (le-leb w.budget w.budget (omega arith))) (whole-ends (runs w (min w.budget w.budget) heap));
+    ends = λ w heap ready. subst (λ (b : Bool). (outcome_of b (runs w (min w.budget w.budget) heap)).end ≢ Stopped)
+        (sym (le-leb w.budget w.budget (omega arith))) (whole-ends (runs w (min w.budget w.budget) heap));
     idle = λ run budget k heap. refl;
     few = λ w k heap ready.
         let paid = (leaves w (min k w.budget) heap ready).paid in
@@ -222,7 +232,8 @@ module _ (parts : Parts) (valid : IsValidCode parts) where
     counts = λ w more k n heap ready le.
         let all = runs (with_calls w more) (min n w.budget) heap in
         subst (λ (c : Counts). CountsBelow c (outcome_of (nat_le w.budget n) all).counts) (sym (outcome-counts (nat_le w.budget k) (runs w (min k w.budget) heap)))
-        (subst (λ (c : Counts). CountsBelow (world_in (runs w (min k w.budget) heap)).counts c) (sym (outcome-counts (nat_le w.budget n) all)) (grow w more (min k w.budget) (min n w.budget) heap ready (omega arith)));
+        (subst (λ (c : Counts). CountsBelow (world_in (runs w (min k w.budget) heap)).counts c) (sym (outcome-counts (nat_le w.budget n) all))
+        (grow w more (min k w.budget) (min n w.budget) heap ready (omega arith)));
     over = λ w k n heap ready le ended. over w k n heap (nat_le w.budget k) ready le refl ended;
     trapped = λ w more k heap t ready e.
         ap (outcome_of (nat_le w.budget k)) (more-calls w more (min k w.budget) heap

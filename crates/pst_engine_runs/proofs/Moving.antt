@@ -31,7 +31,8 @@ use Rattle.pst_engine_runs.proofs.Parts.{counts_plus-cancel, slice-versions, ver
 -- ---- the history's side
 
 -- the forks of the runs, where one of these is restated
-pub forks-restated : {P R : Type 0} (m : Meaning) (s : State P R) (h : History) (before n : ℕ) (old new : Run) → IsRestated m h n old new → HoldsForks s h before → HoldsForks s (restated h n new) before
+pub forks-restated : {P R : Type 0} (m : Meaning) (s : State P R) (h : History) (before n : ℕ) (old new : Run) → IsRestated m h n old new
+    → HoldsForks s h before → HoldsForks s (restated h n new) before
 forks-restated {P = P} {R = R} m s h before n old new step holds =
     let first = h.start.next_run in
     record {
@@ -43,7 +44,16 @@ forks-restated {P = P} {R = R} m s h before n old new step holds =
             let found : slice_get h.runs i ≡ Some old = sym (numbered-is first h.runs i) ∙ ap (λ k. run_at h k) w.0 ∙ step.found in
             let f = holds.forks i old found in
             let parent : r.parent ≡ old.parent = ap (λ y. y.parent) w.1 ∙ step.parent in
-            record { row = f.row; found = f.found; parent = f.parent; parent_found = ap (λ p. slice_get s.versions p.0) parent ∙ f.parent_found; from = f.from; published = f.published; has_version = f.has_version }
+            record {
+              row = f.row;
+              found = f.found;
+              parent = f.parent;
+              parent_found = ap (λ p. slice_get s.versions p.0) parent
+                  ∙ f.parent_found;
+              from = f.from;
+              published = f.published;
+              has_version = f.has_version;
+            }
       ];
       placed = λ i v row q r. let w = holds.placed i v row q r in record { index = w.index; number = w.number; fork = w.fork; found = w.found; place = w.place };
     }
@@ -52,7 +62,8 @@ forks-restated {P = P} {R = R} m s h before n old new step holds =
     same r f = record { row = f.row; found = f.found; parent = f.parent; parent_found = f.parent_found; from = f.from; published = f.published; has_version = f.has_version }
 
 -- another run stays where it is in the list
-pub other-run : (m : Meaning) (h : History) (n : ℕ) (old new : Run) → IsRestated m h n old new → (i : ℕ) (r : Run) → slice_get h.runs i ≡ Some r → h.start.next_run + i ≢ n → slice_get (restated h n new).runs i ≡ Some r
+pub other-run : (m : Meaning) (h : History) (n : ℕ) (old new : Run) → IsRestated m h n old new → (i : ℕ) (r : Run) → slice_get h.runs i ≡ Some r
+    → h.start.next_run + i ≢ n → slice_get (restated h n new).runs i ≡ Some r
 other-run m h n old new step i r q ne =
     let first = h.start.next_run in
     sym (numbered-is first (with_numbered first h.runs n new) i) ∙ numbered-other first h.runs n (first + i) new ne ∙ numbered-is first h.runs i ∙ q
@@ -64,7 +75,8 @@ restated-run m h n i old new step number =
 
 -- ---- a slice
 
-module _ {H P R : Type 0} (m : Meaning) (x : Runs P R (Activation H R P)) (law : IsLawful m) (s t : State P R) (still : SurvivesOthers x s t) (known : IsVersioned s) (placed : (p : P) → s.writable p → s.has p) where
+module _ {H P R : Type 0} (m : Meaning) (x : Runs P R (Activation H R P)) (law : IsLawful m) (s t : State P R) (still : SurvivesOthers x s t)
+    (known : IsVersioned s) (placed : (p : P) → s.writable p → s.has p) where
   -- what a slice of an entry's run is: with these calls, it goes on under this grant
   pub record IsMove (h : History) (e : OpenEntry H R P) (old new : Run) (a b : Activation H R P) (end : Ended) : Type 0 where
     pub step : IsRestated m h e.run.0 old new
@@ -80,14 +92,17 @@ module _ {H P R : Type 0} (m : Meaning) (x : Runs P R (Activation H R P)) (law :
     found : slice_get active j ≡ Some old
     run : old.run.0 ≡ f.run.0
 
-  old-entry : (active : List (OpenEntry H R P)) (i : ℕ) (e mine : OpenEntry H R P) (j : ℕ) (f : OpenEntry H R P) → slice_get active i ≡ Some e → mine.run.0 ≡ e.run.0 → slice_get (slice_set active i mine) j ≡ Some f → OldEntry active j f
+  old-entry : (active : List (OpenEntry H R P)) (i : ℕ) (e mine : OpenEntry H R P) (j : ℕ) (f : OpenEntry H R P) → slice_get active i ≡ Some e
+      → mine.run.0 ≡ e.run.0 → slice_get (slice_set active i mine) j ≡ Some f → OldEntry active j f
   old-entry active i e mine j f found run q =
       elim (slice_get-after_set active i mine f j q) as (λ _. OldEntry active j f) [
         | inl w ↦ record { old = f; found = w.0; run = refl }
         | inr w ↦ record { old = e; found = ap (slice_get active) w.0 ∙ found; run = sym run ∙ ap (λ y. y.run.0) (sym w.1) }
       ]
 
-  pub move-keeps : (active : List (OpenEntry H R P)) (budget next : ℕ) (h : History) (stand : StandsFor m x active budget next s h) (i : ℕ) (e : OpenEntry H R P) → slice_get active i ≡ Some e → (o : IsEntry m x s h stand.before e) (new : Run) (a b : Activation H R P) (end : Ended) (calls : ℕ) → calls ≡ length new.calls
+  pub move-keeps : (active : List (OpenEntry H R P)) (budget next : ℕ) (h : History) (stand : StandsFor m x active budget next s h) (i : ℕ)
+      (e : OpenEntry H R P) → slice_get active i ≡ Some e → (o : IsEntry m x s h stand.before e) (new : Run) (a b : Activation H R P) (end : Ended)
+      (calls : ℕ) → calls ≡ length new.calls
       → IsMove h e o.run new a b end → StandsFor m x (slice_set active i (record { run = e.run; parent = e.parent; calls = calls; activation = b })) budget next t (restated h e.run.0 new)
   move-keeps active budget next h stand i e found o new a b end calls number move =
       let n = e.run.0 in
@@ -106,7 +121,8 @@ module _ {H P R : Type 0} (m : Meaning) (x : Runs P R (Activation H R P)) (law :
       let y = heap_of m h old.parent.0 in
       let parent : heap_of m h old.parent.0 ≡ heap_of m h new.parent.0 = ap (λ (p : VersionNo). heap_of m h p.0) (sym step.parent) in
       let C : Heap → Counts = λ z. (m.outcome w new.granted z).counts in
-      let more : CountsBelow (run_counts m h n old) (C y) = let Q : Counts → Type 0 = λ c. CountsBelow (run_counts m h n old) c in subst Q (ap C (sym parent)) (restated-counts m law h n old new sound step) in
+      let more : CountsBelow (run_counts m h n old) (C y) = let Q : Counts → Type 0 = λ c. CountsBelow (run_counts m h n old) c in
+      subst Q (ap C (sym parent)) (restated-counts m law h n old new sound step) in
       let same_next = stand.same_next in
       let same_calls = keeps.fork_calls in
       let same_spent = keeps.grows.spent in
@@ -116,7 +132,8 @@ module _ {H P R : Type 0} (m : Meaning) (x : Runs P R (Activation H R P)) (law :
       let n_late = within.0 in
       let open_old : unit_of (is_open old) ≡ 1 = ap unit_of step.was_open in
       let open_new : unit_of (is_open new) ≡ 1 = ap unit_of move.goes_on in
-      let count : count_by is_open (with_numbered first h.runs n new) + unit_of (is_open old) ≡ count_by is_open h.runs + unit_of (is_open new) = numbered-count first h.runs is_open n old new step.found in
+      let count : count_by is_open (with_numbered first h.runs n new) + unit_of (is_open old) ≡ count_by is_open h.runs + unit_of (is_open new) =
+      numbered-count first h.runs is_open n old new step.found in
       let many = stand.many in
       let same_length : length (slice_set active i mine) ≡ length active = length-set active i mine in
       record {
@@ -130,10 +147,15 @@ module _ {H P R : Type 0} (m : Meaning) (x : Runs P R (Activation H R P)) (law :
         older = λ p has.
             let was = keeps.back p has in
             elim (move.kept.others.stay p was) as (λ _. IsOlder (t.heap p) next) [
-              | inl q ↦ subst (λ z. IsOlder (t.heap z) next) (sym q) (subst (λ z. IsOlder z next) (sym adv.heap) (older-more (m.outcome w new.granted y).heap (n + 1) next (omega arith) (law.names w new.granted y (subst (λ z. CanBeDone m w z) (heaps new.parent.0 ∙ sym parent) (run-ready m law (restated h n new) (restated-sound m h n old new sound step) n new (numbered-same first h.runs n old new step.found))))))
+              | inl q ↦ subst (λ z. IsOlder (t.heap z) next) (sym q)
+                  (subst (λ z. IsOlder z next) (sym adv.heap)
+                  (older-more (m.outcome w new.granted y).heap (n + 1) next (omega arith)
+                  (law.names w new.granted y (subst (λ z. CanBeDone m w z) (heaps new.parent.0 ∙ sym parent)
+                  (run-ready m law (restated h n new) (restated-sound m h n old new sound step) n new (numbered-same first h.runs n old new step.found))))))
               | inr q ↦ subst (λ z. IsOlder z next) (sym q) (stand.older p was)
             ];
-        rooted = λ q zero other. adv.names q (λ same. let is : q.run.0 ≡ n = ap (λ (r : RunNo). r.0) same in let first_later = sound.start.next in omega (arith, is, zero, first_later, n_late)) (stand.rooted q zero other);
+        rooted = λ q zero other. adv.names q (λ same. let is : q.run.0 ≡ n = ap (λ (r : RunNo). r.0) same in let first_later = sound.start.next in
+            omega (arith, is, zero, first_later, n_late)) (stand.rooted q zero other);
         versions = versions-same m t h (with_numbered first h.runs n new) heaps (slice-versions m s t h at known writable move.kept stand.versions);
         before = stand.before;
         forks = forks-restated m t h stand.before n old new step (forks-kept s t h stand.before keeps.versions keeps.forks stand.forks);
@@ -146,7 +168,8 @@ module _ {H P R : Type 0} (m : Meaning) (x : Runs P R (Activation H R P)) (law :
               entry-kept m x s t h stand.before (with_numbered first h.runs n new) h.versions f other
               (other-run m h n old new step other.index other.run other.found (λ same. ne (other.number ∙ same)))
               (heaps other.run.parent.0) still
-              (slice-alone m x s t a b w new.granted y (run_counts m h n old) end (x.place f.activation) f.run move.kept move.writes adv more (placed (x.place f.activation) (entry-writable m x s h stand.before f known sound stand.forks other)) elsewhere ne)
+              (slice-alone m x s t a b w new.granted y (run_counts m h n old) end (x.place f.activation) f.run move.kept move.writes adv more
+              (placed (x.place f.activation) (entry-writable m x s h stand.before f known sound stand.forks other)) elsewhere ne)
               (ap (λ rows. slice_get rows (stand.before + other.index)) keeps.forks ∙ other.fork_found)
           | inr u ↦ subst (λ z. IsEntry m x t (restated h n new) stand.before z) (sym u.1) (record {
             run = new;
@@ -169,7 +192,8 @@ module _ {H P R : Type 0} (m : Meaning) (x : Runs P R (Activation H R P)) (law :
             stand.apart j k one.old two.old one.found two.found (one.run ∙ same ∙ sym two.run);
       }
     where
-      here : (k : ℕ) (j : ℕ) (f : OpenEntry H R P) → slice_get active j ≡ Some f → f.run.0 ≡ k → (l : ℕ) × (g : OpenEntry H R P) × (slice_get (slice_set active i (record { run = e.run; parent = e.parent; calls = calls; activation = b })) l ≡ Some g) × (g.run.0 ≡ k)
+      here : (k : ℕ) (j : ℕ) (f : OpenEntry H R P) → slice_get active j ≡ Some f → f.run.0 ≡ k → (l : ℕ) × (g : OpenEntry H R P)
+          × (slice_get (slice_set active i (record { run = e.run; parent = e.parent; calls = calls; activation = b })) l ≡ Some g) × (g.run.0 ≡ k)
       here k j f q run =
           let mine : OpenEntry H R P = record { run = e.run; parent = e.parent; calls = calls; activation = b } in
           elim (slice_get-set_cases active i mine f j q) [
@@ -177,7 +201,8 @@ module _ {H P R : Type 0} (m : Meaning) (x : Runs P R (Activation H R P)) (law :
             | inr u ↦ (j, mine, u.1, let one : e ≡ f = same_Some e f (sym found ∙ ap (slice_get active) (sym u.0) ∙ q) in ap (λ z. z.run.0) one ∙ run)
           ]
 
-      everyone : (k : ℕ) (r : Run) → run_at (restated h e.run.0 new) k ≡ Some r → is_open r ≡ true → (l : ℕ) × (g : OpenEntry H R P) × (slice_get (slice_set active i (record { run = e.run; parent = e.parent; calls = calls; activation = b })) l ≡ Some g) × (g.run.0 ≡ k)
+      everyone : (k : ℕ) (r : Run) → run_at (restated h e.run.0 new) k ≡ Some r → is_open r ≡ true → (l : ℕ) × (g : OpenEntry H R P)
+          × (slice_get (slice_set active i (record { run = e.run; parent = e.parent; calls = calls; activation = b })) l ≡ Some g) × (g.run.0 ≡ k)
       everyone k r q is_so =
           let first = h.start.next_run in
           let w = at-number first (with_numbered first h.runs e.run.0 new) k r q in

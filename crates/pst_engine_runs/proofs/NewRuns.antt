@@ -21,7 +21,8 @@ none-older : (heap : Heap) (next : ℕ) (n : Name) (o : Option Rec) → IsOlder 
 none-older heap next n None older same e = refl
 none-older heap next n (Some r) older same e = absurd (let below = older n r e in omega arith)
 
-module _ {H P R : Type 0} (m : Meaning) (x : Runs P R (Activation H R P)) (s : State P R) (active : List (OpenEntry H R P)) (budget next : ℕ) (h : History) (stand : StandsFor m x active budget next s h) where
+module _ {H P R : Type 0} (m : Meaning) (x : Runs P R (Activation H R P)) (s : State P R) (active : List (OpenEntry H R P)) (budget next : ℕ)
+    (h : History) (stand : StandsFor m x active budget next s h) where
   -- no record has the next run number
   pub names-free : (run : RunNo) → run.0 ≡ next → (n : Name) → n.run ≡ run → IsFresh s n
   names-free run number n same = record { fresh = λ p has. none-older (s.heap p) next n (get (s.heap p) n) (stand.older p has) (ap (λ (r : RunNo). r.0) same ∙ number) refl }
@@ -45,5 +46,6 @@ module _ {H P R : Type 0} (m : Meaning) (x : Runs P R (Activation H R P)) (s : S
   }
 
 -- the row of a version by the place that was answered
-pub row-at : {P : Type 0} (rows : List (VersionRow P)) (k : ℕ) (place : P) → k < length rows → IfSome (slice_get rows k) (λ row. row.place ≡ place) → (row : VersionRow P) × (slice_get rows k ≡ Some row) × (row.place ≡ place)
+pub row-at : {P : Type 0} (rows : List (VersionRow P)) (k : ℕ) (place : P) → k < length rows → IfSome (slice_get rows k) (λ row. row.place ≡ place)
+    → (row : VersionRow P) × (slice_get rows k ≡ Some row) × (row.place ≡ place)
 row-at {P = P} rows k place less is = let w = present rows k less in (w.0, w.1, (let Q : Option (VersionRow P) → Type 0 = λ o. IfSome o (λ row. row.place ≡ place) in subst Q w.1 is))

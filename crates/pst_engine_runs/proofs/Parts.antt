@@ -37,7 +37,8 @@ pub not_version : {P R : Type 0} (s : State P R) → IsVersioned s → (at : P) 
 not_version s known at writable k row found same = (known.places k row found).closed (subst s.writable (sym same) writable)
 
 -- the versions stay where their rows and heaps do
-pub versions-kept : {P R : Type 0} (m : Meaning) (s t : State P R) (h : History) → t.versions ≡ s.versions → ((p : P) → s.has p → t.has p) → ((k : ℕ) (row : VersionRow P) → slice_get s.versions k ≡ Some row → t.heap row.place ≡ s.heap row.place) → HoldsVersions m s h → HoldsVersions m t h
+pub versions-kept : {P R : Type 0} (m : Meaning) (s t : State P R) (h : History) → t.versions ≡ s.versions → ((p : P) → s.has p → t.has p)
+    → ((k : ℕ) (row : VersionRow P) → slice_get s.versions k ≡ Some row → t.heap row.place ≡ s.heap row.place) → HoldsVersions m s h → HoldsVersions m t h
 versions-kept m s t h same has heaps holds = record {
   many = ap (λ rows. length rows) same ∙ holds.many;
   versions = λ k row q.
@@ -49,7 +50,8 @@ versions-kept m s t h same has heaps holds = record {
 }
 
 -- and where the runs change, but no version's heap
-pub versions-same : {P R : Type 0} (m : Meaning) (s : State P R) (h : History) (runs : List Run) → ((k : ℕ) → heap_of m (record h { runs = runs }) k ≡ heap_of m h k) → HoldsVersions m s h → HoldsVersions m s (record h { runs = runs })
+pub versions-same : {P R : Type 0} (m : Meaning) (s : State P R) (h : History) (runs : List Run)
+    → ((k : ℕ) → heap_of m (record h { runs = runs }) k ≡ heap_of m h k) → HoldsVersions m s h → HoldsVersions m s (record h { runs = runs })
 versions-same m s h runs heaps holds = record {
   many = holds.many;
   versions = λ k row q. let v = holds.versions k row q in record { has = v.has; heap = v.heap ∙ sym (heaps k) };
@@ -117,7 +119,8 @@ pub record IsOpenAt {P R : Type 0} (s : State P R) (h : History) (place : P) (k 
 unpublished-row : {P : Type 0} (row : ForkRow P) (place from : P) → row.place ≡ place → row.from ≡ from → (row.published ≡ true → ⊥) → row ≡ record { place = place; from = from; published = false }
 unpublished-row {P} row place from a b ne =
     let shut : row.published ≡ false = elim row.published as (λ x. (x ≡ true → ⊥) → x ≡ false) [ true ↦ λ no. absurd (no refl) | false ↦ λ no. refl ] ne in
-    ap (λ (p : P). record row { place = p }) a ∙ ap (λ (p : P). record { place = place; from = p; published = row.published }) b ∙ ap (λ (x : Bool). record { place = place; from = from; published = x }) shut
+    ap (λ (p : P). record row { place = p }) a ∙ ap (λ (p : P). record { place = place; from = p; published = row.published }) b
+    ∙ ap (λ (x : Bool). record { place = place; from = from; published = x }) shut
 
 module _ {H P R : Type 0} (m : Meaning) (x : Runs P R (Activation H R P)) (s : State P R) (h : History) (before : ℕ) where
   pub entry-run : (e : OpenEntry H R P) → (o : IsEntry m x s h before e) → run_at h e.run.0 ≡ Some o.run
@@ -127,7 +130,8 @@ module _ {H P R : Type 0} (m : Meaning) (x : Runs P R (Activation H R P)) (s : S
   entry-open e sound holds o =
       let f = holds.forks o.index o.run o.found in
       let same : f.row ≡ o.fork = same_Some f.row o.fork (sym f.found ∙ o.fork_found) in
-      let none : f.row.published ≡ true → ⊥ = λ t. open-unpublished m h e.run.0 o.run sound (entry-run e o) o.is_so (let P : ℕ → Type 0 = λ n. HasVersion h n in subst P (sym o.number) (f.published t)) in
+      let none : f.row.published ≡ true → ⊥ = λ t. open-unpublished m h e.run.0 o.run sound (entry-run e o) o.is_so
+      (let P : ℕ → Type 0 = λ n. HasVersion h n in subst P (sym o.number) (f.published t)) in
       record {
         parent = f.parent;
         parent_found = f.parent_found;
@@ -150,7 +154,8 @@ module _ {H P R : Type 0} (m : Meaning) (x : Runs P R (Activation H R P)) (s : S
 -- ---- an entry that is not touched
 
 -- the entry of another run, where its run is as it was, and the heap leaves it alone
-pub entry-kept : {H P R : Type 0} (m : Meaning) (x : Runs P R (Activation H R P)) (s t : State P R) (h : History) (before : ℕ) (runs : List Run) (versions : List Descent) (f : OpenEntry H R P) (o : IsEntry m x s h before f)
+pub entry-kept : {H P R : Type 0} (m : Meaning) (x : Runs P R (Activation H R P)) (s t : State P R) (h : History) (before : ℕ) (runs : List Run)
+    (versions : List Descent) (f : OpenEntry H R P) (o : IsEntry m x s h before f)
     → slice_get runs o.index ≡ Some o.run → heap_of m (record h { runs = runs; versions = versions }) o.run.parent.0 ≡ heap_of m h o.run.parent.0
     → SurvivesOthers x s t → SparesRun s t (x.place f.activation) f.run → slice_get t.forks (before + o.index) ≡ Some o.fork → IsEntry m x t (record h { runs = runs; versions = versions }) before f
 entry-kept m x s t h before runs versions f o found heap still alone fork =
@@ -189,7 +194,9 @@ other_name a b ne q r same number e = ne (ap (λ (x : RunNo). x.0) (sym same) �
 
 module _ {H P R : Type 0} (m : Meaning) (x : Runs P R (Activation H R P)) (s t : State P R) where
   -- a slice of another run at another place
-  pub slice-alone : (a b : Activation H R P) (w : Work) (k : ℕ) (y : Heap) (c : Counts) (end : Ended) (p : P) (run : RunNo) → KeepsOthers (x.place a) s t → WritesStay s t → RanOn m x s a w k y c end t b → CountsBelow c (m.outcome w k y).counts → s.has p → (p ≡ x.place a → ⊥) → run.0 ≢ w.run.0 → SparesRun s t p run
+  pub slice-alone : (a b : Activation H R P) (w : Work) (k : ℕ) (y : Heap) (c : Counts) (end : Ended) (p : P) (run : RunNo)
+      → KeepsOthers (x.place a) s t → WritesStay s t → RanOn m x s a w k y c end t b → CountsBelow c (m.outcome w k y).counts → s.has p
+      → (p ≡ x.place a → ⊥) → run.0 ≢ w.run.0 → SparesRun s t p run
   slice-alone a b w k y c end p run kept writes adv more has elsewhere ne =
       let all = adv.counts in
       let one : t.counts.records + c.records ≡ s.counts.records + (m.outcome w k y).counts.records = ap (λ z. z.records) all in
@@ -229,7 +236,8 @@ forked-alone {P = P} s t from place p run f source has = record {
 }
 
 -- another place becomes a version
-pub published-alone : {P R : Type 0} (s t : State P R) (parent : VersionNo) (by : RunNo) (at : P) (version : VersionNo) (p : P) (run : RunNo) → Published s parent by at version t → s.has p → (p ≡ at → ⊥) → SparesRun s t p run
+pub published-alone : {P R : Type 0} (s t : State P R) (parent : VersionNo) (by : RunNo) (at : P) (version : VersionNo) (p : P) (run : RunNo)
+    → Published s parent by at version t → s.has p → (p ≡ at → ⊥) → SparesRun s t p run
 published-alone s t parent by at version p run d has elsewhere = record {
   grows = d.grows;
   heap = d.heaps p has;

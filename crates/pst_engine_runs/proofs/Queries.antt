@@ -27,7 +27,9 @@ single : (kinds : List ℕ → Option (List Kind)) (c : NamedCall) → IsTrue (f
 single kinds c fits zero d e = let P : NamedCall → Type 0 = λ x. IsTrue (fits_one (kinds x.procedure) x.arguments) in subst P (let same : c ≡ d = cc in same) fits
 single kinds c fits (suc i) d e = absurd (cc)
 
-module _ {H P R : Type 0} (m : Meaning) (x : Runs P R (Activation H R P)) (law : IsLawful m) (s : State P R) (sound : IsSound s) (active : List (OpenEntry H R P)) (budget : ℕ) (run : RunNo) (h : History) (stand : StandsFor m x active budget run.0 s h) (call : Call) (accepted : IsAccepted h (m.query call.procedure) call)
+module _ {H P R : Type 0} (m : Meaning) (x : Runs P R (Activation H R P)) (law : IsLawful m) (s : State P R) (sound : IsSound s)
+    (active : List (OpenEntry H R P)) (budget : ℕ) (run : RunNo) (h : History) (stand : StandsFor m x active budget run.0 s h) (call : Call)
+    (accepted : IsAccepted h (m.query call.procedure) call)
     (place : P) (at : IfSome (slice_get s.versions call.version.0) (λ row. row.place ≡ place)) where
   abbrev work : Work
   work = record { run = run; calls = call_of call ∷ []; budget = budget }
@@ -57,21 +59,24 @@ module _ {H P R : Type 0} (m : Meaning) (x : Runs P R (Activation H R P)) (law :
       let same = stand.same_next in
       subst Q (sym query-heap) (record { well_formed = before.well_formed; older = older-more (heap_of m h call.version.0) (next_run h) run.0 (omega arith) before.older; work = inr query-fits })
 
-  pub query-may-add : (a : Activation H R P) → x.stands a s (record { run = run; calls = []; budget = budget }) 0 (s.heap place) no_counts → MayAdd m x s a (record { run = run; calls = []; budget = budget }) 0 (s.heap place) no_counts (call_of call)
+  pub query-may-add : (a : Activation H R P) → x.stands a s (record { run = run; calls = []; budget = budget }) 0 (s.heap place) no_counts
+      → MayAdd m x s a (record { run = run; calls = []; budget = budget }) 0 (s.heap place) no_counts (call_of call)
   query-may-add a stands = record { stands = stands; ready = query-ready; writable = inl accepted.fits }
 
   pub query-waits : (a : Activation H R P) → x.waits a s work 0 (s.heap place) no_counts → IsWaiting m x s a work 0 (s.heap place) no_counts
   query-waits a waits = record { ready = query-ready; granted_within = omega arith; waits = waits }
 
   -- the answer
-  pub query-answers : (t : State P R) (a b : Activation H R P) (end : Ended) → budget < 2 ^ 32 → RanOn m x s a work (min (0 + 4294967295) budget) (s.heap place) no_counts end t b → (printed : List ℤ) → printed ≡ x.printed b
+  pub query-answers : (t : State P R) (a b : Activation H R P) (end : Ended) → budget < 2 ^ 32
+      → RanOn m x s a work (min (0 + 4294967295) budget) (s.heap place) no_counts end t b → (printed : List ℤ) → printed ≡ x.printed b
       → queried printed end ≡ queried_as (outcome_of m h (next_run h) (new_run h call.version (call_of call ∷ [])) h.budget)
   query-answers t a b end less adv printed is =
       let all : min (0 + 4294967295) budget ≡ budget = omega arith in
       let y = heap_of m h call.version.0 in
       let o : Outcome = m.outcome work budget y in
       let same : m.outcome work (min (0 + 4294967295) budget) (s.heap place) ≡ o = ap (λ k. m.outcome work k (s.heap place)) all ∙ ap (m.outcome work budget) query-heap in
-      let one : queried printed end ≡ queried_as o = ap (λ ns. queried ns end) (is ∙ adv.printed) ∙ ap (queried (m.outcome work (min (0 + 4294967295) budget) (s.heap place)).printed) adv.is_end ∙ ap queried_as same in
+      let one : queried printed end ≡ queried_as o = ap (λ ns. queried ns end) (is ∙ adv.printed)
+      ∙ ap (queried (m.outcome work (min (0 + 4294967295) budget) (s.heap place)).printed) adv.is_end ∙ ap queried_as same in
       let number : run.0 ≡ next_run h = stand.same_next in
       let theirs : Work = work_of (next_run h) (new_run h call.version (call_of call ∷ [])) in
       let works : work ≡ theirs = ap (λ (k : ℕ). record work { run = record { 0 = k } }) number ∙ ap (λ (k : ℕ). record theirs { budget = k }) stand.same_budget in

@@ -103,7 +103,8 @@ module _ {H P R : Type 0} (m : Meaning) (x : Runs P R (Activation H R P)) (law :
       let v : s.counts.value_writes ≡ (counts_of m h).value_writes = ap (λ c. c.value_writes) stand.counts in
       record { records = omega (arith, few.records, r); pointer_writes = omega (arith, few.pointer_writes, p); value_writes = omega (arith, few.value_writes, v) }
 
-  module _ (waits : StandingWaits x s) (known : IsVersioned s) (placed : (p : P) → s.writable p → s.has p) (active : List (OpenEntry H R P)) (budget next : ℕ) (h : History) (stand : StandsFor m x active budget next s h) (at : ℕ) (e : OpenEntry H R P) (found : slice_get active at ≡ Some e) where
+  module _ (waits : StandingWaits x s) (known : IsVersioned s) (placed : (p : P) → s.writable p → s.has p) (active : List (OpenEntry H R P))
+      (budget next : ℕ) (h : History) (stand : StandsFor m x active budget next s h) (at : ℕ) (e : OpenEntry H R P) (found : slice_get active at ≡ Some e) where
     abbrev mine : IsEntry m x s h stand.before e
     mine = stand.entries at e found
 
@@ -152,7 +153,8 @@ module _ {H P R : Type 0} (m : Meaning) (x : Runs P R (Activation H R P)) (law :
       -- a slice of the run with its calls
       pub granted-keeps : (run : RunNo) → e.run ≡ run → (charges : ℕ) (b : Activation H R P) (end : Ended) → KeepsOthers (x.place e.activation) s t → WritesStay s t
           → ((w : Work) (k : ℕ) (y : Heap) (c : Counts) → IsWaiting m x s e.activation w k y c → RanOn m x s e.activation w (min (k + charges) w.budget) y c end t b)
-          → StandsFor m x (slice_set active at (record e { activation = b })) budget next t (with_run h run.0 (granted_more charges) (run_at h run.0)) × (stepped run end ≡ step_reply m h run (granted_more charges) (run_at h run.0))
+          → StandsFor m x (slice_set active at (record e { activation = b })) budget next t (with_run h run.0 (granted_more charges) (run_at h run.0))
+          × (stepped run end ≡ step_reply m h run (granted_more charges) (run_at h run.0))
       granted-keeps run number charges b end kept writes ok =
           let r = the_run in
           let adv = ok (work_of e.run.0 r) r.granted (heap_of m h r.parent.0) (run_counts m h e.run.0 r) entry-waits in
@@ -165,17 +167,22 @@ module _ {H P R : Type 0} (m : Meaning) (x : Runs P R (Activation H R P)) (law :
             advanced = adv;
           } in
           let all = move-keeps m x law s t still known placed active budget next h stand at e found mine (granted_more charges r) e.activation b end e.calls mine.calls move in
-          let both : StandsFor m x (slice_set active at (record e { activation = b })) budget next t (with_run h e.run.0 (granted_more charges) (run_at h e.run.0)) × (stepped e.run end ≡ step_reply m h e.run (granted_more charges) (run_at h e.run.0)) = (
+          let both : StandsFor m x (slice_set active at (record e { activation = b })) budget next t
+          (with_run h e.run.0 (granted_more charges) (run_at h e.run.0))
+          × (stepped e.run end ≡ step_reply m h e.run (granted_more charges) (run_at h e.run.0)) = (
             subst (λ o. StandsFor m x (slice_set active at (record e { activation = b })) budget next t (with_run h e.run.0 (granted_more charges) o)) (sym the_run-found) all,
             ap (stepped e.run) adv.is_end ∙ ap (step_reply m h e.run (granted_more charges)) (sym the_run-found),
           ) in
-          subst (λ (n : RunNo). StandsFor m x (slice_set active at (record e { activation = b })) budget next t (with_run h n.0 (granted_more charges) (run_at h n.0)) × (stepped n end ≡ step_reply m h n (granted_more charges) (run_at h n.0))) number both
+          subst (λ (n : RunNo). StandsFor m x (slice_set active at (record e { activation = b })) budget next t
+          (with_run h n.0 (granted_more charges) (run_at h n.0)) × (stepped n end ≡ step_reply m h n (granted_more charges) (run_at h n.0))) number both
 
       -- a slice of the run with one call more
-      pub called-keeps : (run : RunNo) → e.run ≡ run → (c : NamedCall) (calls : ℕ) → calls ≡ e.calls + 1 → (a b : Activation H R P) (end : Ended) → MayCall m h e.run.0 c → x.place a ≡ x.place e.activation → KeepsOthers (x.place a) s t → WritesStay s t
+      pub called-keeps : (run : RunNo) → e.run ≡ run → (c : NamedCall) (calls : ℕ) → calls ≡ e.calls + 1 → (a b : Activation H R P) (end : Ended)
+          → MayCall m h e.run.0 c → x.place a ≡ x.place e.activation → KeepsOthers (x.place a) s t → WritesStay s t
           → IsWaiting m x s a (work_of e.run.0 (called_more c the_run)) the_run.granted (heap_of m h the_run.parent.0) (run_counts m h e.run.0 the_run)
           → ((w : Work) (k : ℕ) (y : Heap) (counts : Counts) → IsWaiting m x s a w k y counts → RanOn m x s a w (min (k + 0) w.budget) y counts end t b)
-          → StandsFor m x (slice_set active at (record e { calls = calls; activation = b })) budget next t (with_run h run.0 (called_more c) (run_at h run.0)) × (stepped run end ≡ step_reply m h run (called_more c) (run_at h run.0))
+          → StandsFor m x (slice_set active at (record e { calls = calls; activation = b })) budget next t
+          (with_run h run.0 (called_more c) (run_at h run.0)) × (stepped run end ≡ step_reply m h run (called_more c) (run_at h run.0))
       called-keeps run number c calls count a b end may place kept writes waiting ok =
           let r = the_run in
           let new = called_more c r in
@@ -195,8 +202,10 @@ module _ {H P R : Type 0} (m : Meaning) (x : Runs P R (Activation H R P)) (law :
           let one : length (r.calls ++ c ∷ []) ≡ length r.calls + 1 = length-append r.calls (c ∷ []) in
           let had = mine.calls in
           let all = move-keeps m x law s t still known placed active budget next h stand at e found mine new a b end calls (omega arith) move in
-          let both : StandsFor m x (slice_set active at (record e { calls = calls; activation = b })) budget next t (with_run h e.run.0 (called_more c) (run_at h e.run.0)) × (stepped e.run end ≡ step_reply m h e.run (called_more c) (run_at h e.run.0)) = (
+          let both : StandsFor m x (slice_set active at (record e { calls = calls; activation = b })) budget next t
+          (with_run h e.run.0 (called_more c) (run_at h e.run.0)) × (stepped e.run end ≡ step_reply m h e.run (called_more c) (run_at h e.run.0)) = (
             subst (λ o. StandsFor m x (slice_set active at (record e { calls = calls; activation = b })) budget next t (with_run h e.run.0 (called_more c) o)) (sym the_run-found) all,
             ap (stepped e.run) adv.is_end ∙ ap (step_reply m h e.run (called_more c)) (sym the_run-found),
           ) in
-          subst (λ (n : RunNo). StandsFor m x (slice_set active at (record e { calls = calls; activation = b })) budget next t (with_run h n.0 (called_more c) (run_at h n.0)) × (stepped n end ≡ step_reply m h n (called_more c) (run_at h n.0))) number both
+          subst (λ (n : RunNo). StandsFor m x (slice_set active at (record e { calls = calls; activation = b })) budget next t
+          (with_run h n.0 (called_more c) (run_at h n.0)) × (stepped n end ≡ step_reply m h n (called_more c) (run_at h n.0))) number both

@@ -33,7 +33,8 @@ use Rattle.pst_engine_runs.proofs.Fits.{call_may}
 
 -- ---- a run without a call
 
-pub bare_stands_as : {P R : Type 0} (parts : Parts) (m : Meaning) → IsMeaningOf parts m → (s : State P R) (at : P) (run : RunNo) (budget : ℕ) (stage : Stage P R) → budget < 2 ^ 32 → IsFreeFor m s at run → machine.IsBare at run budget stage
+pub bare_stands_as : {P R : Type 0} (parts : Parts) (m : Meaning) → IsMeaningOf parts m
+    → (s : State P R) (at : P) (run : RunNo) (budget : ℕ) (stage : Stage P R) → budget < 2 ^ 32 → IsFreeFor m s at run → machine.IsBare at run budget stage
     → StandsAs parts stage s (record { run = run; calls = []; budget = budget }) 0 (s.heap at) no_counts × RestsWhere (machine.trap_of stage.ended) stage
 bare_stands_as parts m means s at run budget stage small b d = (
   record {
@@ -64,7 +65,8 @@ same_run : {P R : Type 0} (c : ProcCall) (a b : Stage P R) (o : Option Trap) →
 same_run c a b None e d = record { standing = d.standing; budget = d.budget; granted = d.granted; failed = d.failed; free = λ q. e }
 same_run c a b (Some t) e d = subst (SameRun a) (sym d) (record { standing = refl; budget = refl; granted = refl; failed = refl; free = λ q. q })
 
-pub added_stands_as : {P R A : Type 0} (parts : Parts) (m : Meaning) → IsMeaningOf parts m → (f : A → Stage P R) (s : State P R) (a : A) (b : Stage P R) (w : Work) (k : ℕ) (y : Heap) (c : Counts) (call : NamedCall) (d : ProcCall)
+pub added_stands_as : {P R A : Type 0} (parts : Parts) (m : Meaning) → IsMeaningOf parts m
+    → (f : A → Stage P R) (s : State P R) (a : A) (b : Stage P R) (w : Work) (k : ℕ) (y : Heap) (c : Counts) (call : NamedCall) (d : ProcCall)
     → MayAdd m (runs_of f parts) s a w k y c call → machine.task_call d ≡ code_call parts call → machine.IsAdded d (f a) b → StandsAs parts b s (with_calls w (call ∷ [])) k y c
 added_stands_as parts m means f s a b w k y c call d may same added_call =
     let st = may.stands.0 in
@@ -85,10 +87,17 @@ added_stands_as parts m means f s a b w k y c call d may same added_call =
 
 -- ---- other runs
 
-pub still_stands_as : {P R : Type 0} (parts : Parts) (s t : State P R) (a : Stage P R) (w : Work) (k : ℕ) (y : Heap) (c : Counts) → StandsAs parts a s w k y c → SparesRun s t a.standing.place w.run → StandsAs parts a t w k y c
+pub still_stands_as : {P R : Type 0} (parts : Parts) (s t : State P R) (a : Stage P R) (w : Work) (k : ℕ) (y : Heap) (c : Counts)
+    → StandsAs parts a s w k y c → SparesRun s t a.standing.place w.run → StandsAs parts a t w k y c
 still_stands_as parts s t a w k y c d l =
-    let more : Counts = record { records = t.counts.records - s.counts.records; pointer_writes = t.counts.pointer_writes - s.counts.pointer_writes; value_writes = t.counts.value_writes - s.counts.value_writes } in
-    let counts : t.counts ≡ counts_plus s.counts more = same_counts t.counts (counts_plus s.counts more) (omega (arith, l.counts.records)) (omega (arith, l.counts.pointer_writes)) (omega (arith, l.counts.value_writes)) in
+    let more : Counts = record {
+      records = t.counts.records - s.counts.records;
+      pointer_writes =
+          t.counts.pointer_writes - s.counts.pointer_writes;
+      value_writes = t.counts.value_writes - s.counts.value_writes;
+    } in
+    let counts : t.counts ≡ counts_plus s.counts more = same_counts t.counts (counts_plus s.counts more) (omega (arith, l.counts.records))
+    (omega (arith, l.counts.pointer_writes)) (omega (arith, l.counts.value_writes)) in
     let alone : machine_laws.LeavesAlone s t a = record { grows = l.grows; heap = l.heap; writable = l.writable; fresh = λ n le f. l.fresh (record { run = a.standing.run; ordinal = n }) d.run f } in
     record {
       works = d.works;
@@ -109,7 +118,8 @@ abbrev beside : Counts → Outcome → Outcome
 beside others o = record o { counts = counts_plus o.counts others }
 
 -- where a slice answers a run is at rest
-answer_rests : {P R : Type 0} (parts : Parts) (calls : List TaskCall) (first : World) (t : State P R) (b : Stage P R) (p : Progress) → machine.ComesToAnswer p parts calls first t b → RestsWhere (machine.trap_of (machine.ended_by p)) b
+answer_rests : {P R : Type 0} (parts : Parts) (calls : List TaskCall) (first : World) (t : State P R) (b : Stage P R) (p : Progress)
+    → machine.ComesToAnswer p parts calls first t b → RestsWhere (machine.trap_of (machine.ended_by p)) b
 answer_rests parts calls first t b Running d = record { charged = λ u. d.3; none_waits = λ u. (let q : true ≡ false = sym d.0 ∙ u in absurd (cc)) }
 answer_rests parts calls first t b Done d = record { charged = λ u. (let q : true ≡ false = sym u ∙ d.0 in absurd (cc)); none_waits = λ u. d.1 }
 answer_rests parts calls first t b (Trapped trap) d = tt
@@ -120,16 +130,19 @@ calls_in parts w = map (code_call parts) w.calls
 
 module _ {P R : Type 0} (parts : Parts) (m : Meaning) (means : IsMeaningOf parts m) (law : IsLawful m) (w : Work) (y : Heap) (ready : CanBeDone m w y) where
   -- what is answered is so of the outcome
-  outcome_at : (u : State P R) (b : Stage P R) (g : ℕ) (others : Counts) (p : Progress) → b.granted ≡ g → g ≤ w.budget → b.standing.run ≡ w.run → b.budget ≡ w.budget → machine.ComesToAnswer p parts (calls_in parts w) (begins_with others b.standing.run b.granted y) u b
+  outcome_at : (u : State P R) (b : Stage P R) (g : ℕ) (others : Counts) (p : Progress) → b.granted ≡ g → g ≤ w.budget → b.standing.run ≡ w.run
+      → b.budget ≡ w.budget → machine.ComesToAnswer p parts (calls_in parts w) (begins_with others b.standing.run b.granted y) u b
       → left (ended_of p) (world_of u b.standing) ≡ beside others (m.outcome w g y)
   outcome_at u b g others p granted_is le run budget come =
       let e = answer_ends parts (calls_in parts w) (begins_with others b.standing.run b.granted y) u b p come in
       let charges : b.granted ≡ min g w.budget = omega (arith, granted_is, le) in
       let first : begins_with others b.standing.run b.granted y ≡ counted others (first_world w.run (min g w.budget) y) = (λ i. begins_with others (run i) (charges i) y) in
       let own = means.comes w g y ready in
-      let shifted : CallsEndIn parts (calls_in parts w) (counted others (first_world w.run (min g w.budget) y)) (counted_end others own.0) = calls_counted parts others (calls_in parts w) (first_world w.run (min g w.budget) y) own.0 own.1 in
+      let shifted : CallsEndIn parts (calls_in parts w) (counted others (first_world w.run (min g w.budget) y)) (counted_end others own.0) =
+      calls_counted parts others (calls_in parts w) (first_world w.run (min g w.budget) y) own.0 own.1 in
       let same : e.end ≡ counted_end others own.0 =
-      calls_one_end parts (calls_in parts w) (counted others (first_world w.run (min g w.budget) y)) e.end (counted_end others own.0) (subst (λ (x : World). CallsEndIn parts (calls_in parts w) x e.end) first e.ends) shifted in
+      calls_one_end parts (calls_in parts w) (counted others (first_world w.run (min g w.budget) y)) e.end (counted_end others own.0)
+      (subst (λ (x : World). CallsEndIn parts (calls_in parts w) x e.end) first e.ends) shifted in
       let whole : nat_le b.budget b.granted ≡ nat_le w.budget g = (λ i. nat_le (budget i) (granted_is i)) in
       sym e.outcome
       ∙ ap (λ (x : Bool). outcome_of x e.end) whole
@@ -145,7 +158,8 @@ module _ {P R : Type 0} (parts : Parts) (m : Meaning) (means : IsMeaningOf parts
         ap (λ (x : Counts). counts_plus x c) e ∙ turned ∙ ap (λ (x : Counts). counts_plus x o) (sym d.counts)
 
     -- a run that has not trapped
-    free_advanced : (t : State P R) (b : A) (charges : ℕ) (p : Progress) → machine.trap_of (f a).ended ≡ None → machine.Advances parts s (f a) charges p t (f b) → machine.IsReady parts t (f b) → (f b).failed ≡ false
+    free_advanced : (t : State P R) (b : A) (charges : ℕ) (p : Progress) → machine.trap_of (f a).ended ≡ None
+        → machine.Advances parts s (f a) charges p t (f b) → machine.IsReady parts t (f b) → (f b).failed ≡ false
         → RanOn m (runs_of f parts) s a w (min (k + charges) w.budget) y c (ended_of p) t b
     free_advanced t b charges p free adv ready_b works_b =
         let g : ℕ = min (k + charges) w.budget in
@@ -172,7 +186,8 @@ module _ {P R : Type 0} (parts : Parts) (m : Meaning) (means : IsMeaningOf parts
               counts = counts;
               stands = next.0;
             },
-            subst (λ (e : Option Progress). RestsWhere (machine.trap_of e) (f b)) (sym adv.ended) (answer_rests parts (calls_in parts w) (begins_with d.others (f b).standing.run (f b).granted y) t (f b) p next.1),
+            subst (λ (e : Option Progress). RestsWhere (machine.trap_of e) (f b)) (sym adv.ended)
+                (answer_rests parts (calls_in parts w) (begins_with d.others (f b).standing.run (f b).granted y) t (f b) p next.1),
           );
           heap = ap t.heap (sym adv.place) ∙ ap (λ (z : Outcome). z.heap) o;
           printed = ap (λ (z : Outcome). z.printed) o;
@@ -182,7 +197,8 @@ module _ {P R : Type 0} (parts : Parts) (m : Meaning) (means : IsMeaningOf parts
         }
 
     -- one that has trapped stays as it is
-    over_advanced : (b : A) (charges : ℕ) (trap : Trap) → machine.trap_of (f a).ended ≡ Some trap → f b ≡ f a → RanOn m (runs_of f parts) s a w (min (k + charges) w.budget) y c (ended_of (Trapped trap)) s b
+    over_advanced : (b : A) (charges : ℕ) (trap : Trap) → machine.trap_of (f a).ended ≡ Some trap → f b ≡ f a
+        → RanOn m (runs_of f parts) s a w (min (k + charges) w.budget) y c (ended_of (Trapped trap)) s b
     over_advanced b charges trap trapped is =
         let g : ℕ = min (k + charges) w.budget in
         let less : (f a).granted ≤ k = d.granted_within in
@@ -206,7 +222,10 @@ module _ {P R : Type 0} (parts : Parts) (m : Meaning) (means : IsMeaningOf parts
         } in
         record {
           place = ap (λ (z : Stage P R). z.standing.place) is;
-          stands = (subst (λ (z : Stage P R). StandsAs parts z s w g y (m.outcome w g y).counts) (sym is) stands, subst (λ (x : Option Trap). RestsWhere x (f b)) (sym (ap (λ (z : Stage P R). machine.trap_of z.ended) is ∙ trapped)) tt);
+          stands = (
+            subst (λ (z : Stage P R). StandsAs parts z s w g y (m.outcome w g y).counts) (sym is) stands,
+            subst (λ (x : Option Trap). RestsWhere x (f b)) (sym (ap (λ (z : Stage P R). machine.trap_of z.ended) is ∙ trapped)) tt,
+          );
           heap = ap (λ (z : Outcome). z.heap) o;
           printed = ap (λ (z : Stage P R). z.standing.printed.items) is ∙ ap (λ (z : Outcome). z.printed) o;
           is_end = ap (λ (z : Outcome). z.end) o;
@@ -214,9 +233,13 @@ module _ {P R : Type 0} (parts : Parts) (m : Meaning) (means : IsMeaningOf parts
           names = λ n other fresh. fresh;
         }
 
-    pub any_advanced : (t : State P R) (b : A) (charges : ℕ) (p : Progress) (end : Ended) (o : Option Trap) → machine.trap_of (f a).ended ≡ o → machine.AdvancesWhere o parts s (f a) charges p t (f b) → machine.IsReady parts t (f b) × ((f b).failed ≡ false) → (IsSome o → t ≡ s) → end ≡ ended_of p
+    pub any_advanced : (t : State P R) (b : A) (charges : ℕ) (p : Progress) (end : Ended) (o : Option Trap) → machine.trap_of (f a).ended ≡ o
+        → machine.AdvancesWhere o parts s (f a) charges p t (f b) → machine.IsReady parts t (f b) × ((f b).failed ≡ false) → (IsSome o → t ≡ s)
+        → end ≡ ended_of p
         → RanOn m (runs_of f parts) s a w (min (k + charges) w.budget) y c end t b
-    any_advanced t b charges p end None e adv after still is = subst (λ (x : Ended). RanOn m (runs_of f parts) s a w (min (k + charges) w.budget) y c x t b) (sym is) (free_advanced t b charges p e adv after.0 after.1)
+    any_advanced t b charges p end None e adv after still is =
+        subst (λ (x : Ended). RanOn m (runs_of f parts) s a w (min (k + charges) w.budget) y c x t b) (sym is)
+        (free_advanced t b charges p e adv after.0 after.1)
     any_advanced t b charges p end (Some trap) e adv after still is =
         let over = over_advanced b charges trap e adv.1 in
         let there = subst (λ (u : State P R). RanOn m (runs_of f parts) s a w (min (k + charges) w.budget) y c (ended_of (Trapped trap)) u b) (sym (still (refl))) over in

@@ -41,12 +41,14 @@ module _ (parts : Parts) (f : Frame) (callers : List Caller) (one : IsOneOf part
   effect_of (Trapped t line w) = tt
   effect_of (Spent line w) = tt
 
-  call_of : (b : Bool) (number : ℕ) (callee : Option Procedure) → slice_get parts.procedures number ≡ callee → (vs : List Value) (into : Option Reg) (w : World) → IsOfCode parts (enter_where b callee vs into f callers w)
+  call_of : (b : Bool) (number : ℕ) (callee : Option Procedure) → slice_get parts.procedures number ≡ callee
+      → (vs : List Value) (into : Option Reg) (w : World) → IsOfCode parts (enter_where b callee vs into f callers w)
   call_of false number callee at vs into w = tt
   call_of true number None at vs into w = tt
   call_of true number (Some p) at vs into w = (record { number = number; is = at }, (one, all))
 
-back_of : (parts : Parts) (into : Option Reg) (v : Option Value) (f : Frame) (callers : List Caller) (w : World) → IsOneOf parts f.procedure → AreOfCode parts callers → IsOfCode parts (leave_to v (record { frame = f; into = into } ∷ callers) w)
+back_of : (parts : Parts) (into : Option Reg) (v : Option Value) (f : Frame) (callers : List Caller) (w : World) → IsOneOf parts f.procedure
+    → AreOfCode parts callers → IsOfCode parts (leave_to v (record { frame = f; into = into } ∷ callers) w)
 back_of parts None v f callers w one all = (one, all)
 back_of parts (Some d) None f callers w one all = (one, all)
 back_of parts (Some d) (Some v) f callers w one all = (one, all)
@@ -65,7 +67,8 @@ move_of parts f callers w one all (Some (Jumplt a b to)) = jump_of parts f calle
 move_of parts f callers w one all (Some (Jumple a b to)) = jump_of parts f callers one all _ to w
 move_of parts f callers w one all (Some (Jumpgt a b to)) = jump_of parts f callers one all _ to w
 move_of parts f callers w one all (Some (Jumpge a b to)) = jump_of parts f callers one all _ to w
-move_of parts f callers w one all (Some (Call p into arguments)) = call_of parts f callers one all (nat_lt (length callers + 1) 256) p.0 (slice_get parts.procedures p.0) refl (map (held f.registers) arguments) into w
+move_of parts f callers w one all (Some (Call p into arguments)) =
+    call_of parts f callers one all (nat_lt (length callers + 1) 256) p.0 (slice_get parts.procedures p.0) refl (map (held f.registers) arguments) into w
 move_of parts f callers w one all (Some (Return None)) = leave_of parts None callers w all
 move_of parts f callers w one all (Some (Return (Some s))) = leave_of parts (Some (held f.registers s)) callers w all
 move_of parts f callers w one all (Some i) = effect_of parts f callers one all (effect parts.shape i f.line f.registers w)
@@ -86,7 +89,8 @@ stops_on parts n f callers w (Waits line g c u) of falls less next = tt
 stops_on parts n f callers w (Over o) of falls less next = tt
 stops_on parts n f callers w Stuck of falls less next = tt
 
-pub stops : (parts : Parts) → EachMoveFallsAnywhere parts → (n : ℕ) (f : Frame) (callers : List Caller) (w : World) → IsOneOf parts f.procedure → AreOfCode parts callers → total parts f callers w < n → HasStopped (steps parts n f callers w)
+pub stops : (parts : Parts) → EachMoveFallsAnywhere parts → (n : ℕ) (f : Frame) (callers : List Caller) (w : World) → IsOneOf parts f.procedure
+    → AreOfCode parts callers → total parts f callers w < n → HasStopped (steps parts n f callers w)
 stops parts falls zero f callers w one all less = absurd (omega (arith, less))
 stops parts falls (suc n) f callers w one all less =
     stops_on parts n f callers w (act parts (next_instr f) f callers w) (move_of parts f callers w one all (next_instr f)) (falls f callers w one) less (stops parts falls n)
@@ -105,7 +109,8 @@ stuck_ends_nowhere parts n f callers w o stuck to =
     ⊎_elim
     (λ lt.
     let whole : n + (to.within - n) ≡ to.within = omega arith in
-    let still : steps parts to.within f callers w ≡ Stuck = ap (λ k. steps parts k f callers w) (sym whole) ∙ steps_add parts n (to.within - n) f callers w ∙ stuck_on parts (to.within - n) (steps parts n f callers w) stuck in
+    let still : steps parts to.within f callers w ≡ Stuck = ap (λ k. steps parts k f callers w) (sym whole)
+    ∙ steps_add parts n (to.within - n) f callers w ∙ stuck_on parts (to.within - n) (steps parts n f callers w) stuck in
     differ o (ap spent (sym still) ∙ to.comes))
     (λ le. differ o (ap spent (sym stuck) ∙ longer parts to.within n f callers w o le to.comes))
     (cases_lt n to.within)

@@ -1,6 +1,7 @@
 -- A block as the list of its statements.
 use Rattle.std.proofs.Common.{◌≡◌, refl, ap, ◌∙◌, sym}
-use Rattle.pst_program.specs.declared.block.TypedBlock.{TypedBlock, TypedBlock', out-TypedBlock, outs-TypedBlock', Row_of-TypedStatement, end_of-TypedStatement, more_of-TypedStatement, items-the_row-TypedStatement, items_shown-the_row-TypedStatement-0}
+use Rattle.pst_program.specs.declared.block.TypedBlock.{TypedBlock, TypedBlock', out-TypedBlock, outs-TypedBlock', Row_of-TypedStatement, end_of-TypedStatement}
+use Rattle.pst_program.specs.declared.block.TypedBlock.{more_of-TypedStatement, items-the_row-TypedStatement, items_shown-the_row-TypedStatement-0}
 use Rattle.pst_program.specs.Syntax as syntax
 use Rattle.pst_program.specs.View.{action_of, actions_of, row_of, statements_of}
 

@@ -3,4 +3,4 @@ pub mod Elements
 pub mod Loops
 pub mod Ready
 pub mod ReadyValues
-pub mod Values
+pub mod ValueElements

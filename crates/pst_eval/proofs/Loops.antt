@@ -20,13 +20,15 @@ turns_is_if : (n : ℕ) (shape : List TypeShape) (e : Expr) (body : Does) (line 
     → turns n shape e body line env w ≡ if_else shape e (λ env w. then_do (body env w) (turns (n - 1) shape e body line)) Normal line env w
 turns_is_if zero shape e body line env w le =
     let none : zero ≡ w.charges = omega arith in
-    subst (λ c. Spent line w ≡ charged c line w (λ x. with_answer (value shape e env x.heap) line x (λ v. choose (truth_of v) (then_do (body env x) (turns (zero - 1) shape e body line)) (Normal env x)))) none refl
+    subst (λ c. Spent line w ≡ charged c line w (λ x. with_answer (value shape e env x.heap) line x
+    (λ v. choose (truth_of v) (then_do (body env x) (turns (zero - 1) shape e body line)) (Normal env x)))) none refl
 turns_is_if (suc n) shape e body line env w le =
     let back : n ≡ suc n - 1 = omega arith in
     ap (λ m. if_else shape e (λ env w. then_do (body env w) (turns m shape e body line)) Normal line env w) back
 
 -- what the condition came to is what the loop comes to
-pub turned : (n : ℕ) (shape : List TypeShape) (e : Expr) (body : Does) (line : ℕ) (env : Env) (w w' : World) (r : Result Bool End) (all : Ending) → w.charges ≤ n → turns n shape e body line env w ≡ all
+pub turned : (n : ℕ) (shape : List TypeShape) (e : Expr) (body : Does) (line : ℕ) (env : Env) (w w' : World) (r : Result Bool End) (all : Ending)
+    → w.charges ≤ n → turns n shape e body line env w ≡ all
     → ((first other : Env → World → Ending) → if_else shape e first other line env w ≡ goes_on r first other env w')
     → goes_on r (λ env w. then_do (body env w) (turns (n - 1) shape e body line)) Normal env w' ≡ all
 turned n shape e body line env w w' r all le is cond = sym (cond _ _) ∙ sym (turns_is_if n shape e body line env w le) ∙ is
@@ -73,20 +75,25 @@ body_left shape calls ps p vs w q env o found is_env is_o =
     ap (leave q.result) (is_o ∙ ap (λ l. exec shape calls (actions_of q.body) l w) is_env) ∙ sym (ap (λ f. run_body shape calls f vs w) (mapped_some ps p q found))
 
 -- a turn that follows a condition which holds
-turned_true : (n : ℕ) (shape : List TypeShape) (e : Expr) (body : Does) (line : ℕ) (env : Env) (w w' : World) (b : Bool) (all : Ending) → b ≡ true → w.charges ≤ n → turns n shape e body line env w ≡ all
+turned_true : (n : ℕ) (shape : List TypeShape) (e : Expr) (body : Does) (line : ℕ) (env : Env) (w w' : World) (b : Bool) (all : Ending) → b ≡ true
+    → w.charges ≤ n → turns n shape e body line env w ≡ all
     → ((first other : Env → World → Ending) → if_else shape e first other line env w ≡ goes_on (Ok b) first other env w') → then_do (body env w') (turns (n - 1) shape e body line) ≡ all
 turned_true n shape e body line env w w' false all is le so cond = absurd (cc)
 turned_true n shape e body line env w w' true all is le so cond = turned n shape e body line env w w' (Ok true) all le so cond
 
-pub again : (n : ℕ) (shape : List TypeShape) (e : Expr) (body : Does) (line : ℕ) (env env' : Env) (w w' w2 : World) (b : Bool) (end : End) (all : Ending) → b ≡ true → w.charges ≤ n → turns n shape e body line env w ≡ all
-    → ((first other : Env → World → Ending) → if_else shape e first other line env w ≡ goes_on (Ok b) first other env w') → ending_of end env' w2 ≡ body env w' → end ≡ EndNormal → turns (n - 1) shape e body line env' w2 ≡ all
+pub again : (n : ℕ) (shape : List TypeShape) (e : Expr) (body : Does) (line : ℕ) (env env' : Env) (w w' w2 : World) (b : Bool) (end : End)
+    (all : Ending) → b ≡ true → w.charges ≤ n → turns n shape e body line env w ≡ all
+    → ((first other : Env → World → Ending) → if_else shape e first other line env w ≡ goes_on (Ok b) first other env w')
+    → ending_of end env' w2 ≡ body env w' → end ≡ EndNormal → turns (n - 1) shape e body line env' w2 ≡ all
 again n shape e body line env env' w w' w2 b end all is le so cond ran normal =
     ap (λ o. then_do (ending_of o env' w2) (turns (n - 1) shape e body line)) (sym normal)
     ∙ ap (λ o. then_do o (turns (n - 1) shape e body line)) ran
     ∙ turned_true n shape e body line env w w' b all is le so cond
 
-pub over : (n : ℕ) (shape : List TypeShape) (e : Expr) (body : Does) (line : ℕ) (env env' : Env) (w w' w2 : World) (b : Bool) (end : End) (all : Ending) → b ≡ true → w.charges ≤ n → turns n shape e body line env w ≡ all
-    → ((first other : Env → World → Ending) → if_else shape e first other line env w ≡ goes_on (Ok b) first other env w') → ending_of end env' w2 ≡ body env w' → end ≢ EndNormal → ending_of end env' w2 ≡ all
+pub over : (n : ℕ) (shape : List TypeShape) (e : Expr) (body : Does) (line : ℕ) (env env' : Env) (w w' w2 : World) (b : Bool) (end : End)
+    (all : Ending) → b ≡ true → w.charges ≤ n → turns n shape e body line env w ≡ all
+    → ((first other : Env → World → Ending) → if_else shape e first other line env w ≡ goes_on (Ok b) first other env w')
+    → ending_of end env' w2 ≡ body env w' → end ≢ EndNormal → ending_of end env' w2 ≡ all
 over n shape e body line env env' w w' w2 b end all is le so cond ran other =
     sym (then_other end env' w2 (turns (n - 1) shape e body line) other)
     ∙ ap (λ o. then_do o (turns (n - 1) shape e body line)) ran

@@ -50,7 +50,8 @@ count-set [] i old new at a b = absurd (cc)
 count-set (x ∷ xs) zero old new at a b =
     let same : x.published ≡ false = (let e : x ≡ old = cc in ap (λ (k : Fork). k.published) e ∙ a) in
     ap (λ c. cond c 1 0 + published_count xs) b ∙ (let e : 1 + published_count xs ≡ (0 + published_count xs) + 1 = omega arith in e) ∙ ap (λ c. (cond c 1 0 + published_count xs) + 1) (sym same)
-count-set (x ∷ xs) (suc i) old new at a b = ap (λ n. cond x.published 1 0 + n) (count-set xs i old new at a b) ∙ (let e : cond x.published 1 0 + (published_count xs + 1) ≡ (cond x.published 1 0 + published_count xs) + 1 = omega arith in e)
+count-set (x ∷ xs) (suc i) old new at a b = ap (λ n. cond x.published 1 0 + n) (count-set xs i old new at a b)
+    ∙ (let e : cond x.published 1 0 + (published_count xs + 1) ≡ (cond x.published 1 0 + published_count xs) + 1 = omega arith in e)
 
 -- a call of `fork` is counted
 pub IsForest-called : (f : ForestOf) (forks : List Fork) → forks ≡ f.forks → IsForest f → f.calls < MOST_FORKS → IsForest (record f { forks = forks; calls = f.calls + 1 })
@@ -65,7 +66,8 @@ IsForest-called f forks e w l = rw e (record {
   calls = omega arith;
 })
 
-pub IsForest-called_push : (f : ForestOf) (heaps : List OrdinaryHeap) (forks : List Fork) → heaps ≡ f.heaps → forks ≡ f.forks → IsForest f → f.calls < MOST_FORKS → IsForest (record f { heaps = heaps; forks = forks; calls = f.calls + 1 })
+pub IsForest-called_push : (f : ForestOf) (heaps : List OrdinaryHeap) (forks : List Fork) → heaps ≡ f.heaps → forks ≡ f.forks → IsForest f
+    → f.calls < MOST_FORKS → IsForest (record f { heaps = heaps; forks = forks; calls = f.calls + 1 })
 IsForest-called_push f heaps forks a b w l = subst (λ (hs : List OrdinaryHeap). IsForest (record f { heaps = hs; forks = forks; calls = f.calls + 1 })) (sym a) (IsForest-called f forks b w l)
 
 abbrev pub forked : ForestOf → PlaceNo → OrdinaryHeap → ForestOf
@@ -83,7 +85,8 @@ same_place p n e = ap (λ (n : ℕ). record { 0 = n }) e
 -- what is open after a fork
 open_back : (forks : List Fork) (fork : Fork) (p : PlaceNo) → IsOpen (forks ++ fork ∷ []) p → (p.0 ≡ length forks + 1) ⊎ IsOpen forks p
 open_back forks fork p o =
-    elim (slice_get (forks ++ fork ∷ []) (p.0 - 1)) as (λ (r : Option Fork). slice_get (forks ++ fork ∷ []) (p.0 - 1) ≡ r → IsSomeAnd r (λ k. k.published ≡ false) → (p.0 ≡ length forks + 1) ⊎ IsOpen forks p) [
+    elim (slice_get (forks ++ fork ∷ []) (p.0 - 1)) as (λ (r : Option Fork). slice_get (forks ++ fork ∷ []) (p.0 - 1) ≡ r
+    → IsSomeAnd r (λ k. k.published ≡ false) → (p.0 ≡ length forks + 1) ⊎ IsOpen forks p) [
       | None ↦ λ e h. absurd h
       | Some k ↦ λ e h. elim (slice_get-push forks fork (p.0 - 1) k e) [
         | inl a ↦ inr (o.0, subst (λ (r : Option Fork). IsSomeAnd r (λ k. k.published ≡ false)) (sym a) h)
@@ -124,7 +127,8 @@ IsForest-forked f from o w l s e = record {
 
 -- ---- the relation of the trait
 
-pub Forked-forked : (f g : ForestOf) (from : PlaceNo) (o : OrdinaryHeap) → f ≡ g → IsForest f → slice_get f.heaps from.0 ≡ Some o → Forked (state_of g) from (record { 0 = length f.heaps }) (state_of (forked f from o))
+pub Forked-forked : (f g : ForestOf) (from : PlaceNo) (o : OrdinaryHeap) → f ≡ g → IsForest f → slice_get f.heaps from.0 ≡ Some o
+    → Forked (state_of g) from (record { 0 = length f.heaps }) (state_of (forked f from o))
 Forked-forked f g from o e w is = subst (λ (g : ForestOf). Forked (state_of g) from (record { 0 = length f.heaps }) (state_of (forked f from o))) e (record {
   grows = record {
     shape = refl;
@@ -159,17 +163,21 @@ Forked-forked f g from o e w is = subst (λ (g : ForestOf). Forked (state_of g) 
 
 -- ---- as the code makes it
 
-pub forked_is : (f : ForestOf) (from : PlaceNo) (o : OrdinaryHeap) (n : ℕ) (heaps : List OrdinaryHeap) (forks : List Fork) → n ≡ length f.heaps → heaps ≡ f.heaps ++ o ∷ [] → forks ≡ f.forks ++ record { place = record { 0 = n }; from = from; published = false } ∷ []
+pub forked_is : (f : ForestOf) (from : PlaceNo) (o : OrdinaryHeap) (n : ℕ) (heaps : List OrdinaryHeap) (forks : List Fork) → n ≡ length f.heaps
+    → heaps ≡ f.heaps ++ o ∷ [] → forks ≡ f.forks ++ record { place = record { 0 = n }; from = from; published = false } ∷ []
     → record f { heaps = heaps; forks = forks; calls = f.calls + 1 } ≡ forked f from o
 forked_is f from o n heaps forks e a b =
     ap (λ (hs : List OrdinaryHeap). record f { heaps = hs; forks = forks; calls = f.calls + 1 }) a
-    ∙ ap (λ (ks : List Fork). record f { heaps = f.heaps ++ o ∷ []; forks = ks; calls = f.calls + 1 }) (b ∙ ap (λ (n : ℕ). f.forks ++ record { place = record { 0 = n }; from = from; published = false } ∷ []) e)
+    ∙ ap (λ (ks : List Fork). record f { heaps = f.heaps ++ o ∷ []; forks = ks; calls = f.calls + 1 })
+    (b ∙ ap (λ (n : ℕ). f.forks ++ record { place = record { 0 = n }; from = from; published = false } ∷ []) e)
 
-pub IsForest-made : (f : ForestOf) (from : PlaceNo) (o : OrdinaryHeap) (n : ℕ) (heaps : List OrdinaryHeap) (forks : List Fork) → n ≡ length f.heaps → heaps ≡ f.heaps ++ o ∷ [] → forks ≡ f.forks ++ record { place = record { 0 = n }; from = from; published = false } ∷ []
+pub IsForest-made : (f : ForestOf) (from : PlaceNo) (o : OrdinaryHeap) (n : ℕ) (heaps : List OrdinaryHeap) (forks : List Fork) → n ≡ length f.heaps
+    → heaps ≡ f.heaps ++ o ∷ [] → forks ≡ f.forks ++ record { place = record { 0 = n }; from = from; published = false } ∷ []
     → IsForest f → f.calls < MOST_FORKS → plain.IsOrdinary o → o.shape ≡ f.shape → IsForest (record f { heaps = heaps; forks = forks; calls = f.calls + 1 })
 IsForest-made f from o n heaps forks e a b w l s sh = subst IsForest (sym (forked_is f from o n heaps forks e a b)) (IsForest-forked f from o w l s sh)
 
-pub Forked-made : (f g : ForestOf) (from : PlaceNo) (o : OrdinaryHeap) (n : ℕ) (heaps : List OrdinaryHeap) (forks : List Fork) → n ≡ length f.heaps → heaps ≡ f.heaps ++ o ∷ [] → forks ≡ f.forks ++ record { place = record { 0 = n }; from = from; published = false } ∷ []
+pub Forked-made : (f g : ForestOf) (from : PlaceNo) (o : OrdinaryHeap) (n : ℕ) (heaps : List OrdinaryHeap) (forks : List Fork) → n ≡ length f.heaps
+    → heaps ≡ f.heaps ++ o ∷ [] → forks ≡ f.forks ++ record { place = record { 0 = n }; from = from; published = false } ∷ []
     → f ≡ g → IsForest f → slice_get f.heaps from.0 ≡ Some o → Forked (state_of g) from (record { 0 = n }) (state_of (record f { heaps = heaps; forks = forks; calls = f.calls + 1 }))
 Forked-made f g from o n heaps forks e a b fg w is =
     subst (λ (h : ForestOf). Forked (state_of g) from (record { 0 = n }) (state_of h)) (sym (forked_is f from o n heaps forks e a b))

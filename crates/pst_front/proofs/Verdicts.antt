@@ -23,7 +23,8 @@ use Rattle.pst_front.specs.Verdict.{Verdict, HasParseFault, HasFault, Judged}
 
 -- the same place, or the second one is further, or the first one is
 abbrev Places : {A : Type 0} → (xs ys zs ws : List A) → Type 0
-Places {A} xs ys zs ws = ((xs ≡ zs) × (ys ≡ ws)) ⊎ (((t : A) × (more : List A) × (ys ≡ t ∷ (more ++ ws)) × (zs ≡ xs ++ (t ∷ more))) ⊎ ((t : A) × (more : List A) × (ws ≡ t ∷ (more ++ ys)) × (xs ≡ zs ++ (t ∷ more))))
+Places {A} xs ys zs ws = ((xs ≡ zs) × (ys ≡ ws)) ⊎ (((t : A) × (more : List A) × (ys ≡ t ∷ (more ++ ws)) × (zs ≡ xs ++ (t ∷ more)))
+    ⊎ ((t : A) × (more : List A) × (ws ≡ t ∷ (more ++ ys)) × (xs ≡ zs ++ (t ∷ more))))
 
 behind : {A : Type 0} (x : A) (xs ys zs ws : List A) → Places xs ys zs ws → Places (x ∷ xs) ys (x ∷ zs) ws
 behind x xs ys zs ws (inl (e, f)) = inl (ap (λ l. x ∷ l) e, f)
@@ -138,7 +139,8 @@ Known text v =
     ⊎ (((deep : Bool) × (line : ℕ) × HasParseFault text (Sort deep) line × (v ≡ of_parse deep line))
     ⊎ ((syntax : tree.ProgramText) × HasTree text syntax × (v ≡ of_checked syntax (checked syntax.items))))
 
-typed_known : (text : List ℕ) (v : Verdict) (syntax : tree.ProgramText) (answer : Result NamedProgram TypeFault) → HasTree text syntax → checked syntax.items ≡ answer → v ≡ of_checked syntax answer → Known text v
+typed_known : (text : List ℕ) (v : Verdict) (syntax : tree.ProgramText) (answer : Result NamedProgram TypeFault) → HasTree text syntax
+    → checked syntax.items ≡ answer → v ≡ of_checked syntax answer → Known text v
 typed_known text v syntax answer has is e = inr (inr (syntax, has, e ∙ ap (of_checked syntax) (sym is)))
 
 fault_known : (text : List ℕ) (k : FaultKind) (line : ℕ) → HasFault text k line → Known text (Refused (record { kind = k; line = line }))

@@ -8,7 +8,7 @@ use Rattle.pst_grammar.specs.Syntax as tree
 use Rattle.pst_grammar.specs.declared.lexeme.Label.{Label}
 use Rattle.pst_grammar.specs.declared.lexeme.Sign.TheVariants as sign
 use Rattle.pst_grammar.specs.Lexemes as token
-use Rattle.pst_grammar.specs.Lexemes.{Lexeme, Operator, Plain, Leading, Unknown}
+use Rattle.pst_grammar.specs.Lexemes.{Lexeme, Operator, Plain, Leading}
 use Rattle.pst_grammar.specs.Depth.{height}
 use Rattle.pst_grammar.specs.Forms.{level, loosest_left, rank, IsFormed, IsPlace}
 use Rattle.pst_grammar.specs.Spelling.{Expr, Number, Null, Name, Parens, Field, Indexed, Negate, Not, Binary, expr, spelled}
@@ -134,7 +134,8 @@ operand_again j next (Name v) b n rest r law wide formed low free goes = goes b 
 operand_again j next Null b n rest r law wide formed low free goes = goes b (omega arith)
 operand_again j next (Parens e) b n rest r law wide formed low free goes =
     within_is b 0 _ _ (omega arith)
-    ∙ rw (law e 0 (Plain sign.CloseParen ∷ rest) (omega arith) (omega arith) (omega arith) formed (omega arith) (omega arith) (λ next' f. ends j next' f (b - 1) 0 (expr e) (Plain sign.CloseParen ∷ rest) tt))
+    ∙ rw (law e 0 (Plain sign.CloseParen ∷ rest) (omega arith) (omega arith) (omega arith) formed (omega arith) (omega arith)
+    (λ next' f. ends j next' f (b - 1) 0 (expr e) (Plain sign.CloseParen ∷ rest) tt))
     (goes b (omega arith))
 operand_again j next (Field e v) b n rest r law wide (tight, formed) low free goes =
     operand_again j next e b n (Plain sign.Dot ∷ token.Name v ∷ rest) r law (omega arith) formed (omega arith) (omega arith) go
@@ -153,7 +154,8 @@ operand_again j next (Indexed e v i) b n rest r law wide (two, tight, formed, fo
         rw (test_true 7 (rank (expr e)) tight)
         (within_is b (height (expr e)) _ _ (omega arith)
         ∙ selected_index j next (expr e) v.name (λ a. more j next f b n a) (spelled i (Plain sign.CloseParen ∷ rest)) two
-        ∙ rw (law i 0 (Plain sign.CloseParen ∷ rest) (omega arith) (omega arith) (omega arith) formed' (omega arith) (omega arith) (λ next' f. ends j next' f (b - 1) 0 (expr i) (Plain sign.CloseParen ∷ rest) tt))
+        ∙ rw (law i 0 (Plain sign.CloseParen ∷ rest) (omega arith) (omega arith) (omega arith) formed' (omega arith) (omega arith)
+        (λ next' f. ends j next' f (b - 1) 0 (expr i) (Plain sign.CloseParen ∷ rest) tt))
         (goes f (omega arith)))
 operand_again j next (Negate e) b n rest r law wide (tight, formed) low free goes =
     within_is b 0 _ _ (omega arith)
@@ -228,7 +230,8 @@ place_rank j (tree.Field e x) p = refl
 place_rank j (tree.Indexed e x i) p = refl
 place_rank j e p = absurd p
 
-dots_again : (j : ℕ) (next : ℕ → List Lexeme → Read tree.Expr) (e : Expr) (b : ℕ) (rest : List Lexeme) (r : Read tree.Expr) → NextAgain j next b → IsPlace j (expr e) → height (expr e) ≤ b → binds rest ≤ 7 →
+dots_again : (j : ℕ) (next : ℕ → List Lexeme → Read tree.Expr) (e : Expr) (b : ℕ) (rest : List Lexeme) (r : Read tree.Expr) → NextAgain j next b
+    → IsPlace j (expr e) → height (expr e) ≤ b → binds rest ≤ 7 →
     Goes j next b 7 (expr e) rest r → more j next b b 7 (tree.Name (first_name e).name) (dots e rest) ≡ r
 unfolding more
 dots_again j next (Name x) b rest r law p low free goes = goes b (omega arith)
@@ -248,7 +251,8 @@ dots_again j next (Indexed e x i) b rest r law (two, p, formed) low free goes =
         rw (place_rank j (expr e) p)
         (within_is b (height (expr e)) _ _ (omega arith)
         ∙ selected_index j next (expr e) x.name (λ a. more j next f b 7 a) (spelled i (Plain sign.CloseParen ∷ rest)) two
-        ∙ rw (law i 0 (Plain sign.CloseParen ∷ rest) (omega arith) (omega arith) (omega arith) formed (omega arith) (omega arith) (λ next' f. ends j next' f (b - 1) 0 (expr i) (Plain sign.CloseParen ∷ rest) tt))
+        ∙ rw (law i 0 (Plain sign.CloseParen ∷ rest) (omega arith) (omega arith) (omega arith) formed (omega arith) (omega arith)
+        (λ next' f. ends j next' f (b - 1) 0 (expr i) (Plain sign.CloseParen ∷ rest) tt))
         (goes f (omega arith)))
 dots_again j next e b rest r law p low free goes = absurd p
 

@@ -8,7 +8,10 @@ use Rattle.pst_grammar.specs.declared.lexeme.Lead.TheVariants as lead
 use Rattle.pst_grammar.specs.Lexemes as token
 use Rattle.pst_grammar.specs.Lexemes.{Lexeme, Plain, Leading}
 use Rattle.pst_grammar.specs.Forms.{Each, IsFormedField}
-use Rattle.pst_grammar.specs.Spelling.{each, Block, Empty, Then, phrases, spelled_block, TypeText, Int, Named, type_word as plain_type, spelled_type, FieldText, Val, Ptr, field as plain_field, spelled_field, Parameter, parameter as plain_parameter, spelled_parameter, Local, local as plain_local, spelled_local, spelled_result, Item, Record, Root, Procedure, item as plain_item, spelled_item, Opening, First, Second, language, spelled_opening, Program, program, spelled_program}
+use Rattle.pst_grammar.specs.Spelling.{each, Block, Empty, Then, phrases, spelled_block, TypeText, Int, Named, type_word as plain_type, spelled_type, FieldText}
+use Rattle.pst_grammar.specs.Spelling.{Val, Ptr, field as plain_field, spelled_field, Parameter, parameter as plain_parameter, spelled_parameter, Local}
+use Rattle.pst_grammar.specs.Spelling.{local as plain_local, spelled_local, spelled_result, Item, Record, Root, Procedure, item as plain_item, spelled_item}
+use Rattle.pst_grammar.specs.Spelling.{Opening, First, Second, language, spelled_opening, Program, program, spelled_program}
 use Rattle.pst_grammar.specs.Spelling as spelling
 use Rattle.pst_grammar.specs.Reader.{Got, and_then, is, after, type_word, many, listed}
 use Rattle.pst_grammar.specs.Statements.{starts}
@@ -57,7 +60,8 @@ parameter_short = shortens (comma parameters) (is sign.Comma) (after sign.Comma 
 
 parameters_again : (l : List Parameter) (x : List Lexeme) → listed parameter (spelling.listed spelled_parameter l x) ≡ Got (map plain_parameter l) x
 parameters_again l x =
-    listed_again parameters parameter (λ _. Unit {0}) parameter_short (λ p x q. (token.Name p.label, _, refl, refl)) (λ p t y q e. parameter_again p (t ∷ y)) (λ p y q. parameter_again p (Plain sign.CloseParen ∷ y)) l x (all l)
+    listed_again parameters parameter (λ _. Unit {0}) parameter_short (λ p x q. (token.Name p.label, _, refl, refl))
+    (λ p t y q e. parameter_again p (t ∷ y)) (λ p y q. parameter_again p (Plain sign.CloseParen ∷ y)) l x (all l)
 
 start_no_local : (t : Lexeme) → starts t ≡ true → starts_local t ≡ false
 start_no_local (Leading lead.Var line) e = cc

@@ -11,12 +11,17 @@ use Rattle.pst_grammar.specs.Lexemes as token
 use Rattle.pst_grammar.specs.Lexemes.{Lexeme, Operator, Plain, Leading}
 use Rattle.pst_grammar.specs.Depth.{item_height, item_nesting}
 use Rattle.pst_grammar.specs.Forms.{Each, IsCount, IsFormedField, IsFormedItem}
-use Rattle.pst_grammar.specs.Spelling.{each, listed, Empty, phrases, spelled_block, TypeText, Int, type_word as plain_type, spelled_type, spelled_count, FieldText, Val, Ptr, field as plain_field, spelled_field, Parameter, parameter as plain_parameter, spelled_parameter, Local, local as plain_local, spelled_local, spelled_result, head, Item, Record, Root, Procedure, item as plain_item, spelled_item}
+use Rattle.pst_grammar.specs.Spelling.{each, listed, Empty, phrases, spelled_block, TypeText, Int, type_word as plain_type, spelled_type, spelled_count}
+use Rattle.pst_grammar.specs.Spelling.{FieldText, Val, Ptr, field as plain_field, spelled_field, Parameter, parameter as plain_parameter, spelled_parameter}
+use Rattle.pst_grammar.specs.Spelling.{Local, local as plain_local, spelled_local, spelled_result, head, Item, Record, Root, Procedure, item as plain_item}
+use Rattle.pst_grammar.specs.Spelling.{spelled_item}
 use Rattle.pst_grammar.specs.Reader.{Read, Got, Bad, Fault, Unexpected, TooDeep, and_then, after, label, number, type_word, many}
 use Rattle.pst_grammar.specs.Reader as reader
 use Rattle.pst_grammar.specs.Statements.{reading_block}
-use Rattle.pst_grammar.specs.Declarations.{count, value_field, pointer_field, field, starts_field, typed, parameter, variable, local, starts_local, result, record_type, root, body, procedure, item, any}
-use Rattle.pst_grammar.proofs.ReaderLaws.{Construct, Begins, Lawful, Good, cond_law, step_law, got_good, wrong_law, end_law, stop_law, done_law, after_good, label_good, number_good, type_good, bind_good, some_label}
+use Rattle.pst_grammar.specs.Declarations.{count, value_field, pointer_field, field, starts_field, typed, parameter, variable, local, starts_local, result}
+use Rattle.pst_grammar.specs.Declarations.{record_type, root, body, procedure, item, any}
+use Rattle.pst_grammar.proofs.ReaderLaws.{Construct, Begins, Lawful, Good, cond_law, step_law, got_good, wrong_law, end_law, stop_law, done_law, after_good}
+use Rattle.pst_grammar.proofs.ReaderLaws.{label_good, number_good, type_good, bind_good, some_label}
 use Rattle.pst_grammar.proofs.Many.{Fronts, Shortens, shortens, list, commas, many_good, listed_good, many-start, many-end}
 use Rattle.pst_grammar.proofs.ReadLaw.{is_second}
 use Rattle.pst_grammar.proofs.StatementLaw.{blocks, reading_block_good}
@@ -125,7 +130,8 @@ pub parameter_good : Good parameters (λ x. x) parameter
 parameter_good =
     label_good parameters (λ y. y) (λ x rest. and_then (typed rest) (λ k. Got (record { line = x.line; name = x.name; kind = k })))
     (λ x. typed_good parameters (λ y. token.Name x ∷ y) (λ k. Got (record { line = x.line; name = x.name; kind = k }))
-    (λ k. got_good parameters (λ y. token.Name x ∷ Plain sign.Colon ∷ spelled_type k y) (record { label = x; kind = k }) (record { line = x.line; name = x.name; kind = plain_type k }) refl tt (λ y. refl)))
+    (λ k. got_good parameters (λ y. token.Name x ∷ Plain sign.Colon ∷ spelled_type k y) (record { label = x; kind = k })
+    (record { line = x.line; name = x.name; kind = plain_type k }) refl tt (λ y. refl)))
 
 abbrev pub locals : Construct tree.LocalText
 locals = record { Lined = Local; plain = plain_local; spell = spelled_local; Fit = λ _. Unit {0}; In = λ _. Unit {0} }
@@ -135,7 +141,8 @@ variable_good line =
     label_good locals (λ y. Leading lead.Var line ∷ y) (λ x rest. and_then (typed rest) (λ k. after sign.Semicolon (Got (record { line = line; name = x.name; kind = k }))))
     (λ x. typed_good locals (λ y. Leading lead.Var line ∷ token.Name x ∷ y) (λ k. after sign.Semicolon (Got (record { line = line; name = x.name; kind = k })))
     (λ k. after_good locals (λ y. Leading lead.Var line ∷ token.Name x ∷ Plain sign.Colon ∷ spelled_type k y) sign.Semicolon (Got (record { line = line; name = x.name; kind = plain_type k }))
-    (got_good locals (λ y. Leading lead.Var line ∷ token.Name x ∷ Plain sign.Colon ∷ spelled_type k (Plain sign.Semicolon ∷ y)) (record { line = line; label = x; kind = k }) (record { line = line; name = x.name; kind = plain_type k }) refl tt (λ y. refl))))
+    (got_good locals (λ y. Leading lead.Var line ∷ token.Name x ∷ Plain sign.Colon ∷ spelled_type k (Plain sign.Semicolon ∷ y))
+    (record { line = line; label = x; kind = k }) (record { line = line; name = x.name; kind = plain_type k }) refl tt (λ y. refl))))
 
 some_local : Begins spelled_local (λ _. Unit {0}) (λ x. x) []
 some_local = (record { line = 0; label = some_label; kind = Int }, tt, spelled_local (record { line = 0; label = some_label; kind = Int }) [], λ x. refl)
@@ -163,7 +170,8 @@ result_good = record { close = (None, tt, [], λ x. refl); law = go }
     go [] = done_law results (λ x. x) result None None refl tt (λ x. refl) refl
     go (Plain sign.Colon ∷ ts) =
         step_law results (λ x. x) result (λ us. and_then (type_word us) (λ k. Got (Some k))) (Plain sign.Colon) ts (and_then (type_word ts) (λ k. Got (Some k))) (λ x. refl)
-        ((type_good results (λ y. Plain sign.Colon ∷ y) (λ k. Got (Some k)) (λ k. got_good results (λ y. Plain sign.Colon ∷ spelled_type k y) (Some k) (Some (plain_type k)) refl tt (λ y. refl))).law ts)
+        ((type_good results (λ y. Plain sign.Colon ∷ y) (λ k. Got (Some k))
+        (λ k. got_good results (λ y. Plain sign.Colon ∷ spelled_type k y) (Some k) (Some (plain_type k)) refl tt (λ y. refl))).law ts)
     go (t ∷ ts) = stop_law results (λ x. x) result None None t ts refl tt (λ x. refl) (λ v. refl)
 
 -- ---- declarations
@@ -212,12 +220,14 @@ body_good : (j h d line : ℕ) (query : Bool) (x : Label) (ps : List Parameter) 
     (body j h d (λ ls b. tree.Procedure record { line = line; query = query; name = x.name; parameters = map plain_parameter ps; result = option_map plain_type r; locals = ls; body = b }))
 body_good j h d line query x ps r =
     after_good (items j h d) pre sign.OpenBrace (λ ts. and_then (many starts_local local ts) (λ ls rest. and_then (reading_block j h d rest) (λ b. after sign.CloseBrace (Got (make ls b)))))
-    (bind_good (list locals) (items j h d) (λ y. pre (Plain sign.OpenBrace ∷ y)) (many starts_local local) (λ ls rest. and_then (reading_block j h d rest) (λ b. after sign.CloseBrace (Got (make ls b))))
+    (bind_good (list locals) (items j h d) (λ y. pre (Plain sign.OpenBrace ∷ y)) (many starts_local local)
+    (λ ls rest. and_then (reading_block j h d rest) (λ b. after sign.CloseBrace (Got (make ls b))))
     (many_good locals starts_local local local_front (λ a q. tt) local_law)
     (λ ls q. bind_good (blocks j h d) (items j h d) (λ y. pre (Plain sign.OpenBrace ∷ each spelled_local ls y)) (reading_block j h d) (λ b. after sign.CloseBrace (Got (make (map plain_local ls) b)))
     (reading_block_good j h d)
     (λ b (q', low, shallow). after_good (items j h d) (λ y. pre (Plain sign.OpenBrace ∷ each spelled_local ls (spelled_block b y))) sign.CloseBrace (Got (make (map plain_local ls) (phrases b)))
-    (got_good (items j h d) (λ y. pre (Plain sign.OpenBrace ∷ each spelled_local ls (spelled_block b (Plain sign.CloseBrace ∷ y)))) (Procedure line query x ps r ls b) (make (map plain_local ls) (phrases b)) refl
+    (got_good (items j h d) (λ y. pre (Plain sign.OpenBrace ∷ each spelled_local ls (spelled_block b (Plain sign.CloseBrace ∷ y))))
+    (Procedure line query x ps r ls b) (make (map plain_local ls) (phrases b)) refl
     (q', low, shallow) (λ y. refl)))
     (λ b q'. (Procedure line query x ps r ls b, q', Plain sign.CloseBrace ∷ [], λ y. refl)))
     (λ ls q. (Procedure line query x ps r ls Empty, tt, Plain sign.CloseBrace ∷ [], λ y. refl)))
@@ -230,11 +240,15 @@ body_good j h d line query x ps r =
 
 procedure_good : (j h d line : ℕ) (query : Bool) → Good (items j h d) (λ y. Leading (head query) line ∷ y) (procedure j h d line query)
 procedure_good j h d line query =
-    label_good (items j h d) (λ y. Leading (head query) line ∷ y) (λ x. after sign.OpenParen (λ rest. and_then (reader.listed parameter rest) (λ ps rest. and_then (result rest) (λ r. body j h d (make x ps r)))))
-    (λ x. after_good (items j h d) (λ y. Leading (head query) line ∷ token.Name x ∷ y) sign.OpenParen (λ rest. and_then (reader.listed parameter rest) (λ ps rest. and_then (result rest) (λ r. body j h d (make x ps r))))
-    (bind_good (commas parameters) (items j h d) (λ y. Leading (head query) line ∷ token.Name x ∷ Plain sign.OpenParen ∷ y) (reader.listed parameter) (λ ps rest. and_then (result rest) (λ r. body j h d (make x ps r)))
+    label_good (items j h d) (λ y. Leading (head query) line ∷ y)
+    (λ x. after sign.OpenParen (λ rest. and_then (reader.listed parameter rest) (λ ps rest. and_then (result rest) (λ r. body j h d (make x ps r)))))
+    (λ x. after_good (items j h d) (λ y. Leading (head query) line ∷ token.Name x ∷ y) sign.OpenParen
+    (λ rest. and_then (reader.listed parameter rest) (λ ps rest. and_then (result rest) (λ r. body j h d (make x ps r))))
+    (bind_good (commas parameters) (items j h d) (λ y. Leading (head query) line ∷ token.Name x ∷ Plain sign.OpenParen ∷ y) (reader.listed parameter)
+    (λ ps rest. and_then (result rest) (λ r. body j h d (make x ps r)))
     (listed_good parameters parameter (λ a q. tt) parameter_good)
-    (λ ps q. bind_good results (items j h d) (λ y. Leading (head query) line ∷ token.Name x ∷ Plain sign.OpenParen ∷ listed spelled_parameter ps y) result (λ r. body j h d (make x (map plain_parameter ps) r))
+    (λ ps q. bind_good results (items j h d) (λ y. Leading (head query) line ∷ token.Name x ∷ Plain sign.OpenParen ∷ listed spelled_parameter ps y)
+    result (λ r. body j h d (make x (map plain_parameter ps) r))
     result_good
     (λ r q'. body_good j h d line query x ps r)
     (λ r q'. (Procedure line query x ps r [] Empty, tt, Plain sign.OpenBrace ∷ Plain sign.CloseBrace ∷ [], λ y. refl)))
@@ -248,7 +262,8 @@ some_item j h d = (Root 0 some_label Int, (tt, omega arith, omega arith), spelle
 
 pub item_law : (j h d : ℕ) (ts : List Lexeme) → Lawful (items j h d) (λ x. x) (item j h d) ts (item j h d ts)
 item_law j h d [] = end_law (items j h d) (λ x. x) (item j h d) (some_item j h d) refl
-item_law j h d (Leading lead.Record line ∷ ts) = step_law (items j h d) (λ x. x) (item j h d) (record_type j line) (Leading lead.Record line) ts (record_type j line ts) (λ x. refl) ((record_good j h d line).law ts)
+item_law j h d (Leading lead.Record line ∷ ts) = step_law (items j h d) (λ x. x) (item j h d) (record_type j line) (Leading lead.Record line) ts
+    (record_type j line ts) (λ x. refl) ((record_good j h d line).law ts)
 item_law j h d (Leading lead.Root line ∷ ts) = step_law (items j h d) (λ x. x) (item j h d) (root line) (Leading lead.Root line) ts (root line ts) (λ x. refl) ((root_good j h d line).law ts)
 item_law j h d (Leading lead.Proc line ∷ ts) =
     step_law (items j h d) (λ x. x) (item j h d) (procedure j h d line false) (Leading lead.Proc line) ts (procedure j h d line false ts) (λ x. refl) ((procedure_good j h d line false).law ts)

@@ -29,7 +29,8 @@ parts_of : (j h d : ℕ) (l : List Item) → Each (IsFormedItem j) (map plain_it
 parts_of j h d [] q low few = tt
 parts_of j h d (i ∷ l) (q, q') low few = ((q, omega arith, omega arith), parts_of j h d l q' (omega arith) (omega arith))
 
-limits_of : (j h d : ℕ) (l : List Item) → Each (items j h d).In l → Each (IsFormedItem j) (map plain_item l) × (greatest item_height (map plain_item l) ≤ h) × (greatest item_nesting (map plain_item l) ≤ d)
+limits_of : (j h d : ℕ) (l : List Item) → Each (items j h d).In l → Each (IsFormedItem j) (map plain_item l)
+    × (greatest item_height (map plain_item l) ≤ h) × (greatest item_nesting (map plain_item l) ≤ d)
 limits_of j h d [] q = (tt, omega arith, omega arith)
 limits_of j h d (i ∷ l) ((q, low, few), q') = let (formed, low', few') = limits_of j h d l q' in ((q, formed), omega arith, omega arith)
 

@@ -183,7 +183,8 @@ none_again starts part [] none = many-end starts part
 none_again starts part (t ∷ ts) none = many-stop starts part t ts none
 
 -- parts are read again, where each of them is read again in front of what may follow it
-pub many_again : {A : Type 0} (K : Construct A) (starts : Lexeme → Bool) (part : List Lexeme → Read A) (Q : K.Lined → Type 0) (Follows : List Lexeme → Type 0) → Shortens part → Fronts starts K.spell Q →
+pub many_again : {A : Type 0} (K : Construct A) (starts : Lexeme → Bool) (part : List Lexeme → Read A) (Q : K.Lined → Type 0)
+    (Follows : List Lexeme → Type 0) → Shortens part → Fronts starts K.spell Q →
     ((t : Lexeme) (v : List Lexeme) → starts t ≡ true → Follows (t ∷ v)) →
     ((a : K.Lined) (y : List Lexeme) → Q a → Follows y → part (K.spell a y) ≡ Got (K.plain a) y) →
     (l : List K.Lined) (x : List Lexeme) → Each Q l → Follows x → NoStart starts x → many starts part (each K.spell l x) ≡ Got (map K.plain l) x

@@ -28,7 +28,8 @@ declarations_good : (h d : ℕ) (o : Opening) → Good (programs h d) (λ x. spe
 declarations_good h d o =
     bind_good (list (items (language o) h d)) (programs h d) (λ x. spelled_opening o x) (many any (item (language o) h d)) (λ is. Got (record { language = language o; items = is }))
     (many_items_good (language o) h d)
-    (λ l q. got_good (programs h d) (λ x. spelled_opening o (each spelled_item l x)) (record { opening = o; items = l }) (record { language = language o; items = map plain_item l }) refl q (λ x. refl))
+    (λ l q. got_good (programs h d) (λ x. spelled_opening o (each spelled_item l x)) (record { opening = o; items = l })
+    (record { language = language o; items = map plain_item l }) refl q (λ x. refl))
     (λ l q. (record { opening = o; items = l }, q, [], λ x. refl))
 
 first_good : (h d : ℕ) → Good (programs h d) (λ x. x) (declarations 1 h d)
@@ -74,7 +75,8 @@ program_law h d (token.Name x ∷ ts) =
     cond_law (λ r. Lawful (programs h d) (λ x. x) (reading_program h d) (token.Name x ∷ ts) r) (bytes_eq x.name language_word) _ _
     (λ q. step_law (programs h d) (λ x. x) (reading_program h d) (second h d) (token.Name x) ts (second h d ts) (λ y. rw q refl)
     (subst (λ k. Lawful (programs h d) (λ y. k ∷ y) (second h d) ts (second h d ts)) (word_is x q) ((second_good h d x.line).law ts)))
-    (λ q. rerun_law (programs h d) (λ x. x) (reading_program h d) (declarations 1 h d) (token.Name x) ts (declarations 1 h d (token.Name x ∷ ts)) (λ y. rw q refl) ((first_good h d).law (token.Name x ∷ ts)))
+    (λ q. rerun_law (programs h d) (λ x. x) (reading_program h d) (declarations 1 h d) (token.Name x) ts (declarations 1 h d (token.Name x ∷ ts))
+    (λ y. rw q refl) ((first_good h d).law (token.Name x ∷ ts)))
 program_law h d (t ∷ ts) =
     rerun_law (programs h d) (λ x. x) (reading_program h d) (declarations 1 h d) t ts (declarations 1 h d (t ∷ ts)) (λ y. refl) ((first_good h d).law (t ∷ ts))
 

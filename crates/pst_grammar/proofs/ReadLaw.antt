@@ -8,13 +8,14 @@ use Rattle.pst_grammar.specs.Syntax as tree
 use Rattle.pst_grammar.specs.declared.lexeme.Label.{Label}
 use Rattle.pst_grammar.specs.declared.lexeme.Sign.TheVariants as sign
 use Rattle.pst_grammar.specs.Lexemes as token
-use Rattle.pst_grammar.specs.Lexemes.{Lexeme, Operator, Plain, Leading, Unknown}
+use Rattle.pst_grammar.specs.Lexemes.{Lexeme, Operator, Plain, Leading}
 use Rattle.pst_grammar.specs.Depth.{height}
 use Rattle.pst_grammar.specs.Forms.{level, loosest_left, rank, IsFormed, IsPlace}
 use Rattle.pst_grammar.specs.Spelling.{Expr, Number, Null, Name, Parens, Field, Indexed, Negate, Not, Binary, expr, spelled, place_line}
 use Rattle.pst_grammar.specs.Reader.{Read, and_then, after, label}
 use Rattle.pst_grammar.specs.Reading.{goes_on, selected, more, operand, nothing, read, deeper}
-use Rattle.pst_grammar.proofs.ReaderLaws.{Construct, Begins, Lawful, Good, cond_law, step_law, wrong_law, end_law, stop_law, done_law, after_good, label_good, within_law, bind_law, rerun_law, rerun_end, some_label}
+use Rattle.pst_grammar.proofs.ReaderLaws.{Construct, Begins, Lawful, Good, cond_law, step_law, wrong_law, end_law, stop_law, done_law, after_good, label_good}
+use Rattle.pst_grammar.proofs.ReaderLaws.{within_law, bind_law, rerun_law, rerun_end, some_label}
 
 -- a formed tree for an operand of rank n, and one of height at most b
 abbrev pub Fit : (j : ℕ) → ℕ → Expr → Type 0
@@ -72,7 +73,8 @@ selected_good j next b Fit' In' on e v pos law one two two' goes = record { clos
   where
     go : (ts : List Lexeme) → Lawful (expressions Fit' In') (λ x. spelled e (Plain sign.Dot ∷ token.Name v ∷ x)) (selected j next (expr e) v.name on) ts (selected j next (expr e) v.name on ts)
     go [] =
-        rerun_end (expressions Fit' In') (λ x. spelled e (Plain sign.Dot ∷ token.Name v ∷ x)) (selected j next (expr e) v.name on) (on (tree.Field (expr e) v.name)) (on (tree.Field (expr e) v.name) []) refl
+        rerun_end (expressions Fit' In') (λ x. spelled e (Plain sign.Dot ∷ token.Name v ∷ x)) (selected j next (expr e) v.name on)
+        (on (tree.Field (expr e) v.name)) (on (tree.Field (expr e) v.name) []) refl
         (goes (Field e v) [] one)
     go (Plain sign.OpenParen ∷ ts) =
         cond_law (λ r. Lawful (expressions Fit' In') (λ x. spelled e (Plain sign.Dot ∷ token.Name v ∷ x)) (selected j next (expr e) v.name on) (Plain sign.OpenParen ∷ ts) r) (nat_eq j 2) _ _
@@ -82,14 +84,17 @@ selected_good j next b Fit' In' on e v pos law one two two' goes = record { clos
         (bind_law (expression j 0 (b - 1)) (expressions Fit' In') (λ x. x) (λ x. spelled e (Plain sign.Dot ∷ token.Name v ∷ Plain sign.OpenParen ∷ x)) (next 0)
         (λ i. after sign.CloseParen (on (tree.Indexed (expr e) v.name i))) ts (next 0 ts)
         (law 0 (omega arith) pos ts)
-        (λ i rest is fits. (after_good (expressions Fit' In') (λ x. spelled e (Plain sign.Dot ∷ token.Name v ∷ Plain sign.OpenParen ∷ spelled i x)) sign.CloseParen (on (tree.Indexed (expr e) v.name (expr i)))
+        (λ i rest is fits. (after_good (expressions Fit' In') (λ x. spelled e (Plain sign.Dot ∷ token.Name v ∷ Plain sign.OpenParen ∷ spelled i x))
+        sign.CloseParen (on (tree.Indexed (expr e) v.name (expr i)))
         (record { close = (Indexed e v i, two i second fits, [], λ x. refl); law = λ rest. goes (Indexed e v i) rest (two i second fits) })).law rest)
         (λ i fits. (Indexed e v i, two i second fits, Plain sign.CloseParen ∷ [], λ x. refl))
         (λ i fits. (Indexed e v i, two' i second fits, Plain sign.CloseParen ∷ [], λ x. refl))))
-        (λ q. rerun_law (expressions Fit' In') (λ x. spelled e (Plain sign.Dot ∷ token.Name v ∷ x)) (selected j next (expr e) v.name on) (on (tree.Field (expr e) v.name)) (Plain sign.OpenParen) ts _ (λ x. rw q refl)
+        (λ q. rerun_law (expressions Fit' In') (λ x. spelled e (Plain sign.Dot ∷ token.Name v ∷ x)) (selected j next (expr e) v.name on)
+        (on (tree.Field (expr e) v.name)) (Plain sign.OpenParen) ts _ (λ x. rw q refl)
         (goes (Field e v) (Plain sign.OpenParen ∷ ts) one))
     go (t ∷ ts) =
-        rerun_law (expressions Fit' In') (λ x. spelled e (Plain sign.Dot ∷ token.Name v ∷ x)) (selected j next (expr e) v.name on) (on (tree.Field (expr e) v.name)) t ts (on (tree.Field (expr e) v.name) (t ∷ ts)) (λ x. refl)
+        rerun_law (expressions Fit' In') (λ x. spelled e (Plain sign.Dot ∷ token.Name v ∷ x)) (selected j next (expr e) v.name on)
+        (on (tree.Field (expr e) v.name)) t ts (on (tree.Field (expr e) v.name) (t ∷ ts)) (λ x. refl)
         (goes (Field e v) (t ∷ ts) one)
 
 pub more_law : (j : ℕ) (next : ℕ → List Lexeme → Read tree.Expr) (f b n : ℕ) (e : Expr) (ts : List Lexeme) → n ≤ 7 → NextLaw j next b → Fits j n b e →
@@ -267,8 +272,16 @@ unfolding more
 place_law j next zero b l e (Operator op ∷ ts) law on is low =
     rw (not_seven op) (stop_law (place j l b) (spelled e) (more j next zero b 7 (expr e)) e (expr e) (Operator op) ts refl (on, is, low) (λ x. refl) (λ v. rw (not_seven op) refl))
 place_law j next zero b l e (Plain sign.Dot ∷ ts) law on is low =
-    rw (place_rank j (expr e) is)
-    ([], Plain sign.Dot, ts, refl, refl, (e, (on, is, low), [], λ x. refl), (Field e some_label, (on, is), token.Name some_label ∷ [], λ x. refl), λ s (v, same). rw (same, place_rank j (expr e) is) refl)
+    rw (place_rank j (expr e) is) (
+      [],
+      Plain sign.Dot,
+      ts,
+      refl,
+      refl,
+      (e, (on, is, low), [], λ x. refl),
+      (Field e some_label, (on, is), token.Name some_label ∷ [], λ x. refl),
+      λ s (v, same). rw (same, place_rank j (expr e) is) refl,
+    )
 place_law j next (suc f) b l e (Operator op ∷ ts) law on is low =
     rw (not_seven op) (stop_law (place j l b) (spelled e) (more j next (suc f) b 7 (expr e)) e (expr e) (Operator op) ts refl (on, is, low) (λ x. refl) (λ v. rw (not_seven op) refl))
 place_law j next (suc f) b l e (Plain sign.Dot ∷ ts) law on is low =
@@ -278,7 +291,8 @@ place_law j next (suc f) b l e (Plain sign.Dot ∷ ts) law on is low =
     (e, (on, is, low), [], λ x. refl)
     (Field e some_label, (on, is), token.Name some_label ∷ [], λ x. refl)
     (λ lt. (label_good (place j l b) (λ x. spelled e (Plain sign.Dot ∷ x)) (λ v. selected j next (expr e) v.name (λ a. more j next f b 7 a))
-    (λ v. selected_good j next b (λ a. (place_line a ≡ l) × IsPlace j (expr a)) (λ a. (place_line a ≡ l) × IsPlace j (expr a) × (height (expr a) ≤ b)) (λ a. more j next f b 7 a) e v (omega arith) law (on, is, omega arith)
+    (λ v. selected_good j next b (λ a. (place_line a ≡ l) × IsPlace j (expr a)) (λ a. (place_line a ≡ l) × IsPlace j (expr a) × (height (expr a) ≤ b))
+    (λ a. more j next f b 7 a) e v (omega arith) law (on, is, omega arith)
     (λ i two (ri, formed, hi). (on, (two, is, formed), omega arith))
     (λ i two (ri, formed). (on, (two, is, formed)))
     (λ a rest (on', is', low'). place_law j next f b l a rest law on' is' low'))).law ts))

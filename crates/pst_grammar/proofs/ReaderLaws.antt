@@ -189,14 +189,16 @@ within_law K pre run t ts b h g e close close' next =
     (λ q. ([], t, ts, refl, refl, close, close', λ s (v, same). rw same (e v ∙ rw q refl)))
 
 -- what completes the part completes the whole, where each part can be completed
-pub begins_law : {L M : Type 0} (spellA : L → List Lexeme → List Lexeme) (spellB : M → List Lexeme → List Lexeme) (QA : L → Type 0) (QB : M → Type 0) (from pre : List Lexeme → List Lexeme) (u : List Lexeme) →
+pub begins_law : {L M : Type 0} (spellA : L → List Lexeme → List Lexeme) (spellB : M → List Lexeme → List Lexeme) (QA : L → Type 0) (QB : M → Type 0)
+    (from pre : List Lexeme → List Lexeme) (u : List Lexeme) →
     Begins spellA QA from u → ((a : L) → QA a → Begins spellB QB (λ x. pre (spellA a x)) []) → Begins spellB QB (λ x. pre (from x)) u
 begins_law spellA spellB QA QB from pre u (a, q, c, sp) close =
     let (b, q', c', sp') = close a q in
     (b, q', c ++ c', λ x. sp' x ∙ ap pre (sp (c' ++ x) ∙ ap (λ y. from (u ++ y)) (sym (append_assoc c c' x))))
 
 -- after a part that was read
-after_law : {A B : Type 0} (K : Construct A) (J : Construct B) (from pre : List Lexeme → List Lexeme) (runA : List Lexeme → Read A) (f : A → List Lexeme → Read B) (ts : List Lexeme) (a' : K.Lined) (a : A) (rest u : List Lexeme) →
+after_law : {A B : Type 0} (K : Construct A) (J : Construct B) (from pre : List Lexeme → List Lexeme) (runA : List Lexeme → Read A)
+    (f : A → List Lexeme → Read B) (ts : List Lexeme) (a' : K.Lined) (a : A) (rest u : List Lexeme) →
     ts ≡ u ++ rest → ((x : List Lexeme) → K.spell a' x ≡ from (u ++ x)) → ((s : List Lexeme) → Same rest s → runA (u ++ s) ≡ Got a s) →
     (r : Read B) → Lawful J (λ x. pre (K.spell a' x)) (f a) rest r →
     Lawful J (λ x. pre (from x)) (λ s. and_then (runA s) f) ts r
@@ -238,8 +240,16 @@ bind_law K J from pre runA f ts (Got a rest) (a', pl, inn, u, at, sp, loc) next 
     (subst (λ z. Lawful J (λ x. pre (K.spell a' x)) (f z) rest (f z rest)) pl (next a' rest (ap (λ z. Got z rest) (sym pl)) inn))
 bind_law K J from pre runA f ts (Bad Unexpected rest) (u, at, b, loc) next close close' =
     (u, at, begins_law K.spell J.spell K.In J.In from pre u b close, λ s same. ap (λ x. and_then x f) (loc s same))
-bind_law K J from pre runA f ts (Bad TooDeep rest) (u, t, v, at, is', b, b', loc) next close close' =
-    (u, t, v, at, is', begins_law K.spell J.spell K.In J.In from pre u b close, begins_law K.spell J.spell K.Fit J.Fit from pre (u ++ (t ∷ [])) b' close', λ s same. ap (λ x. and_then x f) (loc s same))
+bind_law K J from pre runA f ts (Bad TooDeep rest) (u, t, v, at, is', b, b', loc) next close close' = (
+  u,
+  t,
+  v,
+  at,
+  is',
+  begins_law K.spell J.spell K.In J.In from pre u b close,
+  begins_law K.spell J.spell K.Fit J.Fit from pre (u ++ (t ∷ [])) b' close',
+  λ s same. ap (λ x. and_then x f) (loc s same),
+)
 
 -- the same wherever it runs
 pub bind_from_good : {A B : Type 0} (K : Construct A) (J : Construct B) (from pre : List Lexeme → List Lexeme) (runA : List Lexeme → Read A) (f : A → List Lexeme → Read B) →
@@ -276,7 +286,8 @@ rerun_law K pre run run' t ts (Bad TooDeep rest) e (u, k, w, at, is'', b, b', lo
 
 -- a reader that does the same at the end
 pub rerun_end : {A : Type 0} (K : Construct A) (pre : List Lexeme → List Lexeme) (run run' : List Lexeme → Read A) (r : Read A) → run [] ≡ run' [] → Lawful K pre run' [] r → Lawful K pre run [] r
-rerun_end K pre run run' (Got a rest) e (a', pl, inn, [], at, sp, loc) = (a', pl, inn, [], at, sp, λ s same. let none : s ≡ [] = subst (λ z. Same z s) (sym at) same in rw none (e ∙ loc [] (rw (← at) refl)))
+rerun_end K pre run run' (Got a rest) e (a', pl, inn, [], at, sp, loc) =
+    (a', pl, inn, [], at, sp, λ s same. let none : s ≡ [] = subst (λ z. Same z s) (sym at) same in rw none (e ∙ loc [] (rw (← at) refl)))
 rerun_end K pre run run' (Got a rest) e (a', pl, inn, t ∷ u, at, sp, loc) = cc
 rerun_end K pre run run' (Bad Unexpected rest) e ([], at, b, loc) = ([], at, b, λ s same. let none : s ≡ [] = subst (λ z. Same z s) (sym at) same in rw none (e ∙ loc [] (rw (← at) refl)))
 rerun_end K pre run run' (Bad Unexpected rest) e (t ∷ u, at, b, loc) = cc

@@ -11,11 +11,14 @@ use Rattle.pst_grammar.specs.Lexemes as token
 use Rattle.pst_grammar.specs.Lexemes.{Lexeme, Plain, Leading, Operator}
 use Rattle.pst_grammar.specs.Depth.{height, greatest}
 use Rattle.pst_grammar.specs.Forms.{IsFormed, IsPlace, Each}
-use Rattle.pst_grammar.specs.Spelling.{Expr, Number, Null, Name, Parens, Field, Indexed, Negate, Not, Binary, expr, spelled, each, Statement, New, Call, Result, Write, Print, If, Either, While, Return, Block, Empty, Then, place_line, line_of, phrase, phrases, spelled_call, spelled_statement, spelled_block}
+use Rattle.pst_grammar.specs.Spelling.{Expr, Number, Null, Name, Parens, Field, Indexed, Negate, Not, Binary, expr, spelled, each, Statement, New, Call, Result}
+use Rattle.pst_grammar.specs.Spelling.{Write, Print, If, Either, While, Return, Block, Empty, Then, place_line, line_of, phrase, phrases, spelled_call}
+use Rattle.pst_grammar.specs.Spelling.{spelled_statement, spelled_block}
 use Rattle.pst_grammar.specs.Spelling as spelling
 use Rattle.pst_grammar.specs.Reader.{Read, Got, and_then, is, after, within}
 use Rattle.pst_grammar.specs.Reading.{read, nothing}
-use Rattle.pst_grammar.specs.Statements.{ended, arguments, call, written, set, valued, assigned, returned, braced, choice, on_line, statement, starts, block_of, block, reading_statement, reading_block}
+use Rattle.pst_grammar.specs.Statements.{ended, arguments, call, written, set, valued, assigned, returned, braced, choice, on_line, statement, starts, block_of}
+use Rattle.pst_grammar.specs.Statements.{block, reading_statement, reading_block}
 use Rattle.pst_grammar.proofs.ReaderLaws.{is_true}
 use Rattle.pst_grammar.proofs.ReadLaw.{Fits, expression, read_good}
 use Rattle.pst_grammar.proofs.Many.{Shortens, shortens, comma, comma_good, comma_front, many_again, listed_again, NoStart}
@@ -67,7 +70,8 @@ set_again j h x e rest formed low =
     let (t, v, is', st) = expression_front e (Plain sign.Semicolon ∷ rest) in
     ap (set j h x) is' ∙ set_other j h x t v st ∙ ap (written j h (tree.Name x)) (sym is') ∙ written_again j h (tree.Name x) e rest formed low
 
-valued_again : (j h : ℕ) (a e : Expr) (rest : List Lexeme) → IsPlace j (expr a) → IsFormed j (expr e) → height (expr e) ≤ h → valued j h (expr a) (spelling.ended e rest) ≡ Got (tree.Write (expr a) (expr e)) rest
+valued_again : (j h : ℕ) (a e : Expr) (rest : List Lexeme) → IsPlace j (expr a) → IsFormed j (expr e) → height (expr e) ≤ h
+    → valued j h (expr a) (spelling.ended e rest) ≡ Got (tree.Write (expr a) (expr e)) rest
 valued_again j h (Name x) e rest is formed low = set_again j h x.name e rest formed low
 valued_again j h (Field a x) e rest is formed low = written_again j h (expr (Field a x)) e rest formed low
 valued_again j h (Indexed a x i) e rest is formed low = written_again j h (expr (Indexed a x i)) e rest formed low
@@ -82,7 +86,8 @@ returned_again j h e rest formed low =
 -- ---- calls
 
 pub argument_short : (j h : ℕ) → Shortens (after sign.Comma (read j h 0))
-argument_short j h = shortens (comma (expression j 0 h)) (is sign.Comma) (after sign.Comma (read j h 0)) (comma_front spelled (Fits j 0 h)) (comma_good (expression j 0 h) (read j h 0) (read_good j h)).law
+argument_short j h = shortens (comma (expression j 0 h)) (is sign.Comma) (after sign.Comma (read j h 0)) (comma_front spelled (Fits j 0 h))
+    (comma_good (expression j 0 h) (read j h 0) (read_good j h)).law
 
 each_fits_back : (j h : ℕ) (l : List Expr) → Each (IsFormed j) (map expr l) → greatest height (map expr l) ≤ h → Each (Fits j 0 h) l
 each_fits_back j h [] q low = tt
@@ -207,7 +212,8 @@ start_no_else t v e = tt
 pub statement_short : (j h d : ℕ) → Shortens (reading_statement j h d)
 statement_short j h d = shortens (stated j h d) starts (reading_statement j h d) (λ s (q, low, shallow) x. statement_front j s q x) (λ ts. reading_statement_law j h d ts)
 
-block_again : (j h d : ℕ) (b : Block) (x : List Lexeme) → ((s : Statement) (y : List Lexeme) → FitsStatement j h d s → NoElse y → reading_statement j h d (spelled_statement s y) ≡ Got (line_of s, phrase s) y) →
+block_again : (j h d : ℕ) (b : Block) (x : List Lexeme) → ((s : Statement) (y : List Lexeme) → FitsStatement j h d s → NoElse y
+    → reading_statement j h d (spelled_statement s y) ≡ Got (line_of s, phrase s) y) →
     FitsBlock j h d b → NoElse x → NoStart starts x → reading_block j h d (spelled_block b x) ≡ Got (phrases b) x
 block_again j h d b x part fits none end =
     ap (reading_block j h d) (spelled_unblocked b x)

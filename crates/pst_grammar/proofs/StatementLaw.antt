@@ -11,12 +11,15 @@ use Rattle.pst_grammar.specs.Lexemes as token
 use Rattle.pst_grammar.specs.Lexemes.{Lexeme, Plain, Leading}
 use Rattle.pst_grammar.specs.Depth.{height, greatest, phrase_height, phrases_height, phrase_nesting, phrases_nesting}
 use Rattle.pst_grammar.specs.Forms.{IsFormed, IsPlace, Each, IsFormedPhrase, AreFormed}
-use Rattle.pst_grammar.specs.Spelling.{Expr, Null, Name, Field, Indexed, expr, spelled, each, listed, Statement, New, Call, Result, Write, Print, If, Either, While, Return, Block, Empty, Then, place_line, line_of, phrase, phrases, spelled_call, spelled_statement, spelled_block}
+use Rattle.pst_grammar.specs.Spelling.{Expr, Null, Name, Field, Indexed, expr, spelled, each, listed, Statement, New, Call, Result, Write, Print, If, Either}
+use Rattle.pst_grammar.specs.Spelling.{While, Return, Block, Empty, Then, place_line, line_of, phrase, phrases, spelled_call, spelled_statement, spelled_block}
 use Rattle.pst_grammar.specs.Spelling as spelling
 use Rattle.pst_grammar.specs.Reader.{Read, Got, Bad, Unexpected, TooDeep, and_then, after, many}
 use Rattle.pst_grammar.specs.Reading.{read, deeper, going, nothing}
-use Rattle.pst_grammar.specs.Statements.{ended, arguments, call, made, written, set, valued, assigned, returned, braced, choice, led, on_line, statement, starts, block_of, block, reading_statement, reading_block}
-use Rattle.pst_grammar.proofs.ReaderLaws.{Construct, Begins, Lawful, Good, step_law, got_good, wrong_law, end_law, stop_law, done_law, after_good, label_good, within_law, bind_good, bind_from_good, rerun_law, rerun_end}
+use Rattle.pst_grammar.specs.Statements.{ended, arguments, call, made, written, set, valued, assigned, returned, braced, choice, led, on_line, statement}
+use Rattle.pst_grammar.specs.Statements.{starts, block_of, block, reading_statement, reading_block}
+use Rattle.pst_grammar.proofs.ReaderLaws.{Construct, Begins, Lawful, Good, step_law, got_good, wrong_law, end_law, stop_law, done_law, after_good, label_good}
+use Rattle.pst_grammar.proofs.ReaderLaws.{within_law, bind_good, bind_from_good, rerun_law, rerun_end}
 use Rattle.pst_grammar.proofs.ReadLaw.{Fit, Fits, expression, read_good, deeper_law, place, place_law}
 use Rattle.pst_grammar.proofs.Many.{list, commas, many_good, listed_good}
 use Rattle.pst_grammar.proofs.Again.{place_spelled}
@@ -88,7 +91,8 @@ call_good : (j line h d : ℕ) (pre : List Lexeme → List Lexeme) (r : Option (
 call_good j line h d pre r make is at sp =
     label_good (on j line h d) pre (λ p. after sign.OpenParen (λ rest. and_then (arguments j h rest) (λ es. after sign.Semicolon (Got (tree.Call r p.name es)))))
     (λ p. after_good (on j line h d) (λ x. pre (token.Name p ∷ x)) sign.OpenParen (λ rest. and_then (arguments j h rest) (λ es. after sign.Semicolon (Got (tree.Call r p.name es))))
-    (bind_good (commas (expression j 0 h)) (on j line h d) (λ x. pre (token.Name p ∷ Plain sign.OpenParen ∷ x)) (arguments j h) (λ es. after sign.Semicolon (Got (tree.Call r p.name es))) (arguments_good j h)
+    (bind_good (commas (expression j 0 h)) (on j line h d) (λ x. pre (token.Name p ∷ Plain sign.OpenParen ∷ x)) (arguments j h)
+    (λ es. after sign.Semicolon (Got (tree.Call r p.name es))) (arguments_good j h)
     (λ es q. after_good (on j line h d) (λ x. pre (token.Name p ∷ Plain sign.OpenParen ∷ listed spelled es x)) sign.Semicolon (Got (tree.Call r p.name (map expr es)))
     (got_good (on j line h d) (λ x. pre (spelled_call p es x)) (make p es) (tree.Call r p.name (map expr es)) (is p es) (at p es, ins p es q) (sp p es)))
     (λ es q. (make p es, (at p es, subst (IsFormedPhrase j) (sym (is p es)) (each_fit j es q)), Plain sign.Semicolon ∷ [], λ x. sp p es x))))
@@ -128,7 +132,8 @@ set_good j line h d x at = record { close = (writes).close; law = go }
     go (Leading lead.Call k ∷ ts) =
         step_law (on j line h d) (λ y. token.Name x ∷ Plain sign.Assign ∷ y) (set j h x.name) (call j h (Some x.name)) (Leading lead.Call k) ts (call j h (Some x.name) ts) (λ y. refl)
         ((call_good j line h d (λ y. token.Name x ∷ Plain sign.Assign ∷ Leading lead.Call k ∷ y) (Some x.name) (λ p es. Result x k p es) (λ p es. refl) (λ p es. at) (λ p es y. refl)).law ts)
-    go (t ∷ ts) = rerun_law (on j line h d) (λ y. token.Name x ∷ Plain sign.Assign ∷ y) (set j h x.name) (written j h (tree.Name x.name)) t ts (written j h (tree.Name x.name) (t ∷ ts)) (λ v. refl) (writes.law (t ∷ ts))
+    go (t ∷ ts) = rerun_law (on j line h d) (λ y. token.Name x ∷ Plain sign.Assign ∷ y) (set j h x.name) (written j h (tree.Name x.name)) t ts
+        (written j h (tree.Name x.name) (t ∷ ts)) (λ v. refl) (writes.law (t ∷ ts))
 
 valued_good : (j line h d : ℕ) (a : Expr) → place_line a ≡ line → IsPlace j (expr a) → height (expr a) ≤ h →
     Good (on j line h d) (λ x. spelled a (Plain sign.Assign ∷ x)) (valued j h (expr a))
@@ -158,15 +163,19 @@ returned_good j line h d = record { close = (Return line None, (refl, (tt, omega
     gives : Good (on j line h d) (λ y. Leading lead.Return line ∷ y) (λ ts. and_then (ended j h ts) (λ e. Got (tree.Return (Some e))))
     gives =
         bind_good (ended_expression j h) (on j line h d) (λ x. Leading lead.Return line ∷ x) (ended j h) (λ e. Got (tree.Return (Some e))) (ended_good j h)
-        (λ e (r, q, low). got_good (on j line h d) (λ x. Leading lead.Return line ∷ spelling.ended e x) (Return line (Some e)) (tree.Return (Some (expr e))) refl (refl, (q, omega arith, omega arith)) (λ x. refl))
+        (λ e (r, q, low). got_good (on j line h d) (λ x. Leading lead.Return line ∷ spelling.ended e x) (Return line (Some e))
+        (tree.Return (Some (expr e))) refl (refl, (q, omega arith, omega arith)) (λ x. refl))
         (λ e (r, q). (Return line (Some e), (refl, q), [], λ x. refl))
 
     go : (ts : List Lexeme) → Lawful (on j line h d) (λ y. Leading lead.Return line ∷ y) (returned j h) ts (returned j h ts)
-    go [] = rerun_end (on j line h d) (λ y. Leading lead.Return line ∷ y) (returned j h) (λ ts. and_then (ended j h ts) (λ e. Got (tree.Return (Some e)))) (and_then (ended j h []) (λ e. Got (tree.Return (Some e)))) refl (gives.law [])
+    go [] = rerun_end (on j line h d) (λ y. Leading lead.Return line ∷ y) (returned j h)
+        (λ ts. and_then (ended j h ts) (λ e. Got (tree.Return (Some e)))) (and_then (ended j h []) (λ e. Got (tree.Return (Some e)))) refl (gives.law [])
     go (Plain sign.Semicolon ∷ ts) =
         step_law (on j line h d) (λ y. Leading lead.Return line ∷ y) (returned j h) (Got (tree.Return None)) (Plain sign.Semicolon) ts (Got (tree.Return None) ts) (λ y. refl)
         ((got_good (on j line h d) (λ x. Leading lead.Return line ∷ Plain sign.Semicolon ∷ x) (Return line None) (tree.Return None) refl (refl, (tt, omega arith, omega arith)) (λ x. refl)).law ts)
-    go (t ∷ ts) = rerun_law (on j line h d) (λ y. Leading lead.Return line ∷ y) (returned j h) (λ ts. and_then (ended j h ts) (λ e. Got (tree.Return (Some e)))) t ts (and_then (ended j h (t ∷ ts)) (λ e. Got (tree.Return (Some e)))) (λ v. refl) (gives.law (t ∷ ts))
+    go (t ∷ ts) = rerun_law (on j line h d) (λ y. Leading lead.Return line ∷ y) (returned j h)
+        (λ ts. and_then (ended j h ts) (λ e. Got (tree.Return (Some e)))) t ts (and_then (ended j h (t ∷ ts)) (λ e. Got (tree.Return (Some e))))
+        (λ v. refl) (gives.law (t ∷ ts))
 
 printed_good : (j line h d : ℕ) → Good (on j line h d) (λ y. Leading lead.Print line ∷ y) (λ ts. and_then (ended j h ts) (λ e. Got (tree.Print e)))
 printed_good j line h d =
@@ -191,17 +200,23 @@ choice_good j line h d inner e b pos good (r, formed, low) (formed', low', shall
 
     two : Good (on j line h d) (λ x. Leading lead.If line ∷ spelled e (spelled_braced b (Plain sign.Else ∷ x))) (λ ts. and_then (braced inner ts) (λ c. Got (tree.Either (expr e) (phrases b) c)))
     two =
-        bind_good (in_braces j h (d - 1)) (on j line h d) (λ x. Leading lead.If line ∷ spelled e (spelled_braced b (Plain sign.Else ∷ x))) (braced inner) (λ c. Got (tree.Either (expr e) (phrases b) c))
+        bind_good (in_braces j h (d - 1)) (on j line h d) (λ x. Leading lead.If line ∷ spelled e (spelled_braced b (Plain sign.Else ∷ x)))
+        (braced inner) (λ c. Got (tree.Either (expr e) (phrases b) c))
         (braced_good j h (d - 1) inner good)
-        (λ c (q, q', q''). got_good (on j line h d) (λ x. Leading lead.If line ∷ spelled e (spelled_braced b (Plain sign.Else ∷ spelled_braced c x))) (Either line e b c) (tree.Either (expr e) (phrases b) (phrases c)) refl
+        (λ c (q, q', q''). got_good (on j line h d) (λ x. Leading lead.If line ∷ spelled e (spelled_braced b (Plain sign.Else ∷ spelled_braced c x)))
+        (Either line e b c) (tree.Either (expr e) (phrases b) (phrases c)) refl
         (refl, ((formed, formed', q), omega arith, omega arith)) (λ x. refl))
         (λ c q. (Either line e b c, (refl, (formed, formed', q)), [], λ x. refl))
 
     go : (ts : List Lexeme) → Lawful (on j line h d) (λ x. Leading lead.If line ∷ spelled e (spelled_braced b x)) (choice inner (expr e) (phrases b)) ts (choice inner (expr e) (phrases b) ts)
-    go [] = done_law (on j line h d) (λ x. Leading lead.If line ∷ spelled e (spelled_braced b x)) (choice inner (expr e) (phrases b)) (If line e b) (tree.If (expr e) (phrases b)) refl one (λ x. refl) refl
+    go [] = done_law (on j line h d) (λ x. Leading lead.If line ∷ spelled e (spelled_braced b x)) (choice inner (expr e) (phrases b)) (If line e b)
+        (tree.If (expr e) (phrases b)) refl one (λ x. refl) refl
     go (Plain sign.Else ∷ ts) =
-        step_law (on j line h d) (λ x. Leading lead.If line ∷ spelled e (spelled_braced b x)) (choice inner (expr e) (phrases b)) (λ ts. and_then (braced inner ts) (λ c. Got (tree.Either (expr e) (phrases b) c))) (Plain sign.Else) ts (and_then (braced inner ts) (λ c. Got (tree.Either (expr e) (phrases b) c))) (λ x. refl) (two.law ts)
-    go (t ∷ ts) = stop_law (on j line h d) (λ x. Leading lead.If line ∷ spelled e (spelled_braced b x)) (choice inner (expr e) (phrases b)) (If line e b) (tree.If (expr e) (phrases b)) t ts refl one (λ x. refl) (λ v. refl)
+        step_law (on j line h d) (λ x. Leading lead.If line ∷ spelled e (spelled_braced b x)) (choice inner (expr e) (phrases b))
+        (λ ts. and_then (braced inner ts) (λ c. Got (tree.Either (expr e) (phrases b) c))) (Plain sign.Else) ts
+        (and_then (braced inner ts) (λ c. Got (tree.Either (expr e) (phrases b) c))) (λ x. refl) (two.law ts)
+    go (t ∷ ts) = stop_law (on j line h d) (λ x. Leading lead.If line ∷ spelled e (spelled_braced b x)) (choice inner (expr e) (phrases b))
+        (If line e b) (tree.If (expr e) (phrases b)) t ts refl one (λ x. refl) (λ v. refl)
 
 -- what stands behind the condition of an `if`
 chosen_good : (j line h d : ℕ) (inner : List Lexeme → Read Phrases) (e : Expr) → 0 < d → Good (blocks j h (d - 1)) (λ x. x) inner → Fits j 0 h e →
@@ -216,7 +231,8 @@ repeated_good : (j line h d : ℕ) (inner : List Lexeme → Read Phrases) (e : E
     Good (on j line h d) (λ x. Leading lead.While line ∷ spelled e x) (λ rest. and_then (braced inner rest) (λ b. Got (tree.While (expr e) b)))
 repeated_good j line h d inner e pos good (r, formed, low) =
     bind_good (in_braces j h (d - 1)) (on j line h d) (λ x. Leading lead.While line ∷ spelled e x) (braced inner) (λ b. Got (tree.While (expr e) b)) (braced_good j h (d - 1) inner good)
-    (λ b (q, q', q''). got_good (on j line h d) (λ x. Leading lead.While line ∷ spelled e (spelled_braced b x)) (While line e b) (tree.While (expr e) (phrases b)) refl (refl, ((formed, q), omega arith, omega arith)) (λ x. refl))
+    (λ b (q, q', q''). got_good (on j line h d) (λ x. Leading lead.While line ∷ spelled e (spelled_braced b x)) (While line e b)
+    (tree.While (expr e) (phrases b)) refl (refl, ((formed, q), omega arith, omega arith)) (λ x. refl))
     (λ b q. (While line e b, (refl, (formed, q)), [], λ x. refl))
 
 -- what is read from a word on, without its line
@@ -239,7 +255,8 @@ led_law j inner h d lead.If line ts good =
     (λ e q. chosen_good j line h d inner e pos (good pos) q)
     (λ e (r, q). (If line e Empty, (refl, (q, tt)), Plain sign.OpenBrace ∷ Plain sign.CloseBrace ∷ [], λ x. refl))).law ts)
 led_law j inner h d lead.While line ts good =
-    within_law (on j line h d) (λ x. x) (from_word j inner h d) (Leading lead.While line) ts d 0 (λ x. and_then (read j h 0 x) (λ e rest. and_then (braced inner rest) (λ b. Got (tree.While e b)))) (λ x. refl)
+    within_law (on j line h d) (λ x. x) (from_word j inner h d) (Leading lead.While line) ts d 0
+    (λ x. and_then (read j h 0 x) (λ e rest. and_then (braced inner rest) (λ b. Got (tree.While e b)))) (λ x. refl)
     (Print line Null, (refl, (tt, omega arith, omega arith)), Leading lead.Print line ∷ Plain sign.Null ∷ Plain sign.Semicolon ∷ [], λ x. refl)
     (While line Null Empty, (refl, (tt, tt)), Plain sign.Null ∷ Plain sign.OpenBrace ∷ Plain sign.CloseBrace ∷ [], λ x. refl)
     (λ pos. (bind_good (expression j 0 h) (on j line h d) (λ x. Leading lead.While line ∷ x) (read j h 0) (λ e rest. and_then (braced inner rest) (λ b. Got (tree.While e b))) (read_good j h)

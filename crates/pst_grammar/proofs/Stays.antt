@@ -10,7 +10,8 @@ use Rattle.pst_grammar.proofs.ReaderLaws.{Lawful}
 use Rattle.pst_grammar.proofs.DeclarationLaw.{items, item_law}
 use Rattle.pst_grammar.proofs.DeclarationAgain.{item_again}
 
-read_on : (l h d : ℕ) (ts rest more : List Lexeme) (a : tree.Item) (r : Read tree.Item) → r ≡ Got a rest → Lawful (items l h d) (λ x. x) (item l h d) ts r → item l h d (ts ++ more) ≡ Got a (rest ++ more)
+read_on : (l h d : ℕ) (ts rest more : List Lexeme) (a : tree.Item) (r : Read tree.Item) → r ≡ Got a rest
+    → Lawful (items l h d) (λ x. x) (item l h d) ts r → item l h d (ts ++ more) ≡ Got a (rest ++ more)
 read_on l h d ts rest more a (Bad Unexpected s) e law = cc
 read_on l h d ts rest more a (Bad TooDeep s) e law = cc
 read_on l h d ts rest more a (Got b s) e (i, plain, fits, u, at, spell, again) =

@@ -1,5 +1,5 @@
 -- Tokens as the grammar sees them: with a line only where a part of a tree may begin whose line is kept.
-use Rattle.std.specs.Prelude.{ℕ, ℤ, List, map, Option, Some, None}
+use Rattle.std.specs.Prelude.{ℕ, ℤ, List, map}
 use Rattle.pst_base.specs.declared.names.Op.{Op}
 use Rattle.pst_base.specs.declared.names.Op.TheVariants as op
 use Rattle.pst_lex.specs.declared.types.Token.{Token}
@@ -7,7 +7,6 @@ use Rattle.pst_lex.specs.declared.types.TokenKind.{TokenKind}
 use Rattle.pst_lex.specs.declared.types.TokenKind.TheVariants as kind
 use Rattle.pst_lex.specs.declared.words.Mark.{Mark}
 use Rattle.pst_lex.specs.declared.words.Mark.TheVariants as mark
-use Rattle.pst_lex.specs.Words.{keyword_of, symbol_of}
 use Rattle.pst_grammar.specs.declared.lexeme.Label.{Label}
 use Rattle.pst_grammar.specs.declared.lexeme.Sign.{Sign}
 use Rattle.pst_grammar.specs.declared.lexeme.Sign.TheVariants as sign
@@ -20,7 +19,6 @@ pub data Lexeme : Type 0 where
   Operator : Op → Lexeme
   Plain : Sign → Lexeme
   Leading : Lead → (line : ℕ) → Lexeme
-  Unknown : Lexeme
 
 -- a keyword or symbol on a line
 abbrev pub marked : ℕ → Mark → Lexeme
@@ -64,16 +62,10 @@ marked line mark.Star = Operator op.Mul
 marked line mark.Slash = Operator op.Div
 marked line mark.Percent = Operator op.Rem
 
--- a keyword or symbol that a position may give
-abbrev pub marked_if : ℕ → Option Mark → Lexeme
-marked_if line None = Unknown
-marked_if line (Some m) = marked line m
-
 abbrev pub lexeme_in : ℕ → TokenKind → Lexeme
 lexeme_in line (kind.Name x) = Name (record { line = line; name = x })
 lexeme_in line (kind.Number v) = Number v
-lexeme_in line (kind.Keyword n) = marked_if line (keyword_of n)
-lexeme_in line (kind.Symbol n) = marked_if line (symbol_of n)
+lexeme_in line (kind.Mark m) = marked line m
 
 -- what a token is to the grammar
 abbrev pub lexeme : Token → Lexeme

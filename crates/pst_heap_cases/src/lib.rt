@@ -1,5 +1,5 @@
-//! The ordinary heap, the forest and dumps of it with what no clause says: that the calls which take memory succeed, and that the
-//! clauses mean what is meant, beside texts that are worked by hand.
+//! The ordinary heap, the forest, versions, paths and dumps with what no clause says: that the calls which take memory succeed, and
+//! that the clauses mean what is meant, beside texts that are worked by hand.
 #![tactic(auto)]
 
 #[cfg(test)]
@@ -8,5 +8,9 @@ mod built;
 mod dumps;
 #[cfg(test)]
 mod forks;
+#[cfg(test)]
+mod paths;
+#[cfg(test)]
+mod versions;
 #[cfg(test)]
 mod writes;

@@ -1,5 +1,6 @@
 -- What a command keeps of a history.
-use Rattle.std.proofs.Common.{◌≡◌, inl, inr, ℕ, ◌+◌, ◌<◌, ◌≤◌, List, [], ◌∷◌, ◌++◌, length, refl, ap, sym, ◌∙◌, subst, arith, zero, suc, slice_get, Option, Some, None, Bool, true, false, length-append}
+use Rattle.std.proofs.Common.{◌≡◌, inl, inr, ℕ, ◌+◌, ◌<◌, ◌≤◌, List, [], ◌∷◌, ◌++◌, length, refl, ap, sym, ◌∙◌, subst, arith, zero, suc, slice_get, Option}
+use Rattle.std.proofs.Common.{Some, None, Bool, true, false, length-append}
 use Rattle.std.specs.Prelude.{count_by, IsTrue, ◌&&◌, nat_le, All}
 use Rattle.std.proofs.Math.Nat.{min-le_right}
 use Rattle.std.proofs.lemmas.Bool.{leb-true}
@@ -20,7 +21,10 @@ use Rattle.pst_base.specs.declared.names.VersionNo.{VersionNo}
 use Rattle.pst_program.specs.Sound.{CountsBelow}
 use Rattle.pst_base.specs.Counts.{counts_plus}
 use Rattle.pst_history.specs.Meaning.{Meaning, IsLawful, CanBeDone, AllFit, with_calls, kinds_refusal, fits_one}
-use Rattle.pst_history.specs.History.{Opening, History, begun, version_count, version_refusal, calls_refusal, run_refusal, call_of, called_more, run_at, heap_of, heaps_of, is_open, opened, new_run, next_run, work_of, outcome_of, run_counts, counts_of, closed, closed_run, dropped_run, granted_more, with_version, with_run, parent_of, end_of, changed, after, unless, refusal, close_reply, answered, ended_as, after_all, IsHistory, call_refusal, runs_refusal, open_refusal, first}
+use Rattle.pst_history.specs.History.{Opening, History, begun, version_count, version_refusal, calls_refusal, run_refusal, call_of, called_more, run_at}
+use Rattle.pst_history.specs.History.{heap_of, heaps_of, is_open, opened, new_run, next_run, work_of, outcome_of, run_counts, counts_of, closed, closed_run}
+use Rattle.pst_history.specs.History.{dropped_run, granted_more, with_version, with_run, parent_of, end_of, changed, after, unless, refusal, close_reply}
+use Rattle.pst_history.specs.History.{answered, ended_as, after_all, IsHistory, call_refusal, runs_refusal, open_refusal, first}
 use Rattle.pst_history.specs.Accepted.{MayOpen}
 use Rattle.pst_history.specs.Sound.{IsBudget, IsSoundHistory, IsOpening}
 use Rattle.std.proofs.lemmas.Option.{slice_get_within}
@@ -28,7 +32,8 @@ use Rattle.std.proofs.Common.{append-nil}
 use Rattle.pst_history.proofs.Lists.{slice_get-before, slice_get-of_append}
 use Rattle.pst_history.proofs.Heaps.{heap_of-more}
 use Rattle.pst_history.proofs.Sums.{unit_of}
-use Rattle.pst_history.proofs.Steps.{IsRestated, restated, restated-sound, heap_of-restated, counts_of-restated, opened-sound, heap_of-opened, counts_of-opened, IsPublishable, published, published-sound, counts_of-published, run-sound, not_open}
+use Rattle.pst_history.proofs.Steps.{IsRestated, restated, restated-sound, heap_of-restated, counts_of-restated, opened-sound, heap_of-opened, counts_of-opened}
+use Rattle.pst_history.proofs.Steps.{IsPublishable, published, published-sound, counts_of-published, run-sound, not_open}
 use Rattle.pst_history.proofs.Numbered.{numbered-same, numbered-length, numbered-count, numbered-last}
 use Rattle.pst_history.proofs.Sound.{run-ready}
 use Rattle.pst_history.proofs.Refusals.{first-none, accepted, accepted_kinds, there, has_room, has_calls, accepted_run, IsOpenRun}
@@ -54,17 +59,30 @@ counts_more a b c d e less =
     record { records = omega (arith, less.records); pointer_writes = omega (arith, less.pointer_writes); value_writes = omega (arith, less.value_writes) }
 
 pub counts_trans : (a b c : Counts) → CountsBelow a b → CountsBelow b c → CountsBelow a c
-counts_trans a b c p q = record { records = omega (arith, p.records, q.records); pointer_writes = omega (arith, p.pointer_writes, q.pointer_writes); value_writes = omega (arith, p.value_writes, q.value_writes) }
+counts_trans a b c p q = record {
+  records = omega (arith, p.records, q.records);
+  pointer_writes =
+      omega (arith, p.pointer_writes, q.pointer_writes);
+  value_writes = omega (arith, p.value_writes, q.value_writes);
+}
 
 pub extends-trans : (m : Meaning) (a b c : History) → Extends m a b → Extends m b c → Extends m a c
 extends-trans m a b c p q =
     let one = p.versions in let two = q.versions in
-    record { sound = q.sound; versions = omega arith; rows = λ i v e. q.rows i v (p.rows i v e); heaps = λ k le. q.heaps k (omega arith) ∙ p.heaps k le; counts = counts_trans (counts_of m a) (counts_of m b) (counts_of m c) p.counts q.counts }
+    record {
+      sound = q.sound;
+      versions = omega arith;
+      rows = λ i v e. q.rows i v (p.rows i v e);
+      heaps = λ k le. q.heaps k (omega arith)
+          ∙ p.heaps k le;
+      counts = counts_trans (counts_of m a) (counts_of m b) (counts_of m c) p.counts q.counts;
+    }
 
 pub extends-refl : (m : Meaning) (h : History) → IsSoundHistory m h → Extends m h h
 extends-refl m h sound = record { sound = sound; versions = omega arith; rows = λ i v e. e; heaps = λ k le. refl; counts = counts_same (counts_of m h) (counts_of m h) refl }
 
-pub opened-extends : (m : Meaning) (h : History) (version : VersionNo) (calls : List NamedCall) → IsSoundHistory m h → next_run h < RUNS + 1 → version.0 < version_count h → length calls ≤ CALLS → AllFit m.proc calls → Extends m h (opened h version calls)
+pub opened-extends : (m : Meaning) (h : History) (version : VersionNo) (calls : List NamedCall) → IsSoundHistory m h → next_run h < RUNS + 1
+    → version.0 < version_count h → length calls ≤ CALLS → AllFit m.proc calls → Extends m h (opened h version calls)
 opened-extends m h version calls sound room there few fits =
     let n = run_counts m h (next_run h) (new_run h version calls) in
     let e : counts_of m (opened h version calls) ≡ counts_plus (counts_of m h) n = counts_of-opened m h version calls sound in
@@ -97,7 +115,8 @@ pub same_work : (n : ℕ) (r : Run) (calls : List NamedCall) (budget : ℕ) → 
 same_work n r calls budget c b = ap (λ (x : List NamedCall). record (work_of n r) { calls = x }) c ∙ ap (λ (x : ℕ). record { run = record { 0 = n }; calls = calls; budget = x }) b
 
 -- a run is ready with more calls that fit
-pub more_ready : (m : Meaning) → IsLawful m → (h : History) (n : ℕ) (old new : Run) → IsSoundHistory m h → (step : IsRestated m h n old new) → CanBeDone m (with_calls (work_of n old) step.added) (heap_of m h old.parent.0)
+pub more_ready : (m : Meaning) → IsLawful m → (h : History) (n : ℕ) (old new : Run) → IsSoundHistory m h → (step : IsRestated m h n old new)
+    → CanBeDone m (with_calls (work_of n old) step.added) (heap_of m h old.parent.0)
 more_ready m law h n old new sound step =
     let ready = run-ready m law h sound n old step.found in
     record { well_formed = ready.well_formed; older = ready.older; work = inl (let P : List NamedCall → Type 0 = λ x. AllFit m.proc x in subst P step.calls step.fits) }
@@ -107,9 +126,12 @@ pub restated-counts : (m : Meaning) → IsLawful m → (h : History) (n : ℕ) (
 restated-counts m law h n old new sound step =
     let same : work_of n new ≡ with_calls (work_of n old) step.added = same_work n new (old.calls ++ step.added) old.budget step.calls step.budget in
     let heap = heap_of m h old.parent.0 in
-    let more : CountsBelow (run_counts m h n old) (m.outcome (with_calls (work_of n old) step.added) new.granted heap).counts = law.counts (work_of n old) step.added old.granted new.granted heap (more_ready m law h n old new sound step) step.more in
+    let more : CountsBelow (run_counts m h n old) (m.outcome (with_calls (work_of n old) step.added) new.granted heap).counts =
+    law.counts (work_of n old) step.added old.granted new.granted heap (more_ready m law h n old new sound step) step.more in
     let P : Counts → Type 0 = λ c. CountsBelow (run_counts m h n old) c in
-    let is : (m.outcome (with_calls (work_of n old) step.added) new.granted heap).counts ≡ run_counts m h n new = ap (λ w. (m.outcome w new.granted heap).counts) (sym same) ∙ ap (λ p. (m.outcome (work_of n new) new.granted (heap_of m h p.0)).counts) (sym step.parent) in
+    let is : (m.outcome (with_calls (work_of n old) step.added) new.granted heap).counts ≡ run_counts m h n new =
+    ap (λ w. (m.outcome w new.granted heap).counts) (sym same)
+    ∙ ap (λ p. (m.outcome (work_of n new) new.granted (heap_of m h p.0)).counts) (sym step.parent) in
     subst P is more
 
 pub restated-extends : (m : Meaning) → IsLawful m → (h : History) (n : ℕ) (old new : Run) → IsSoundHistory m h → IsRestated m h n old new → Extends m h (restated h n new)
@@ -119,7 +141,8 @@ restated-extends m law h n old new sound step =
       versions = omega arith;
       rows = λ i v e. e;
       heaps = λ k le. heap_of-restated m h n old new k sound step;
-      counts = counts_more (counts_of m h) (counts_of m (restated h n new)) (run_counts m h n old) (run_counts m h n new) (counts_of-restated m h n old new sound step) (restated-counts m law h n old new sound step);
+      counts = counts_more (counts_of m h) (counts_of m (restated h n new)) (run_counts m h n old) (run_counts m h n new)
+          (counts_of-restated m h n old new sound step) (restated-counts m law h n old new sound step);
     }
 
 pub published-extends : (m : Meaning) (h : History) (n : ℕ) (r : Run) → IsSoundHistory m h → IsPublishable h n r → Extends m h (published h n r.parent)
@@ -147,7 +170,9 @@ pub closed-is : (m : Meaning) (h : History) (n : ℕ) (r : Run) → run_at h n �
 closed-is m h n r e = ap (λ o. with_version (with_run h n closed_run o) n (parent_of o) (end_of m h n o)) e
 
 -- the same calls, with another grant or state
-pub same_calls : (m : Meaning) (h : History) (n : ℕ) (old new : Run) → IsSoundHistory m h → run_at h n ≡ Some old → is_open old ≡ true → new.parent ≡ old.parent → new.calls ≡ old.calls → new.budget ≡ old.budget → new.granted ≤ new.budget → old.granted ≤ new.granted → IsRestated m h n old new
+pub same_calls : (m : Meaning) (h : History) (n : ℕ) (old new : Run) → IsSoundHistory m h → run_at h n ≡ Some old → is_open old ≡ true
+    → new.parent ≡ old.parent → new.calls ≡ old.calls → new.budget ≡ old.budget → new.granted ≤ new.budget → old.granted ≤ new.granted
+    → IsRestated m h n old new
 same_calls m h n old new sound found is_so parent calls budget granted more =
     let mine = run-sound m h sound n old found in
     record {
@@ -177,7 +202,8 @@ granting m h n r charges sound e t =
     let le = run-granted m h n r sound e in
     same_calls m h n r (granted_more charges r) sound e t refl refl refl (min-le_right (r.granted + charges) r.budget) (omega arith)
 
-pub calling : (m : Meaning) (h : History) (n : ℕ) (r : Run) (c : NamedCall) → IsSoundHistory m h → run_at h n ≡ Some r → is_open r ≡ true → length r.calls < CALLS → IsTrue (fits_one (m.proc c.procedure) c.arguments) → IsRestated m h n r (called_more c r)
+pub calling : (m : Meaning) (h : History) (n : ℕ) (r : Run) (c : NamedCall) → IsSoundHistory m h → run_at h n ≡ Some r → is_open r ≡ true
+    → length r.calls < CALLS → IsTrue (fits_one (m.proc c.procedure) c.arguments) → IsRestated m h n r (called_more c r)
 calling m h n r c sound e t room fits =
     let mine = run-sound m h sound n r e in
     let one : length (r.calls ++ c ∷ []) ≡ length r.calls + 1 = length-append r.calls (c ∷ []) in
@@ -221,7 +247,8 @@ closed-extends m law h n r sound e t =
 pub run_at-new : (h : History) (version : VersionNo) (calls : List NamedCall) → run_at (opened h version calls) (next_run h) ≡ Some (new_run h version calls)
 run_at-new h version calls = numbered-last h.start.next_run h.runs (new_run h version calls)
 
-pub with_run-extends : (m : Meaning) → IsLawful m → (h : History) (n : ℕ) (f : Run → Run) → IsSoundHistory m h → (o : IsOpenRun h n) → IsRestated m h n o.run (f o.run) → Extends m h (with_run h n f (run_at h n))
+pub with_run-extends : (m : Meaning) → IsLawful m → (h : History) (n : ℕ) (f : Run → Run) → IsSoundHistory m h → (o : IsOpenRun h n)
+    → IsRestated m h n o.run (f o.run) → Extends m h (with_run h n f (run_at h n))
 with_run-extends m law h n f sound o step =
     let P : Option Run → Type 0 = λ x. Extends m h (with_run h n f x) in
     subst P (sym o.found) (restated-extends m law h n o.run (f o.run) sound step)
@@ -253,7 +280,12 @@ same-keeps : (m : Meaning) (h : History) → Keeps m h h
 same-keeps m h = record { rows = λ i v e. e; heaps = λ k le. refl; counts = counts_same (counts_of m h) (counts_of m h) refl }
 
 budget-keeps : (m : Meaning) (h : History) (charges : ℕ) → Keeps m h (record h { budget = charges })
-budget-keeps m h charges = record { rows = λ i v e. e; heaps = λ k le. heap_of-budget m h charges k; counts = counts_same (counts_of m h) (counts_of m (record h { budget = charges })) (counts_of-budget m h charges) }
+budget-keeps m h charges = record {
+  rows = λ i v e. e;
+  heaps = λ k le. heap_of-budget m h charges k;
+  counts =
+      counts_same (counts_of m h) (counts_of m (record h { budget = charges })) (counts_of-budget m h charges);
+}
 
 both : (a b : Bool) → (a && b) ≡ true → (a ≡ true) × (b ≡ true)
 both true true e = (refl, refl)
@@ -332,7 +364,8 @@ changed-keeps m law h (command.Run call) sound e = extends-keeps m h (changed m 
 changed-keeps m law h (command.Query call) sound e = extends-keeps m h (changed m h (command.Query call)) (extends-with m law h (command.Query call) tt sound e)
 changed-keeps m law h (command.OpenRun call) sound e = extends-keeps m h (changed m h (command.OpenRun call)) (extends-with m law h (command.OpenRun call) tt sound e)
 changed-keeps m law h (command.OpenEmpty version) sound e = extends-keeps m h (changed m h (command.OpenEmpty version)) (extends-with m law h (command.OpenEmpty version) tt sound e)
-changed-keeps m law h (command.CallRun run procedure arguments) sound e = extends-keeps m h (changed m h (command.CallRun run procedure arguments)) (extends-with m law h (command.CallRun run procedure arguments) tt sound e)
+changed-keeps m law h (command.CallRun run procedure arguments) sound e =
+    extends-keeps m h (changed m h (command.CallRun run procedure arguments)) (extends-with m law h (command.CallRun run procedure arguments) tt sound e)
 changed-keeps m law h (command.StepRun run charges) sound e = extends-keeps m h (changed m h (command.StepRun run charges)) (extends-with m law h (command.StepRun run charges) tt sound e)
 changed-keeps m law h (command.CloseRun run) sound e = extends-keeps m h (changed m h (command.CloseRun run)) (extends-with m law h (command.CloseRun run) tt sound e)
 changed-keeps m law h (command.DropRun run) sound e = extends-keeps m h (changed m h (command.DropRun run)) (extends-with m law h (command.DropRun run) tt sound e)
@@ -367,18 +400,23 @@ begun-sound m o is =
 
 after_all-sound : (m : Meaning) → IsLawful m → (h : History) (commands : List Command) → All (λ c. in_range c ≡ true) commands → IsSoundHistory m h → IsSoundHistory m (after_all m h commands)
 after_all-sound m law h [] given sound = sound
-after_all-sound m law h (c ∷ commands) given sound = after_all-sound m law (after m h c) commands (All-tail (λ x. in_range x ≡ true) c commands given) (after-sound m law h c (All-head (λ x. in_range x ≡ true) c commands given) sound)
+after_all-sound m law h (c ∷ commands) given sound = after_all-sound m law (after m h c) commands (All-tail (λ x. in_range x ≡ true) c commands given)
+    (after-sound m law h c (All-head (λ x. in_range x ≡ true) c commands given) sound)
 
 -- a history of a program is sound
 pub history-sound : (m : Meaning) → IsLawful m → (o : Opening) → IsOpening m o → (h : History) → IsHistory m o h → IsSoundHistory m h
 history-sound m law o start h is = let P : History → Type 0 = λ x. IsSoundHistory m x in subst P (sym is.made) (after_all-sound m law (begun o) is.commands is.given (begun-sound m o start))
 
 -- a run that is opened and closed at once is answered as a `run` line
-pub close_reply-new : (m : Meaning) (h : History) (call : Call) → IsSoundHistory m h → close_reply m (opened h call.version (call_of call ∷ [])) (record { 0 = next_run h }) (run_at (opened h call.version (call_of call ∷ [])) (next_run h)) ≡ answered m h (command.Run call)
+pub close_reply-new : (m : Meaning) (h : History) (call : Call) → IsSoundHistory m h
+    → close_reply m (opened h call.version (call_of call ∷ [])) (record { 0 = next_run h })
+    (run_at (opened h call.version (call_of call ∷ [])) (next_run h)) ≡ answered m h (command.Run call)
 close_reply-new m h call sound =
     let calls = call_of call ∷ [] in
     let new = opened h call.version calls in
-    ap (close_reply m new (record { 0 = next_run h })) (run_at-new h call.version calls) ∙ ap (λ x. ended_as h (m.outcome (work_of (next_run h) (new_run h call.version calls)) h.budget x)) (heap_of-opened m h call.version calls call.version.0 sound)
+    ap (close_reply m new (record { 0 = next_run h })) (run_at-new h call.version calls)
+    ∙ ap (λ x. ended_as h (m.outcome (work_of (next_run h) (new_run h call.version calls)) h.budget x))
+    (heap_of-opened m h call.version calls call.version.0 sound)
 
 pub may_open-sound : (m : Meaning) (h : History) (version : VersionNo) (calls : List NamedCall) → IsSoundHistory m h → MayOpen m h version calls → IsSoundHistory m (opened h version calls)
 may_open-sound m h version calls sound may = opened-sound m h version calls sound may.room may.there may.few may.fits

@@ -20,7 +20,13 @@ use Rattle.pst_history.specs.Direct.{direct, task_of, direct_call}
 use Rattle.pst_history.specs.Laws.{DirectIsLawful, DirectReadsOnly}
 
 few-budget : (c : Counts) (granted budget : ℕ) → CountsWithin c (min granted budget) → CountsWithin c budget
-few-budget c granted budget few = let le = min-le_right granted budget in record { records = omega (arith, few.records, le); pointer_writes = omega (arith, few.pointer_writes, le); value_writes = omega (arith, few.value_writes, le) }
+few-budget c granted budget few = let le = min-le_right granted budget in
+    record {
+      records = omega (arith, few.records, le);
+      pointer_writes = omega (arith, few.pointer_writes, le);
+      value_writes =
+          omega (arith, few.value_writes, le);
+    }
 
 -- the task of more calls
 more-task : (r : Routines) (w : Work) (more : List NamedCall) → record (task_of r w) { calls = map (direct_call r) w.calls ++ map (direct_call r) more } ≡ task_of r (with_calls w more)
@@ -35,7 +41,8 @@ direct_is_lawful r valid = record {
   ends = λ w h ready. ends r (task_of r w) w.budget h (omega arith);
   idle = λ run budget k h. refl;
   few = λ w k h ready. few-budget (outcome r (task_of r w) k h).counts k w.budget (few r (task_of r w) k h);
-  counts = λ w more k n h ready le. subst (λ (t : Task). CountsBelow (outcome r (task_of r w) k h).counts (outcome r t n h).counts) (more-task r w more) (grow r (task_of r w) (map (direct_call r) more) k n h le);
+  counts = λ w more k n h ready le. subst (λ (t : Task). CountsBelow (outcome r (task_of r w) k h).counts (outcome r t n h).counts)
+      (more-task r w more) (grow r (task_of r w) (map (direct_call r) more) k n h le);
   over = λ w k n h ready le e. over r (task_of r w) k n h le e;
   trapped = λ w more k h t ready e. ap (λ (x : Task). outcome r x k h) (sym (more-task r w more)) ∙ trapped r (task_of r w) (map (direct_call r) more) k h t e;
 }
@@ -52,7 +59,9 @@ query_found : (r : Routines) (o : Option Procedure) (c : TaskCall) → slice_get
 query_found r None c e ne = absurd (ne refl)
 query_found r (Some p) c e ne = record { procedure = p; found = e; query = is_query p p.query refl ne }
 
-query_numbered : (r : Routines) (o : Option ℕ) (arguments : List ℤ) → option_and_then (λ p. parameters_if true (signature p)) (option_and_then (slice_get r.procedures) o) ≢ None → IsQueryCall r (record { procedure = unwrap_or o (length r.procedures); arguments = arguments })
+query_numbered : (r : Routines) (o : Option ℕ) (arguments : List ℤ)
+    → option_and_then (λ p. parameters_if true (signature p)) (option_and_then (slice_get r.procedures) o) ≢ None
+    → IsQueryCall r (record { procedure = unwrap_or o (length r.procedures); arguments = arguments })
 query_numbered r None arguments ne = absurd (ne refl)
 query_numbered r (Some i) arguments ne = query_found r (slice_get r.procedures i) (record { procedure = i; arguments = arguments }) refl ne
 
@@ -62,7 +71,9 @@ direct_reads_only r typed w granted h fits = reads r typed (task_of r w) each gr
   where
     query : (o : Option NamedCall) (i : ℕ) (c : TaskCall) → slice_get w.calls i ≡ o → option_map (direct_call r) o ≡ Some c → IsQueryCall r c
     query None i c e q = absurd (cc)
-    query (Some x) i c e q = let P : TaskCall → Type 0 = λ y. IsQueryCall r y in subst P (let same : direct_call r x ≡ c = cc in same) (query_numbered r (procedure_named r x.procedure) x.arguments (has_parameters (parameters_named true r x.procedure) x.arguments (fits i x e)))
+    query (Some x) i c e q = let P : TaskCall → Type 0 = λ y. IsQueryCall r y in
+        subst P (let same : direct_call r x ≡ c = cc in same)
+        (query_numbered r (procedure_named r x.procedure) x.arguments (has_parameters (parameters_named true r x.procedure) x.arguments (fits i x e)))
 
     each : (i : ℕ) (c : TaskCall) → slice_get (map (direct_call r) w.calls) i ≡ Some c → IsQueryCall r c
     each i c e = query (slice_get w.calls i) i c refl (sym (slice_get-map (direct_call r) w.calls i) ∙ e)

@@ -15,8 +15,13 @@ use Rattle.pst_program.specs.declared.meaning.Ended.{Ended}
 use Rattle.pst_program.specs.declared.meaning.Ended.TheVariants.{Done, Trapped, Stopped}
 use Rattle.pst_base.specs.declared.names.VersionNo.{VersionNo}
 use Rattle.pst_history.specs.Meaning.{Meaning, when, kinds_refusal, fits}
-use Rattle.pst_history.specs.History.{History, begun, version_refusal, calls_refusal, is_full_run, call_of, called_more, version_count, heap_of, run_at, made_by, is_open_run, is_open, refusal, after, reply, unless, unless_refused, changed, answered, first, call_refusal, runs_refusal, open_refusal, run_refusal, after_all, next_run, new_run, outcome_of, ended, queried, stepped, granted_more, step_reply, close_reply}
-use Rattle.pst_history.specs.Laws.{RefusedChangesNothing, OnlyRefusedAreRefused, ReadersChangeNothing, RefusalsAreOfCommands, HistoriesAreSound, HistoriesGoOn, OpeningIsSound, SoundHistoriesGoOn, FewRunsAreOpen, RunsKeepApart, OldVersionsKeepTheirHeaps, CountsNeverFall, CountsAreFew, VersionIsMadeByItsRun, HeapsAreWellFormed}
+use Rattle.pst_history.specs.History.{History, begun, version_refusal, calls_refusal, is_full_run, call_of, called_more, version_count, heap_of, run_at}
+use Rattle.pst_history.specs.History.{made_by, is_open_run, is_open, refusal, after, reply, unless, unless_refused, changed, answered, first, call_refusal}
+use Rattle.pst_history.specs.History.{runs_refusal, open_refusal, run_refusal, after_all, next_run, new_run, outcome_of, ended, queried, stepped, granted_more}
+use Rattle.pst_history.specs.History.{step_reply, close_reply}
+use Rattle.pst_history.specs.Laws.{RefusedChangesNothing, OnlyRefusedAreRefused, ReadersChangeNothing, RefusalsAreOfCommands, HistoriesAreSound, HistoriesGoOn}
+use Rattle.pst_history.specs.Laws.{OpeningIsSound, SoundHistoriesGoOn, FewRunsAreOpen, RunsKeepApart, OldVersionsKeepTheirHeaps, CountsNeverFall, CountsAreFew}
+use Rattle.pst_history.specs.Laws.{VersionIsMadeByItsRun, HeapsAreWellFormed}
 use Rattle.pst_history.proofs.Heaps.{heap_of-given, heap_of-made}
 use Rattle.std.proofs.lemmas.Option.{slice_get_within}
 use Rattle.pst_base.specs.Heap.{initial_heap}
@@ -133,9 +138,14 @@ pub refusals_are_of_commands : RefusalsAreOfCommands
 unfolding refusal
 refusals_are_of_commands m h (command.Run call) = first-other (call_refusal h (m.proc call.procedure) call) (runs_refusal h) (call-other h (m.proc call.procedure) call) (runs-other h)
 refusals_are_of_commands m h (command.Query call) = call-other h (m.query call.procedure) call
-refusals_are_of_commands m h (command.OpenRun call) = first-other (call_refusal h (m.proc call.procedure) call) (first (runs_refusal h) (open_refusal h)) (call-other h (m.proc call.procedure) call) (first-other (runs_refusal h) (open_refusal h) (runs-other h) (open-other h))
-refusals_are_of_commands m h (command.OpenEmpty version) = first-other (version_refusal h version) (first (runs_refusal h) (open_refusal h)) (version-other h version) (first-other (runs_refusal h) (open_refusal h) (runs-other h) (open-other h))
-refusals_are_of_commands m h (command.CallRun run procedure arguments) = first-other (kinds_refusal (m.proc procedure) arguments) (first (run_refusal h run) (calls_refusal h run)) (kinds-other (m.proc procedure) arguments) (first-other (run_refusal h run) (calls_refusal h run) (run-other h run) (calls-other h run))
+refusals_are_of_commands m h (command.OpenRun call) = first-other (call_refusal h (m.proc call.procedure) call)
+    (first (runs_refusal h) (open_refusal h)) (call-other h (m.proc call.procedure) call)
+    (first-other (runs_refusal h) (open_refusal h) (runs-other h) (open-other h))
+refusals_are_of_commands m h (command.OpenEmpty version) = first-other (version_refusal h version) (first (runs_refusal h) (open_refusal h))
+    (version-other h version) (first-other (runs_refusal h) (open_refusal h) (runs-other h) (open-other h))
+refusals_are_of_commands m h (command.CallRun run procedure arguments) =
+    first-other (kinds_refusal (m.proc procedure) arguments) (first (run_refusal h run) (calls_refusal h run))
+    (kinds-other (m.proc procedure) arguments) (first-other (run_refusal h run) (calls_refusal h run) (run-other h run) (calls-other h run))
 refusals_are_of_commands m h (command.StepRun run charges) = run-other h run
 refusals_are_of_commands m h (command.CloseRun run) = run-other h run
 refusals_are_of_commands m h (command.DropRun run) = run-other h run
@@ -188,7 +198,14 @@ counts_are_few = counts-few
 pub version_is_made_by_its_run : VersionIsMadeByItsRun
 version_is_made_by_its_run m h sound = record {
   given = λ k heap e. heap_of-given m h k (slice_get_within h.start.heaps k heap e) ∙ get_or-is h.start.heaps k (initial_heap m.shape) heap e;
-  made = λ i v e. let s = sound.versions i v e in record { run = s.run; found = s.found; parent = s.parent; version = s.same; heap = heap_of-made m h i v e s.parent ∙ ap (λ o. made_by m v.run.0 o (heap_of m h v.parent.0)) s.found };
+  made = λ i v e. let s = sound.versions i v e in record {
+    run = s.run;
+    found = s.found;
+    parent = s.parent;
+    version = s.same;
+    heap =
+        heap_of-made m h i v e s.parent ∙ ap (λ o. made_by m v.run.0 o (heap_of m h v.parent.0)) s.found;
+  };
 }
 
 pub heaps_are_well_formed : HeapsAreWellFormed

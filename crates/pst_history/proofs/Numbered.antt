@@ -103,7 +103,10 @@ module _ (first : ℕ) (runs : List Run) where
       let w = at-number first runs n old e in
       ap (λ xs. count_by p xs + unit_of (p old)) (with-at n w.index new w.number) ∙ count_by-store p runs w.index old new w.found
 
-  pub numbered-sum : (f : ℕ → Run → Counts) (n : ℕ) (old new : Run) → numbered first runs n ≡ Some old → counts_plus (total_counts f first (with_numbered first runs n new)) (f n old) ≡ counts_plus (total_counts f first runs) (f n new)
+  pub numbered-sum : (f : ℕ → Run → Counts) (n : ℕ) (old new : Run) → numbered first runs n ≡ Some old
+      → counts_plus (total_counts f first (with_numbered first runs n new)) (f n old) ≡ counts_plus (total_counts f first runs) (f n new)
   numbered-sum f n old new e =
       let w = at-number first runs n old e in
-      ap (λ xs. counts_plus (total_counts f first xs) (f n old)) (with-at n w.index new w.number) ∙ ap (λ k. counts_plus (total_counts f first (with_index runs (Some w.index) new)) (f k old)) w.number ∙ counted-set f first runs w.index old new w.found ∙ ap (λ k. counts_plus (total_counts f first runs) (f k new)) (sym w.number)
+      ap (λ xs. counts_plus (total_counts f first xs) (f n old)) (with-at n w.index new w.number)
+      ∙ ap (λ k. counts_plus (total_counts f first (with_index runs (Some w.index) new)) (f k old)) w.number
+      ∙ counted-set f first runs w.index old new w.found ∙ ap (λ k. counts_plus (total_counts f first runs) (f k new)) (sym w.number)

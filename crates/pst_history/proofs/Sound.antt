@@ -51,7 +51,9 @@ given-before m h sound k less =
     subst (λ n. P (heap_of m h k) n) (sym below) (subst (λ x. P x h.start.next_run) (sym is) (sound.start.heaps k w.0 w.1))
 
 -- a version since, from those before it
-made-before : (m : Meaning) → IsLawful m → (h : History) → IsSoundHistory m h → (i : ℕ) (v : Descent) → slice_get h.versions i ≡ Some v → IsBefore m (heap_of m h v.parent.0) (made_below h.start h.versions v.parent.0) → IsBefore m (heap_of m h (length h.start.heaps + i)) (made_below h.start h.versions (length h.start.heaps + i))
+made-before : (m : Meaning) → IsLawful m → (h : History) → IsSoundHistory m h → (i : ℕ) (v : Descent) → slice_get h.versions i ≡ Some v
+    → IsBefore m (heap_of m h v.parent.0) (made_below h.start h.versions v.parent.0)
+    → IsBefore m (heap_of m h (length h.start.heaps + i)) (made_below h.start h.versions (length h.start.heaps + i))
 made-before m law h sound i v e parent =
     let s = sound.versions i v e in
     let run = s.run in
@@ -63,7 +65,8 @@ made-before m law h sound i v e parent =
       well_formed = law.well_formed (work_of v.run.0 run) run.budget (heap_of m h v.parent.0) ready;
       older = law.names (work_of v.run.0 run) run.budget (heap_of m h v.parent.0) ready;
     } in
-    let is : made_by m v.run.0 (Some run) (heap_of m h v.parent.0) ≡ heap_of m h (length h.start.heaps + i) = ap (λ o. made_by m v.run.0 o (heap_of m h v.parent.0)) (sym s.found) ∙ sym (heap_of-made m h i v e s.parent) in
+    let is : made_by m v.run.0 (Some run) (heap_of m h v.parent.0) ≡ heap_of m h (length h.start.heaps + i) =
+    ap (λ o. made_by m v.run.0 o (heap_of m h v.parent.0)) (sym s.found) ∙ sym (heap_of-made m h i v e s.parent) in
     let below = made_below-is h.start h.versions i v e in
     let P : Heap → ℕ → Type 0 = λ x k. IsBefore m x k in
     subst (λ k. P (heap_of m h (length h.start.heaps + i)) k) (sym below) (subst (λ x. P x (v.run.0 + 1)) is after)
@@ -78,7 +81,8 @@ heaps-below m law h sound (suc bound) k below less = at (λ j lt le. heaps-below
     side zero (suc b) = inl (omega arith)
     side (suc a) (suc b) = elim (side a b) [ inl q ↦ inl (omega (arith, q)) | inr q ↦ inr (omega (arith, q)) ]
 
-    at : ((j : ℕ) → j < bound → j < version_count h → IsBefore m (heap_of m h j) (made_below h.start h.versions j)) → (k < length h.start.heaps) ⊎ (length h.start.heaps ≤ k) → IsBefore m (heap_of m h k) (made_below h.start h.versions k)
+    at : ((j : ℕ) → j < bound → j < version_count h → IsBefore m (heap_of m h j) (made_below h.start h.versions j)) → (k < length h.start.heaps)
+        ⊎ (length h.start.heaps ≤ k) → IsBefore m (heap_of m h k) (made_below h.start h.versions k)
     at rec (inl q) = given-before m h sound k q
     at rec (inr q) =
         let i : ℕ = k - length h.start.heaps in

@@ -10,13 +10,15 @@ use Rattle.pst_history.specs.declared.history.Run.{Run}
 use Rattle.pst_history.specs.declared.history.Descent.{Descent}
 use Rattle.pst_base.specs.Counts.{counts_plus}
 use Rattle.pst_history.specs.Meaning.{Meaning, AllFit}
-use Rattle.pst_history.specs.History.{Opening, History, made_by, numbered, run_at, heap_of, is_open, is_open_state, with_numbered, opened, new_run, next_run, version_count, work_of, run_counts, total_counts, counts_of}
+use Rattle.pst_history.specs.History.{Opening, History, made_by, numbered, run_at, heap_of, is_open, is_open_state, with_numbered, opened, new_run, next_run}
+use Rattle.pst_history.specs.History.{version_count, work_of, run_counts, total_counts, counts_of}
 use Rattle.pst_history.specs.Sound.{IsBudget, IsSoundHistory, IsSoundRun, IsSoundVersion, behind, made_below}
 use Rattle.pst_history.proofs.Lists.{slice_get-of_append}
 use Rattle.pst_history.proofs.Heaps.{heap_of-same, heap_of-more}
 use Rattle.pst_base.proofs.CountLemmas.{counts_plus-assoc}
 use Rattle.pst_history.proofs.Sums.{counted-append, counted-same, count_by-more, unit_of}
-use Rattle.pst_history.proofs.Numbered.{at-number, numbered-within, numbered-before, numbered-append, numbered-other, numbered-length, numbered-of, numbered-count, numbered-sum, numbered-is, index-below}
+use Rattle.pst_history.proofs.Numbered.{at-number, numbered-within, numbered-before, numbered-append, numbered-other, numbered-length, numbered-of}
+use Rattle.pst_history.proofs.Numbered.{numbered-count, numbered-sum, numbered-is, index-below}
 use Rattle.pst_history.specs.declared.history.TheConstants.{RUNS, CALLS}
 
 -- ---- makers
@@ -53,7 +55,8 @@ heap_of-opened m h version calls k sound =
     let s = sound.versions i v e in
     ap (λ o. made_by m v.run.0 o x) (numbered-before h.start.next_run h.runs (new_run h version calls) v.run.0 s.run s.found ∙ sym s.found))
 
-pub opened-sound : (m : Meaning) (h : History) (version : VersionNo) (calls : List NamedCall) → IsSoundHistory m h → next_run h < RUNS + 1 → version.0 < version_count h → length calls ≤ CALLS → AllFit m.proc calls → IsSoundHistory m (opened h version calls)
+pub opened-sound : (m : Meaning) (h : History) (version : VersionNo) (calls : List NamedCall) → IsSoundHistory m h → next_run h < RUNS + 1
+    → version.0 < version_count h → length calls ≤ CALLS → AllFit m.proc calls → IsSoundHistory m (opened h version calls)
 opened-sound m h version calls sound room there few fits =
     let x = new_run h version calls in
     let one : length (h.runs ++ x ∷ []) ≡ length h.runs + 1 = length-append h.runs (x ∷ []) in
@@ -66,20 +69,26 @@ opened-sound m h version calls sound room there few fits =
       few_versions = omega arith;
       runs = λ i r e. elim (slice_get-of_append h.runs x r i e) as (λ _. IsSoundRun m h.start h.versions (h.start.next_run + i) r) [
         | inl q ↦ sound.runs i r q
-        | inr q ↦ let P : Run → Type 0 = λ r. IsSoundRun m h.start h.versions (h.start.next_run + i) r in subst P (sym q.1) (let below = made_below-next m h sound version.0 in record { budget = sound.budget; granted = omega arith; version = there; older = omega (arith, q.0, below); few = few; fits = fits })
+        | inr q ↦ let P : Run → Type 0 = λ r. IsSoundRun m h.start h.versions (h.start.next_run + i) r in
+            subst P (sym q.1) (let below = made_below-next m h sound version.0 in
+            record { budget = sound.budget; granted = omega arith; version = there; older = omega (arith, q.0, below); few = few; fits = fits })
       ];
-      versions = λ i v e. let s = sound.versions i v e in record { parent = s.parent; run = s.run; found = numbered-before h.start.next_run h.runs x v.run.0 s.run s.found; same = s.same; closed = s.closed };
+      versions = λ i v e. let s = sound.versions i v e in record
+          { parent = s.parent; run = s.run; found = numbered-before h.start.next_run h.runs x v.run.0 s.run s.found; same = s.same; closed = s.closed };
       apart = sound.apart;
     }
 
-pub counts_of-opened : (m : Meaning) (h : History) (version : VersionNo) (calls : List NamedCall) → IsSoundHistory m h → counts_of m (opened h version calls) ≡ counts_plus (counts_of m h) (run_counts m h (next_run h) (new_run h version calls))
+pub counts_of-opened : (m : Meaning) (h : History) (version : VersionNo) (calls : List NamedCall) → IsSoundHistory m h
+    → counts_of m (opened h version calls) ≡ counts_plus (counts_of m h) (run_counts m h (next_run h) (new_run h version calls))
 unfolding counts_of
 counts_of-opened m h version calls sound =
     let x = new_run h version calls in
     let first = h.start.next_run in
     let f : ℕ → Run → Counts = run_counts m h in
     let g : ℕ → Run → Counts = run_counts m (opened h version calls) in
-    let same : total_counts g first (h.runs ++ x ∷ []) ≡ total_counts f first (h.runs ++ x ∷ []) = counted-same f g first (h.runs ++ x ∷ []) (λ i r e. ap (λ y. (m.outcome (work_of (first + i) r) r.granted y).counts) (heap_of-opened m h version calls r.parent.0 sound)) in
+    let same : total_counts g first (h.runs ++ x ∷ []) ≡ total_counts f first (h.runs ++ x ∷ []) =
+    counted-same f g first (h.runs ++ x ∷ []) (λ i r e. ap (λ y. (m.outcome (work_of (first + i) r) r.granted y).counts)
+    (heap_of-opened m h version calls r.parent.0 sound)) in
     ap (counts_plus h.start.counts) (same ∙ counted-append f first h.runs x) ∙ counts_plus-assoc h.start.counts (total_counts f first h.runs) (f (first + length h.runs) x)
 
 -- ---- another state of an open run
@@ -110,14 +119,17 @@ not_open m h n old sound found was_open i v e same =
 
 pub heap_of-restated : (m : Meaning) (h : History) (n : ℕ) (old new : Run) (k : ℕ) → IsSoundHistory m h → IsRestated m h n old new → heap_of m (restated h n new) k ≡ heap_of m h k
 heap_of-restated m h n old new k sound step =
-    heap_of-same m h (with_numbered h.start.next_run h.runs n new) k (λ i v x e. ap (λ o. made_by m v.run.0 o x) (numbered-other h.start.next_run h.runs n v.run.0 new (not_open m h n old sound step.found step.was_open i v e)))
+    heap_of-same m h (with_numbered h.start.next_run h.runs n new) k
+    (λ i v x e. ap (λ o. made_by m v.run.0 o x) (numbered-other h.start.next_run h.runs n v.run.0 new
+    (not_open m h n old sound step.found step.was_open i v e)))
 
 pub restated-sound : (m : Meaning) (h : History) (n : ℕ) (old new : Run) → IsSoundHistory m h → IsRestated m h n old new → IsSoundHistory m (restated h n new)
 restated-sound m h n old new sound step =
     let first = h.start.next_run in
     let len : length (with_numbered first h.runs n new) ≡ length h.runs = numbered-length first h.runs n new in
     let open_before : unit_of (is_open old) ≡ 1 = ap unit_of step.was_open in
-    let count : count_by is_open (with_numbered first h.runs n new) + unit_of (is_open old) ≡ count_by is_open h.runs + unit_of (is_open new) = numbered-count first h.runs is_open n old new step.found in
+    let count : count_by is_open (with_numbered first h.runs n new) + unit_of (is_open old) ≡ count_by is_open h.runs + unit_of (is_open new) =
+    numbered-count first h.runs is_open n old new step.found in
     let most : unit_of (is_open new) ≤ 1 = elim (is_open new) as (λ b. unit_of b ≤ 1) [ true ↦ omega arith | false ↦ omega arith ] in
     let few = sound.few in
     let few_versions = sound.few_versions in
@@ -142,11 +154,19 @@ restated-sound m h n old new sound step =
               fits = step.fits;
             })
       ];
-      versions = λ i v e. let s = sound.versions i v e in record { parent = s.parent; run = s.run; found = numbered-other first h.runs n v.run.0 new (not_open m h n old sound step.found step.was_open i v e) ∙ s.found; same = s.same; closed = s.closed };
+      versions = λ i v e. let s = sound.versions i v e in record {
+        parent = s.parent;
+        run = s.run;
+        found = numbered-other first h.runs n v.run.0 new
+            (not_open m h n old sound step.found step.was_open i v e) ∙ s.found;
+        same = s.same;
+        closed = s.closed;
+      };
       apart = sound.apart;
     }
 
-pub counts_of-restated : (m : Meaning) (h : History) (n : ℕ) (old new : Run) → IsSoundHistory m h → IsRestated m h n old new → counts_plus (counts_of m (restated h n new)) (run_counts m h n old) ≡ counts_plus (counts_of m h) (run_counts m h n new)
+pub counts_of-restated : (m : Meaning) (h : History) (n : ℕ) (old new : Run) → IsSoundHistory m h → IsRestated m h n old new
+    → counts_plus (counts_of m (restated h n new)) (run_counts m h n old) ≡ counts_plus (counts_of m h) (run_counts m h n new)
 unfolding counts_of
 counts_of-restated m h n old new sound step =
     let first = h.start.next_run in
@@ -154,8 +174,11 @@ counts_of-restated m h n old new sound step =
     let g : ℕ → Run → Counts = run_counts m (restated h n new) in
     let base = h.start.counts in
     let runs = with_numbered first h.runs n new in
-    let same : total_counts g first runs ≡ total_counts f first runs = counted-same f g first runs (λ i r e. ap (λ y. (m.outcome (work_of (first + i) r) r.granted y).counts) (heap_of-restated m h n old new r.parent.0 sound step)) in
-    ap (λ c. counts_plus (counts_plus base c) (f n old)) same ∙ sym (counts_plus-assoc base (total_counts f first runs) (f n old)) ∙ ap (counts_plus base) (numbered-sum first h.runs f n old new step.found) ∙ counts_plus-assoc base (total_counts f first h.runs) (f n new)
+    let same : total_counts g first runs ≡ total_counts f first runs =
+    counted-same f g first runs (λ i r e. ap (λ y. (m.outcome (work_of (first + i) r) r.granted y).counts)
+    (heap_of-restated m h n old new r.parent.0 sound step)) in
+    ap (λ c. counts_plus (counts_plus base c) (f n old)) same ∙ sym (counts_plus-assoc base (total_counts f first runs) (f n old))
+    ∙ ap (counts_plus base) (numbered-sum first h.runs f n old new step.found) ∙ counts_plus-assoc base (total_counts f first h.runs) (f n new)
 
 -- ---- a version more
 
@@ -196,7 +219,9 @@ published-sound m h n r sound step =
       };
       versions = λ i x e. elim (slice_get-of_append h.versions v x i e) as (λ _. IsSoundVersion h.start h.runs (length h.start.heaps + i) x) [
         | inl q ↦ sound.versions i x q
-        | inr q ↦ let P : Descent → Type 0 = λ y. IsSoundVersion h.start h.runs (length h.start.heaps + i) y in subst P (sym q.1) (let there = mine.version in record { parent = omega (arith, q.0, there); run = r; found = step.found; same = refl; closed = step.closed })
+        | inr q ↦ let P : Descent → Type 0 = λ y. IsSoundVersion h.start h.runs (length h.start.heaps + i) y in
+            subst P (sym q.1) (let there = mine.version in record
+            { parent = omega (arith, q.0, there); run = r; found = step.found; same = refl; closed = step.closed })
       ];
       apart = λ i j x y e f same. elim (slice_get-of_append h.versions v x i e) as (λ _. i ≡ j) [
         | inl p ↦ elim (slice_get-of_append h.versions v y j f) as (λ _. i ≡ j) [
@@ -216,4 +241,6 @@ counts_of-published m h n parent sound =
     let first = h.start.next_run in
     let f : ℕ → Run → Counts = run_counts m h in
     let g : ℕ → Run → Counts = run_counts m (published h n parent) in
-    ap (counts_plus h.start.counts) (counted-same f g first h.runs (λ i r e. ap (λ y. (m.outcome (work_of (first + i) r) r.granted y).counts) (heap_of-more m h (record { run = record { 0 = n }; parent = parent }) r.parent.0 (sound.runs i r e).version)))
+    ap (counts_plus h.start.counts) (counted-same f g first h.runs
+    (λ i r e. ap (λ y. (m.outcome (work_of (first + i) r) r.granted y).counts)
+    (heap_of-more m h (record { run = record { 0 = n }; parent = parent }) r.parent.0 (sound.runs i r e).version)))

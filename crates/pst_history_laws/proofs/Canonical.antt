@@ -1,18 +1,16 @@
 -- The canonical text of an accepted program is accepted, as the same program but for lines.
-use Rattle.std.proofs.Common.{◌≡◌, ℕ, ◌+◌, Option, Some, None, List, [], ◌∷◌, map, length, refl, sym, ap, ◌∙◌, subst, Result, Ok}
+use Rattle.std.proofs.Common.{◌≡◌, ℕ, ◌+◌, List, [], ◌∷◌, map, length, refl, sym, ap, ◌∙◌, subst, Result, Ok}
 use Rattle.pst_lex.specs.declared.types.Token.{Token}
 use Rattle.pst_lex.specs.declared.types.TokenKind.{TokenKind}
 use Rattle.pst_lex.specs.declared.types.TokenKind.TheVariants as kind
-use Rattle.pst_lex.specs.declared.words.Mark.{Mark}
-use Rattle.pst_lex.specs.declared.words.Mark.TheVariants.{Record, Val, Ptr, Root, Proc, Query, Var, New, Call, Print, If, Else, While, Return, Null, And, Or, Not, Int, OpenBrace, CloseBrace, OpenParen, CloseParen, Semicolon, Colon, Comma, Dot, Assign, Equal, NotEqual, Less, LessEqual, Greater, GreaterEqual, Plus, Minus, Star, Slash, Percent}
 use Rattle.pst_lex.specs.Bytes.{feeds}
-use Rattle.pst_lex.specs.Words.{Word, Name, Number, Fixed, Unknown, word_of, fixed, keyword_of, symbol_of}
-use Rattle.pst_lex.specs.Lexing.{IsWord, IsToken, LexedAs, LexedTo, EndsAt, AreWords}
+use Rattle.pst_lex.specs.Words.{Word, Name, Number, Fixed, word_of}
+use Rattle.pst_lex.specs.Lexing.{IsToken, LexedAs, LexedTo, EndsAt, AreWords}
 use Rattle.pst_lex.specs.Lexing as lexing
 use Rattle.pst_lex.proofs.Unique.{its_words, are_words}
 use Rattle.pst_grammar.specs.Syntax.{Item}
 use Rattle.pst_grammar.specs.Spelling.{program}
-use Rattle.pst_grammar.specs.Lexemes.{lexeme_in, lexemes, marked_if}
+use Rattle.pst_grammar.specs.Lexemes.{lexeme_in, lexemes}
 use Rattle.pst_typing.specs.declared.fault.TypeFault.{TypeFault}
 use Rattle.pst_typing.specs.Declarations.{NamedProgram, checked}
 use Rattle.pst_notation.specs.Canonical.{canonical}
@@ -29,52 +27,10 @@ use Rattle.pst_history_laws.proofs.Typing.{typing_law}
 abbrev Kind : Word → Type 0
 Kind w = (k : TokenKind) × (word_of k ≡ w)
 
-marked : (m : Mark) → Kind (Fixed m)
-marked Record = (kind.Keyword 0, refl)
-marked Val = (kind.Keyword 1, refl)
-marked Ptr = (kind.Keyword 2, refl)
-marked Root = (kind.Keyword 3, refl)
-marked Proc = (kind.Keyword 4, refl)
-marked Query = (kind.Keyword 5, refl)
-marked Var = (kind.Keyword 6, refl)
-marked New = (kind.Keyword 7, refl)
-marked Call = (kind.Keyword 8, refl)
-marked Print = (kind.Keyword 9, refl)
-marked If = (kind.Keyword 10, refl)
-marked Else = (kind.Keyword 11, refl)
-marked While = (kind.Keyword 12, refl)
-marked Return = (kind.Keyword 13, refl)
-marked Null = (kind.Keyword 14, refl)
-marked And = (kind.Keyword 15, refl)
-marked Or = (kind.Keyword 16, refl)
-marked Not = (kind.Keyword 17, refl)
-marked Int = (kind.Keyword 18, refl)
-marked OpenBrace = (kind.Symbol 0, refl)
-marked CloseBrace = (kind.Symbol 1, refl)
-marked OpenParen = (kind.Symbol 2, refl)
-marked CloseParen = (kind.Symbol 3, refl)
-marked Semicolon = (kind.Symbol 4, refl)
-marked Colon = (kind.Symbol 5, refl)
-marked Comma = (kind.Symbol 6, refl)
-marked Dot = (kind.Symbol 7, refl)
-marked Assign = (kind.Symbol 8, refl)
-marked Equal = (kind.Symbol 9, refl)
-marked NotEqual = (kind.Symbol 10, refl)
-marked Less = (kind.Symbol 11, refl)
-marked LessEqual = (kind.Symbol 12, refl)
-marked Greater = (kind.Symbol 13, refl)
-marked GreaterEqual = (kind.Symbol 14, refl)
-marked Plus = (kind.Symbol 15, refl)
-marked Minus = (kind.Symbol 16, refl)
-marked Star = (kind.Symbol 17, refl)
-marked Slash = (kind.Symbol 18, refl)
-marked Percent = (kind.Symbol 19, refl)
-
-kind_for : (w : Word) → IsWord w → Kind w
-kind_for (Name x) is = (kind.Name x, refl)
-kind_for (Number v) is = (kind.Number v, refl)
-kind_for (Fixed m) is = marked m
-kind_for Unknown is = absurd is
+kind_for : (w : Word) → Kind w
+kind_for (Name x) = (kind.Name x, refl)
+kind_for (Number v) = (kind.Number v, refl)
+kind_for (Fixed m) = (kind.Mark m, refl)
 
 -- a text with tokens, places and lines apart, has tokens
 abbrev Placed : List ℕ → ℕ → ℕ → Type 0
@@ -83,22 +39,17 @@ Placed text at line = (ts : List Token) × (end : ℕ) × LexedTo (EndsAt end) t
 placed : (ws : List Word) (text : List ℕ) (at line : ℕ) → LexedAs text ws → Placed text at line
 placed [] text at line (inside, is) = ([], line + feeds text, (inside, is, refl))
 placed (w ∷ ws) text at line (blank, bytes, rest, is, white, token, more) =
-    let k = kind_for w token.1 in
+    let k = kind_for w in
     let t : Token = record { kind = k.0; span = record { from = at + length blank; to = at + length blank + length bytes }; line = line + feeds blank } in
     let (ts, end, on) = placed ws rest (at + length blank + length bytes) (line + feeds blank) more in
     (t ∷ ts, end, (blank, bytes, rest, is, white, subst (λ x. IsToken x bytes rest) (sym k.1) token, refl, refl, refl, on))
 
 -- ---- the parser sees the words of the tokens
 
-marked_words : (line : ℕ) (m : Option Mark) → word_in (marked_if line m) ≡ fixed m
-marked_words line None = refl
-marked_words line (Some m) = marked_word line m
-
 kind_word : (line : ℕ) (k : TokenKind) → word_in (lexeme_in line k) ≡ word_of k
 kind_word line (kind.Name x) = refl
 kind_word line (kind.Number v) = refl
-kind_word line (kind.Keyword n) = marked_words line (keyword_of n)
-kind_word line (kind.Symbol n) = marked_words line (symbol_of n)
+kind_word line (kind.Mark m) = marked_word line m
 
 seen_words : (ts : List Token) → words_of (lexemes ts) ≡ lexing.words_of ts
 seen_words [] = refl
@@ -131,7 +82,8 @@ checks items others named same e =
 
 pub canonical_law : CanonicalLaw
 canonical_law text syntax named ((tokens, lexes, (p, e, shallow, spells)), typed) =
-    let written : AreWords (program_words p) = subst AreWords (sym (ap words_of spells ∙ seen_words tokens.list)) (are_words text (lexing.words_of tokens.list) (its_words text tokens.list tokens.end lexes).0) in
+    let written : AreWords (program_words p) = subst AreWords (sym (ap words_of spells ∙ seen_words tokens.list))
+    (are_words text (lexing.words_of tokens.list) (its_words text tokens.list tokens.end lexes).0) in
     let (ts, end, again) = placed (program_words p) (canonical syntax) 0 1 (has_its_tokens syntax p e written) in
     let (q, flat, spells', apart) = reads_back syntax 63 15 p e written shallow ts end again in
     let (named', typed', alike) = checks syntax.items (program q).items named (ap (λ x. x.items) apart) typed in

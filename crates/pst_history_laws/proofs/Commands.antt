@@ -17,7 +17,10 @@ use Rattle.pst_history.specs.declared.history.Descent.{Descent}
 use Rattle.pst_history.specs.declared.history.NamedCall.{NamedCall}
 use Rattle.pst_history.specs.declared.history.TheConstants.{RUNS, OPEN_RUNS}
 use Rattle.pst_history.specs.Meaning.{Meaning, when, kinds_refusal}
-use Rattle.pst_history.specs.History.{History, run_at, next_run, is_open_run, outcome_of, first, version_refusal, call_refusal, runs_refusal, open_refusal, run_refusal, calls_refusal, is_full_run, refusal, call_of, new_run, opened, with_run, granted_more, called_more, closed_run, dropped_run, with_version, end_of, parent_of, closed, changed, unless, after, ended_as, ended, queried_as, stepped, step_reply, close_reply, answered, unless_refused, reply, with_numbered}
+use Rattle.pst_history.specs.History.{History, run_at, next_run, is_open_run, outcome_of, first, version_refusal, call_refusal, runs_refusal, open_refusal}
+use Rattle.pst_history.specs.History.{run_refusal, calls_refusal, is_full_run, refusal, call_of, new_run, opened, with_run, granted_more, called_more}
+use Rattle.pst_history.specs.History.{closed_run, dropped_run, with_version, end_of, parent_of, closed, changed, unless, after, ended_as, ended, queried_as}
+use Rattle.pst_history.specs.History.{stepped, step_reply, close_reply, answered, unless_refused, reply, with_numbered}
 use Rattle.pst_history.specs.Sound.{IsSoundHistory}
 use Rattle.pst_history.proofs.Lists.{slice_get-of_append}
 use Rattle.pst_history_laws.specs.TakenUp.{further, anew, AreAlike, NoneOpen}
@@ -42,7 +45,8 @@ begins_law m h = record {
   new_is = refl;
 }
 
-module _ (m : Meaning) (h0 : History) (sound : IsSoundHistory m h0) (none : NoneOpen h0) (b : ℕ) (runs : List Run) (versions : List Descent) (later : (i : ℕ) (v : Descent) → slice_get versions i ≡ Some v → next_run h0 ≤ v.run.0) where
+module _ (m : Meaning) (h0 : History) (sound : IsSoundHistory m h0) (none : NoneOpen h0) (b : ℕ) (runs : List Run) (versions : List Descent)
+    (later : (i : ℕ) (v : Descent) → slice_get versions i ≡ Some v → next_run h0 ≤ v.run.0) where
   abbrev h : History
   h = further h0 b runs versions
 
@@ -81,11 +85,13 @@ module _ (m : Meaning) (h0 : History) (sound : IsSoundHistory m h0) (none : None
   pub same-refusal : (c : Command) → refusal m h c ≡ refusal m g c
   unfolding refusal
   same-refusal (command.Run call) =
-      ap (λ r. first (first (kinds_refusal (m.proc call.procedure) call.arguments) r) (runs_refusal h)) (same-version-refusal call.version) ∙ ap (first (call_refusal g (m.proc call.procedure) call)) same-runs-refusal
+      ap (λ r. first (first (kinds_refusal (m.proc call.procedure) call.arguments) r) (runs_refusal h)) (same-version-refusal call.version)
+      ∙ ap (first (call_refusal g (m.proc call.procedure) call)) same-runs-refusal
   same-refusal (command.Query call) = ap (first (kinds_refusal (m.query call.procedure) call.arguments)) (same-version-refusal call.version)
   same-refusal (command.OpenRun call) =
       ap (λ r. first (first (kinds_refusal (m.proc call.procedure) call.arguments) r) (first (runs_refusal h) (open_refusal h))) (same-version-refusal call.version)
-      ∙ ap (λ r. first (call_refusal g (m.proc call.procedure) call) (first r (open_refusal h))) same-runs-refusal ∙ ap (λ r. first (call_refusal g (m.proc call.procedure) call) (first (runs_refusal g) r)) same-open-refusal
+      ∙ ap (λ r. first (call_refusal g (m.proc call.procedure) call) (first r (open_refusal h))) same-runs-refusal
+      ∙ ap (λ r. first (call_refusal g (m.proc call.procedure) call) (first (runs_refusal g) r)) same-open-refusal
   same-refusal (command.OpenEmpty version) =
       ap (λ r. first r (first (runs_refusal h) (open_refusal h))) (same-version-refusal version)
       ∙ ap (λ r. first (version_refusal g version) (first r (open_refusal h))) same-runs-refusal ∙ ap (λ r. first (version_refusal g version) (first (runs_refusal g) r)) same-open-refusal
@@ -100,7 +106,8 @@ module _ (m : Meaning) (h0 : History) (sound : IsSoundHistory m h0) (none : None
   -- a run that is not refused is one since then
   not-earlier : (run : RunNo) → run_refusal g run ≡ None → next_run h0 ≤ run.0
   not-earlier run e = ⊎_elim
-      (λ (l : run.0 < next_run h0). absurd (let x = earlier-run m h0 sound none b runs versions later run.0 l in let two : run_refusal g run ≡ Some because.Run = ap (λ o. when (not (is_open_run o)) because.Run) x.1 in cc))
+      (λ (l : run.0 < next_run h0). absurd (let x = earlier-run m h0 sound none b runs versions later run.0 l in
+      let two : run_refusal g run ≡ Some because.Run = ap (λ o. when (not (is_open_run o)) because.Run) x.1 in cc))
       (λ (l : next_run h0 ≤ run.0). l)
       (cases_lt run.0 (next_run h0))
 
@@ -135,7 +142,9 @@ module _ (m : Meaning) (h0 : History) (sound : IsSoundHistory m h0) (none : None
   same-answer (command.Query call) e = ap queried_as (new-outcome call.version (call_of call ∷ []))
   same-answer (command.OpenRun call) e = ap (λ (k : ℕ). answer.Opened (record { 0 = k })) (same-next m h0 sound none b runs versions later)
   same-answer (command.OpenEmpty version) e = ap (λ (k : ℕ). answer.Opened (record { 0 = k })) (same-next m h0 sound none b runs versions later)
-  same-answer (command.CallRun run procedure arguments) e = same-step run (called_more record { procedure = procedure; arguments = arguments }) (not-earlier run (first-left (run_refusal g run) (calls_refusal g run) (first-right (kinds_refusal (m.proc procedure) arguments) (first (run_refusal g run) (calls_refusal g run)) e)))
+  same-answer (command.CallRun run procedure arguments) e = same-step run (called_more record { procedure = procedure; arguments = arguments })
+      (not-earlier run (first-left (run_refusal g run) (calls_refusal g run)
+      (first-right (kinds_refusal (m.proc procedure) arguments) (first (run_refusal g run) (calls_refusal g run)) e)))
   same-answer (command.StepRun run charges) e = same-step run (granted_more charges) (not-earlier run e)
   same-answer (command.CloseRun run) e = same-close run (not-earlier run e)
   same-answer (command.DropRun run) e = refl
@@ -159,7 +168,8 @@ version-alike m h0 x y a n l p Stopped = a
 version-alike m h0 x y a n l p (Trapped trap) = a
 version-alike m h0 x y a n l p Done =
     let v : Descent = record { run = record { 0 = n }; parent = p } in
-    subst (λ y. AreAlike m h0 (with_version x n p Done) (with_version y n p Done)) (sym a.new_is) (subst (λ x. AreAlike m h0 (with_version x n p Done) (with_version (anew m h0 a.budget a.runs a.versions) n p Done)) (sym a.old_is) (record {
+    subst (λ y. AreAlike m h0 (with_version x n p Done) (with_version y n p Done)) (sym a.new_is)
+    (subst (λ x. AreAlike m h0 (with_version x n p Done) (with_version (anew m h0 a.budget a.runs a.versions) n p Done)) (sym a.old_is) (record {
       budget = a.budget;
       runs = a.runs;
       versions = a.versions ++ v ∷ [];
@@ -171,7 +181,8 @@ version-alike m h0 x y a n l p Done =
       new_is = refl;
     }))
 
-module _ (m : Meaning) (h0 : History) (sound : IsSoundHistory m h0) (none : NoneOpen h0) (b : ℕ) (runs : List Run) (versions : List Descent) (later : (i : ℕ) (v : Descent) → slice_get versions i ≡ Some v → next_run h0 ≤ v.run.0) where
+module _ (m : Meaning) (h0 : History) (sound : IsSoundHistory m h0) (none : NoneOpen h0) (b : ℕ) (runs : List Run) (versions : List Descent)
+    (later : (i : ℕ) (v : Descent) → slice_get versions i ≡ Some v → next_run h0 ≤ v.run.0) where
   abbrev old : History
   old = further h0 b runs versions
 
@@ -214,15 +225,19 @@ module _ (m : Meaning) (h0 : History) (sound : IsSoundHistory m h0) (none : None
       let same = later-run m h0 sound none b runs versions later n l in
       subst (λ o. AreAlike m h0 (with_version (with_run old n closed_run o) n (parent_of o) (end_of m old n o)) (closed m new n)) (sym same)
       (subst (λ z. AreAlike m h0 (with_version (with_run old n closed_run (run_at new n)) n (parent_of (run_at new n)) z) (closed m new n)) (sym (same-end n (run_at new n)))
-      (version-alike m h0 (with_run old n closed_run (run_at new n)) (with_run new n closed_run (run_at new n)) (with-alike n closed_run l (run_at new n)) n l (parent_of (run_at new n)) (end_of m new n (run_at new n))))
+      (version-alike m h0 (with_run old n closed_run (run_at new n)) (with_run new n closed_run (run_at new n))
+      (with-alike n closed_run l (run_at new n)) n l (parent_of (run_at new n)) (end_of m new n (run_at new n))))
 
 -- a run that is opened and closed at once
 line-alike : (m : Meaning) (h0 : History) → IsSoundHistory m h0 → NoneOpen h0 → (x y : History) → AreAlike m h0 x y → (n k : ℕ) → n ≡ k → next_run h0 ≤ k → AreAlike m h0 (closed m x n) (closed m y k)
 line-alike m h0 sound none x y a n k e l =
     subst (λ n. AreAlike m h0 (closed m x n) (closed m y k)) (sym e)
-    (subst (λ y. AreAlike m h0 (closed m x k) (closed m y k)) (sym a.new_is) (subst (λ x. AreAlike m h0 (closed m x k) (closed m (anew m h0 a.budget a.runs a.versions) k)) (sym a.old_is) (closed-alike m h0 sound none a.budget a.runs a.versions a.later k l)))
+    (subst (λ y. AreAlike m h0 (closed m x k) (closed m y k)) (sym a.new_is)
+    (subst (λ x. AreAlike m h0 (closed m x k) (closed m (anew m h0 a.budget a.runs a.versions) k)) (sym a.old_is)
+    (closed-alike m h0 sound none a.budget a.runs a.versions a.later k l)))
 
-module _ (m : Meaning) (h0 : History) (sound : IsSoundHistory m h0) (none : NoneOpen h0) (b : ℕ) (runs : List Run) (versions : List Descent) (later : (i : ℕ) (v : Descent) → slice_get versions i ≡ Some v → next_run h0 ≤ v.run.0) where
+module _ (m : Meaning) (h0 : History) (sound : IsSoundHistory m h0) (none : NoneOpen h0) (b : ℕ) (runs : List Run) (versions : List Descent)
+    (later : (i : ℕ) (v : Descent) → slice_get versions i ≡ Some v → next_run h0 ≤ v.run.0) where
   abbrev one : History
   one = further h0 b runs versions
 
@@ -237,11 +252,16 @@ module _ (m : Meaning) (h0 : History) (sound : IsSoundHistory m h0) (none : None
 
   changed-alike : (c : Command) → refusal m two c ≡ None → AreAlike m h0 (changed m one c) (changed m two c)
   unfolding refusal
-  changed-alike (command.Run call) e = line-alike m h0 sound none (opened one call.version (call_of call ∷ [])) (opened two call.version (call_of call ∷ [])) (opened-alike m h0 sound none b runs versions later call.version (call_of call ∷ [])) (next_run one) (next_run two) (same-next m h0 sound none b runs versions later) (omega arith)
+  changed-alike (command.Run call) e = line-alike m h0 sound none (opened one call.version (call_of call ∷ []))
+      (opened two call.version (call_of call ∷ [])) (opened-alike m h0 sound none b runs versions later call.version (call_of call ∷ []))
+      (next_run one) (next_run two) (same-next m h0 sound none b runs versions later) (omega arith)
   changed-alike (command.Query call) e = kept
   changed-alike (command.OpenRun call) e = opened-alike m h0 sound none b runs versions later call.version (call_of call ∷ [])
   changed-alike (command.OpenEmpty version) e = opened-alike m h0 sound none b runs versions later version []
-  changed-alike (command.CallRun run procedure arguments) e = run-alike m h0 sound none b runs versions later run.0 (called_more record { procedure = procedure; arguments = arguments }) (since run (first-left (run_refusal two run) (calls_refusal two run) (first-right (kinds_refusal (m.proc procedure) arguments) (first (run_refusal two run) (calls_refusal two run)) e)))
+  changed-alike (command.CallRun run procedure arguments) e =
+      run-alike m h0 sound none b runs versions later run.0 (called_more record { procedure = procedure; arguments = arguments })
+      (since run (first-left (run_refusal two run) (calls_refusal two run)
+      (first-right (kinds_refusal (m.proc procedure) arguments) (first (run_refusal two run) (calls_refusal two run)) e)))
   changed-alike (command.StepRun run charges) e = run-alike m h0 sound none b runs versions later run.0 (granted_more charges) (since run e)
   changed-alike (command.CloseRun run) e = closed-alike m h0 sound none b runs versions later run.0 (since run e)
   changed-alike (command.DropRun run) e = run-alike m h0 sound none b runs versions later run.0 dropped_run (since run e)
@@ -259,7 +279,9 @@ module _ (m : Meaning) (h0 : History) (sound : IsSoundHistory m h0) (none : None
 
 pub stays_law : StaysLaw
 stays_law m h0 h g c sound none a =
-    subst (λ g. AreAlike m h0 (after m h c) (after m g c)) (sym a.new_is) (subst (λ h. AreAlike m h0 (after m h c) (after m (anew m h0 a.budget a.runs a.versions) c)) (sym a.old_is) (after-alike m h0 sound none a.budget a.runs a.versions a.later c))
+    subst (λ g. AreAlike m h0 (after m h c) (after m g c)) (sym a.new_is)
+    (subst (λ h. AreAlike m h0 (after m h c) (after m (anew m h0 a.budget a.runs a.versions) c)) (sym a.old_is)
+    (after-alike m h0 sound none a.budget a.runs a.versions a.later c))
 
 pub replies_law : RepliesLaw
 replies_law m h0 h g c sound none a = ap (λ x. reply m x c) a.old_is ∙ same-reply m h0 sound none a.budget a.runs a.versions a.later c ∙ sym (ap (λ x. reply m x c) a.new_is)

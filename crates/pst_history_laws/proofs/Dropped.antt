@@ -104,7 +104,8 @@ counts-same m h = ap (counts_plus h.start.counts) (all-counted (run_counts m h) 
 -- the opening that is taken up is the same
 pub taken-same : (m : Meaning) (h : History) → taken_up m (all_dropped h) ≡ taken_up m h
 taken-same m h =
-    ap (λ x. opens x (next_run (all_dropped h)) (counts_of m (all_dropped h))) (heaps-same m h) ∙ ap (λ x. opens (heaps_of m h) x (counts_of m (all_dropped h))) (next-same h) ∙ ap (λ x. opens (heaps_of m h) (next_run h) x) (counts-same m h)
+    ap (λ x. opens x (next_run (all_dropped h)) (counts_of m (all_dropped h))) (heaps-same m h)
+    ∙ ap (λ x. opens (heaps_of m h) x (counts_of m (all_dropped h))) (next-same h) ∙ ap (λ x. opens (heaps_of m h) (next_run h) x) (counts-same m h)
   where
     opens : List Heap → ℕ → Counts → Opening
     opens heaps next counts = record { versions = h.start.versions ++ h.versions; heaps = heaps; next_run = next; budget = h.budget; counts = counts }
@@ -135,7 +136,8 @@ run-kept m h n r s = on r.state
     on Closed = s
     on Dropped = s
 
-runs-kept : (m : Meaning) (h : History) (n : ℕ) (o : Option Run) → ((r : Run) → o ≡ Some r → IsSoundRun m h.start h.versions n r) → (r : Run) → option_map dropped_if_open o ≡ Some r → IsSoundRun m h.start h.versions n r
+runs-kept : (m : Meaning) (h : History) (n : ℕ) (o : Option Run) → ((r : Run) → o ≡ Some r → IsSoundRun m h.start h.versions n r) → (r : Run)
+    → option_map dropped_if_open o ≡ Some r → IsSoundRun m h.start h.versions n r
 runs-kept m h n None s r e = absurd (cc)
 runs-kept m h n (Some x) s r e = subst (IsSoundRun m h.start h.versions n) (same_Some (dropped_if_open x) r e) (run-kept m h n x (s x refl))
 

@@ -15,7 +15,9 @@ use Rattle.pst_program.specs.declared.meaning.Value.{Value}
 use Rattle.pst_program.specs.declared.meaning.Value.TheVariants.{Number as ANumber, Truth as ATruth, Null as ANull, Record as ARecord}
 use Rattle.pst_program.specs.Syntax.{Expr, Action, Set, SetRoot, Store, StoreIndexed, New, Call, Print, If, Either, While, Return, Actions, Empty, Then, Procedure, Routines}
 use Rattle.pst_program.specs.Value.{Env, Answer, Gives, Traps as TrapsBy, number_of, truth_of, index_of, value}
-use Rattle.pst_program.specs.Meaning.{World, Ending, Normal, Returned, Trapped, Spent, Does, Calls, charged, with_answer, then_do, choose, Answers, Gives_all, Traps_at, values, with_answers, is_full, is_target, same_type, write_pointer, write_kind, write, with_object, with_index, after_call, if_else, turns, exec_action, exec, leave, run_body, call}
+use Rattle.pst_program.specs.Meaning.{World, Ending, Normal, Returned, Trapped, Spent, Does, Calls, charged, with_answer, then_do, choose, Answers, Gives_all}
+use Rattle.pst_program.specs.Meaning.{Traps_at, values, with_answers, is_full, is_target, same_type, write_pointer, write_kind, write, with_object, with_index}
+use Rattle.pst_program.specs.Meaning.{after_call, if_else, turns, exec_action, exec, leave, run_body, call}
 use Rattle.pst_program.specs.Outcome.{TaskCall, outcome_of, next_call, in_order, one_call, first_world}
 use Rattle.pst_history_laws.specs.Lines.{action_lineless, actions_lineless, procedure_lineless, routines_lineless}
 use Rattle.pst_history_laws.specs.Alike.{BothDone, BothStopped, BothTrapped, OutcomeAlike}
@@ -64,14 +66,16 @@ then-alike a b (Spents l k w) go go' s = Spents l k w
 
 -- ---- writes
 
-pointer-alike : (shape : List TypeShape) (ty : TypeNo) (n : Name) (slot : ℕ) (v : Value) (l k : ℕ) (env : Env) (w : World) → EndingAlike (write_pointer shape ty n slot v l env w) (write_pointer shape ty n slot v k env w)
+pointer-alike : (shape : List TypeShape) (ty : TypeNo) (n : Name) (slot : ℕ) (v : Value) (l k : ℕ) (env : Env) (w : World)
+    → EndingAlike (write_pointer shape ty n slot v l env w) (write_pointer shape ty n slot v k env w)
 pointer-alike shape ty n slot ANull l k env w = Normals env _
 pointer-alike shape ty n slot (ARecord y) l k env w =
     choose-alike (option_eq same_type (type_in w.heap y) (Some ty)) _ _ _ _ (choose-alike (is_full shape w.heap n slot y) _ _ _ _ (Traps _ l k w) (Normals env _)) (Traps _ l k w)
 pointer-alike shape ty n slot (ANumber x) l k env w = Traps _ l k w
 pointer-alike shape ty n slot (ATruth b) l k env w = Traps _ l k w
 
-kind-alike : (shape : List TypeShape) (o : Option Kind) (n : Name) (slot : ℕ) (v : Value) (l k : ℕ) (env : Env) (w : World) → EndingAlike (write_kind shape o n slot v l env w) (write_kind shape o n slot v k env w)
+kind-alike : (shape : List TypeShape) (o : Option Kind) (n : Name) (slot : ℕ) (v : Value) (l k : ℕ) (env : Env) (w : World)
+    → EndingAlike (write_kind shape o n slot v l env w) (write_kind shape o n slot v k env w)
 kind-alike shape None n slot v l k env w = Traps _ l k w
 kind-alike shape (Some Int) n slot v l k env w = Normals env _
 kind-alike shape (Some (Pointer ty)) n slot v l k env w = pointer-alike shape ty n slot v l k env w
@@ -81,12 +85,14 @@ write-alike shape n slot v l k env w = kind-alike shape (kind_in shape w.heap n 
 
 -- ---- statements
 
-if-alike : (shape : List TypeShape) (e : Expr) (first first' other other' : Does) (l k : ℕ) (env : Env) (w : World) → ((env : Env) (w : World) → EndingAlike (first env w) (first' env w)) → ((env : Env) (w : World) → EndingAlike (other env w) (other' env w))
+if-alike : (shape : List TypeShape) (e : Expr) (first first' other other' : Does) (l k : ℕ) (env : Env) (w : World)
+    → ((env : Env) (w : World) → EndingAlike (first env w) (first' env w)) → ((env : Env) (w : World) → EndingAlike (other env w) (other' env w))
     → EndingAlike (if_else shape e first other l env w) (if_else shape e first' other' k env w)
 if-alike shape e first first' other other' l k env w p q =
     charged-alike w.charges l k w _ _ (λ w. answer-alike (value shape e env w.heap) l k w _ _ (λ v. choose-alike (truth_of v) _ _ _ _ (p env w) (q env w)))
 
-turns-alike : (n : ℕ) (shape : List TypeShape) (e : Expr) (body body' : Does) (l k : ℕ) (env : Env) (w : World) → ((env : Env) (w : World) → EndingAlike (body env w) (body' env w)) → EndingAlike (turns n shape e body l env w) (turns n shape e body' k env w)
+turns-alike : (n : ℕ) (shape : List TypeShape) (e : Expr) (body body' : Does) (l k : ℕ) (env : Env) (w : World)
+    → ((env : Env) (w : World) → EndingAlike (body env w) (body' env w)) → EndingAlike (turns n shape e body l env w) (turns n shape e body' k env w)
 turns-alike zero shape e body body' l k env w p = Spents l k w
 turns-alike (suc n) shape e body body' l k env w p =
     if-alike shape e _ _ Normal Normal l k env w (λ env w. then-alike (body env w) (body' env w) (p env w) _ _ (λ env w. turns-alike n shape e body body' l k env w p)) (λ env w. Normals env w)
@@ -103,9 +109,11 @@ module _ (shape : List TypeShape) (calls calls' : Calls) (same : (p : ℕ) (vs :
     action-alike (Set x e) l k env w = charged-alike w.charges l k w _ _ (λ w. answer-alike (value shape e env w.heap) l k w _ _ (λ v. Normals _ w))
     action-alike (SetRoot slot e) l k env w = charged-alike w.charges l k w _ _ (λ w. answer-alike (value shape e env w.heap) l k w _ _ (λ v. write-alike shape root_name slot v l k env w))
     action-alike (Store o slot e) l k env w =
-        charged-alike w.charges l k w _ _ (λ w. answer-alike (value shape o env w.heap) l k w _ _ (λ object. object-alike object l k w _ _ (λ n. answer-alike (value shape e env w.heap) l k w _ _ (λ v. write-alike shape n slot v l k env w))))
+        charged-alike w.charges l k w _ _ (λ w. answer-alike (value shape o env w.heap) l k w _ _
+        (λ object. object-alike object l k w _ _ (λ n. answer-alike (value shape e env w.heap) l k w _ _ (λ v. write-alike shape n slot v l k env w))))
     action-alike (StoreIndexed o slot elements i e) l k env w =
-        charged-alike w.charges l k w _ _ (λ w. answer-alike (value shape o env w.heap) l k w _ _ (λ object. object-alike object l k w _ _ (λ n. answer-alike (value shape i env w.heap) l k w _ _ (λ index.
+        charged-alike w.charges l k w _ _ (λ w. answer-alike (value shape o env w.heap) l k w _ _
+        (λ object. object-alike object l k w _ _ (λ n. answer-alike (value shape i env w.heap) l k w _ _ (λ index.
         index-alike (index_of elements (number_of index)) l k w _ _ (λ j. answer-alike (value shape e env w.heap) l k w _ _ (λ v. write-alike shape n (slot + j) v l k env w))))))
     action-alike (New x ty) l k env w = charged-alike w.charges l k w _ _ (λ w. choose-alike (is_target shape ty) _ _ _ _ (Normals _ _) (Traps _ l k w))
     action-alike (Call result p es) l k env w =
@@ -130,7 +138,8 @@ leave-alike result a b (Returns v w) = Returns v w
 leave-alike result a b (Traps t l k w) = Traps t l k w
 leave-alike result a b (Spents l k w) = Spents l k w
 
-body-alike : (shape : List TypeShape) (calls calls' : Calls) → ((p : ℕ) (vs : List Value) (l k : ℕ) (w : World) → EndingAlike (calls p vs l w) (calls' p vs k w)) → (o : Option Procedure) (vs : List Value) (w : World)
+body-alike : (shape : List TypeShape) (calls calls' : Calls) →
+    ((p : ℕ) (vs : List Value) (l k : ℕ) (w : World) → EndingAlike (calls p vs l w) (calls' p vs k w)) → (o : Option Procedure) (vs : List Value) (w : World)
     → EndingAlike (run_body shape calls o vs w) (run_body shape calls' (option_map procedure_lineless o) vs w)
 body-alike shape calls calls' same None vs w = Returns None w
 body-alike shape calls calls' same (Some p) vs w = leave-alike p.result _ _ (exec-alike shape calls calls' same p.body _ w)
@@ -140,7 +149,8 @@ module _ (r : Routines) where
   unfolding call
   calls-alike zero p vs l k w = Traps _ l k w
   calls-alike (suc d) p vs l k w =
-      subst (λ o. EndingAlike (run_body r.shape (call r d) (slice_get r.procedures p) vs w) (run_body r.shape (call (routines_lineless r) d) o vs w)) (sym (slice_get-map procedure_lineless r.procedures p))
+      subst (λ o. EndingAlike (run_body r.shape (call r d) (slice_get r.procedures p) vs w) (run_body r.shape (call (routines_lineless r) d) o vs w))
+      (sym (slice_get-map procedure_lineless r.procedures p))
       (body-alike r.shape (call r d) (call (routines_lineless r) d) (λ p vs l k w. calls-alike d p vs l k w) (slice_get r.procedures p) vs w)
 
   one-alike : (c : TaskCall) (w : World) → EndingAlike (one_call r c w) (one_call (routines_lineless r) c w)

@@ -10,7 +10,9 @@ use Rattle.pst_script.specs.declared.command.Command.TheVariants as command
 use Rattle.pst_history.specs.declared.history.Run.{Run}
 use Rattle.pst_history.specs.declared.history.Descent.{Descent}
 use Rattle.pst_history.specs.Meaning.{Meaning, kinds_refusal}
-use Rattle.pst_history.specs.History.{History, numbered, work_of, made_by, made, heaps_from, heaps_of, heap_of, run_counts, counts_of, outcome_of, first, call_refusal, runs_refusal, open_refusal, run_refusal, calls_refusal, refusal, run_at, next_run, call_of, opened, with_run, closed_run, with_version, parent_of, end_of, closed, changed, unless, after}
+use Rattle.pst_history.specs.History.{History, numbered, work_of, made_by, made, heaps_from, heaps_of, heap_of, run_counts, counts_of, outcome_of, first}
+use Rattle.pst_history.specs.History.{call_refusal, runs_refusal, open_refusal, run_refusal, calls_refusal, refusal, run_at, next_run, call_of, opened}
+use Rattle.pst_history.specs.History.{with_run, closed_run, with_version, parent_of, end_of, closed, changed, unless, after}
 use Rattle.pst_history.proofs.Sums.{counted-same}
 use Rattle.pst_history_laws.specs.Alike.{EndedAlike, BothDone, BothStopped, BothTrapped, OutcomeAlike, MeaningAlike}
 use Rattle.pst_history_laws.specs.LawsLines.{HistoryLaw}
@@ -24,7 +26,8 @@ module _ (m n : Meaning) (a : MeaningAlike m n) where
   heaps-same f runs heaps [] = refl
   heaps-same f runs heaps (v ∷ versions) =
       let r = numbered f runs v.run.0 in
-      let one : made m f runs heaps v ≡ made n f runs heaps v = ap (λ s. made_by m v.run.0 r (get_or heaps v.parent.0 (initial_heap s))) a.shape ∙ made-same v.run.0 r (get_or heaps v.parent.0 (initial_heap n.shape)) in
+      let one : made m f runs heaps v ≡ made n f runs heaps v = ap (λ s. made_by m v.run.0 r (get_or heaps v.parent.0 (initial_heap s))) a.shape
+      ∙ made-same v.run.0 r (get_or heaps v.parent.0 (initial_heap n.shape)) in
       ap (λ y. heaps_from m f runs (heaps ++ y ∷ []) versions) one ∙ heaps-same f runs (heaps ++ made n f runs heaps v ∷ []) versions
 
   module _ (h : History) where

@@ -73,7 +73,8 @@ outcome-joined x y = record { end = end-joined x.end y.end; heap = x.heap ∙ sy
 
 direct-outcome : (r : Routines) (w : Work) (granted : ℕ) (heap : Heap) → OutcomeAlike ((direct r).outcome w granted heap) ((direct (routines_lineless r)).outcome w granted heap)
 unfolding direct
-direct-outcome r w granted heap = subst (λ t. OutcomeAlike (outcome r (task_of r w) granted heap) (outcome (routines_lineless r) t granted heap)) (sym (task-same r w)) (outcome_law r (task_of r w) granted heap)
+direct-outcome r w granted heap = subst (λ t. OutcomeAlike (outcome r (task_of r w) granted heap) (outcome (routines_lineless r) t granted heap))
+    (sym (task-same r w)) (outcome_law r (task_of r w) granted heap)
 
 one-lineless : (p q : NamedProgram) → ProgramAlike p q → routines_lineless (routines_in p) ≡ routines_lineless (routines_in q)
 one-lineless p q a = ap (λ s. record { shape = s; procedures = map procedure_lineless p.procedures }) a.shape ∙ ap (λ ps. record { shape = q.shape; procedures = ps }) a.procedures

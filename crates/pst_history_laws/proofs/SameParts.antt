@@ -10,7 +10,8 @@ use Rattle.pst_program.specs.Outcome.{no_counts}
 use Rattle.pst_history.specs.declared.history.Run.{Run}
 use Rattle.pst_history.specs.declared.history.Descent.{Descent}
 use Rattle.pst_history.specs.Meaning.{Meaning}
-use Rattle.pst_history.specs.History.{History, index_from, numbered, with_index, with_numbered, run_at, next_run, is_open, is_open_run, work_of, made, made_by, heaps_from, heaps_of, version_count, heap_of, total_counts, run_counts, counts_of}
+use Rattle.pst_history.specs.History.{History, index_from, numbered, with_index, with_numbered, run_at, next_run, is_open, is_open_run, work_of, made, made_by}
+use Rattle.pst_history.specs.History.{heaps_from, heaps_of, version_count, heap_of, total_counts, run_counts, counts_of}
 use Rattle.pst_history.specs.Sound.{IsSoundHistory}
 use Rattle.pst_history.proofs.Lists.{slice_get-before}
 use Rattle.pst_history.proofs.Heaps.{length-heaps_from, heap_of-given}
@@ -43,19 +44,23 @@ none-pass p (x ∷ xs) ys none =
 
 -- ---- heaps
 
-heaps_from-append : (m : Meaning) (first : ℕ) (runs : List Run) (heaps : List Heap) (one two : List Descent) → heaps_from m first runs heaps (one ++ two) ≡ heaps_from m first runs (heaps_from m first runs heaps one) two
+heaps_from-append : (m : Meaning) (first : ℕ) (runs : List Run) (heaps : List Heap) (one two : List Descent)
+    → heaps_from m first runs heaps (one ++ two) ≡ heaps_from m first runs (heaps_from m first runs heaps one) two
 heaps_from-append m first runs heaps [] two = refl
 heaps_from-append m first runs heaps (v ∷ one) two = heaps_from-append m first runs (heaps ++ made m first runs heaps v ∷ []) one two
 
 -- runs are found by their numbers
-heaps_from-moved : (m : Meaning) (a b : ℕ) (old new : List Run) (heaps : List Heap) (versions : List Descent) → ((i : ℕ) (v : Descent) → slice_get versions i ≡ Some v → numbered a old v.run.0 ≡ numbered b new v.run.0) → heaps_from m a old heaps versions ≡ heaps_from m b new heaps versions
+heaps_from-moved : (m : Meaning) (a b : ℕ) (old new : List Run) (heaps : List Heap) (versions : List Descent)
+    → ((i : ℕ) (v : Descent) → slice_get versions i ≡ Some v → numbered a old v.run.0 ≡ numbered b new v.run.0)
+    → heaps_from m a old heaps versions ≡ heaps_from m b new heaps versions
 heaps_from-moved m a b old new heaps [] same = refl
 heaps_from-moved m a b old new heaps (w ∷ versions) same =
     ap (λ r. heaps_from m a old (heaps ++ made_by m w.run.0 r (get_or heaps w.parent.0 (initial_heap m.shape)) ∷ []) versions) (same 0 w refl)
     ∙ heaps_from-moved m a b old new (heaps ++ made m b new heaps w ∷ []) versions (λ i v e. same (suc i) v e)
 
 total-append : (f : ℕ → Run → Counts) (n : ℕ) (xs ys : List Run) → total_counts f n (xs ++ ys) ≡ counts_plus (total_counts f n xs) (total_counts f (n + length xs) ys)
-total-append f n [] ys = ap (λ k. total_counts f k ys) (let e : n ≡ n + 0 = omega arith in e) ∙ sym (counts_plus-comm no_counts (total_counts f (n + 0) ys) ∙ counts_plus-none (total_counts f (n + 0) ys))
+total-append f n [] ys = ap (λ k. total_counts f k ys) (let e : n ≡ n + 0 = omega arith in e)
+    ∙ sym (counts_plus-comm no_counts (total_counts f (n + 0) ys) ∙ counts_plus-none (total_counts f (n + 0) ys))
 total-append f n (x ∷ xs) ys =
     ap (counts_plus (f n x)) (total-append f (suc n) xs ys) ∙ counts_plus-assoc (f n x) (total_counts f (suc n) xs) (total_counts f (suc n + length xs) ys)
     ∙ ap (λ k. counts_plus (counts_plus (f n x) (total_counts f (suc n) xs)) (total_counts f k ys)) (let e : suc n + length xs ≡ n + suc (length xs) = omega arith in e)
@@ -64,7 +69,8 @@ counts-are : (m : Meaning) (h : History) → counts_of m h ≡ counts_plus h.sta
 unfolding counts_of
 counts-are m h = refl
 
-module _ (m : Meaning) (h0 : History) (sound : IsSoundHistory m h0) (none : NoneOpen h0) (b : ℕ) (runs : List Run) (versions : List Descent) (later : (i : ℕ) (v : Descent) → slice_get versions i ≡ Some v → next_run h0 ≤ v.run.0) where
+module _ (m : Meaning) (h0 : History) (sound : IsSoundHistory m h0) (none : NoneOpen h0) (b : ℕ) (runs : List Run) (versions : List Descent)
+    (later : (i : ℕ) (v : Descent) → slice_get versions i ≡ Some v → next_run h0 ≤ v.run.0) where
   abbrev h : History
   h = further h0 b runs versions
 
@@ -97,11 +103,13 @@ module _ (m : Meaning) (h0 : History) (sound : IsSoundHistory m h0) (none : None
   unfolding heaps_of
   same-heaps =
       heaps_from-append m h0.start.next_run (h0.runs ++ runs) h0.start.heaps h0.versions versions
-      ∙ ap (λ heaps. heaps_from m h0.start.next_run (h0.runs ++ runs) heaps versions) (heaps_from-moved m h0.start.next_run h0.start.next_run (h0.runs ++ runs) h0.runs h0.start.heaps h0.versions (λ i v e.
+      ∙ ap (λ heaps. heaps_from m h0.start.next_run (h0.runs ++ runs) heaps versions)
+      (heaps_from-moved m h0.start.next_run h0.start.next_run (h0.runs ++ runs) h0.runs h0.start.heaps h0.versions (λ i v e.
       let s = sound.versions i v e in
       let w = at-number h0.start.next_run h0.runs v.run.0 s.run s.found in
       numbered-at h0.start.next_run (h0.runs ++ runs) v.run.0 w.index w.number ∙ slice_get-before h0.runs runs w.index w.within ∙ sym (numbered-at h0.start.next_run h0.runs v.run.0 w.index w.number)))
-      ∙ heaps_from-moved m h0.start.next_run (next_run h0) (h0.runs ++ runs) runs (heaps_from m h0.start.next_run h0.runs h0.start.heaps h0.versions) versions (λ i v e. later-run v.run.0 (later i v e))
+      ∙ heaps_from-moved m h0.start.next_run (next_run h0) (h0.runs ++ runs) runs (heaps_from m h0.start.next_run h0.runs h0.start.heaps h0.versions)
+      versions (λ i v e. later-run v.run.0 (later i v e))
 
   pub same-heap : (k : ℕ) → heap_of m h k ≡ heap_of m g k
   same-heap k = ap (λ heaps. get_or heaps k (initial_heap m.shape)) same-heaps

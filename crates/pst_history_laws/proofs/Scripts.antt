@@ -20,7 +20,7 @@ use Rattle.pst_history_laws.proofs.Histories.{history_law}
 use Rattle.pst_history_laws.proofs.Meanings.{meaning_law}
 use Rattle.pst_history_laws.proofs.Canonical.{canonical_law}
 use Rattle.pst_history_laws.specs.TakenUp.{taken_up, further, anew, AreAlike, NoneOpen, all_dropped}
-use Rattle.pst_history_laws.specs.Openings.{left_by, GoesOnLaw, ProgramGoesOnLaw, SoundBehindLaw, StaysBehindLaw, TakenUpAlikeLaw}
+use Rattle.pst_history_laws.specs.Openings.{left_by, GoesOnLaw, ProgramGoesOnLaw, SoundBehindLaw, StaysBehindLaw, RepliesBehindLaw, TakenUpAlikeLaw}
 use Rattle.pst_history_laws.proofs.SameParts.{same-heaps, same-next, same-counts}
 use Rattle.pst_history_laws.proofs.Sound.{lines-sound, left-sound}
 use Rattle.pst_history_laws.proofs.Commands.{begins_law, replies_law, stays_law}
@@ -75,7 +75,11 @@ sound_behind_law m lawful h script s = lines-sound m lawful script h s
 pub stays_behind_law : StaysBehindLaw
 stays_behind_law m from old new [] sound none a = a
 stays_behind_law m from old new (line ∷ script) sound none a =
-    stays_behind_law m from (next_of by_tree m old (reading line)) (next_of by_tree m new (reading line)) script sound none (next-same (λ x. opening x.shape) m from sound none old new a (reading line))
+    stays_behind_law m from (next_of by_tree m old (reading line)) (next_of by_tree m new (reading line)) script sound none
+    (next-same (λ x. opening x.shape) m from sound none old new a (reading line))
+
+pub replies_behind_law : RepliesBehindLaw
+replies_behind_law m from old new script sound none a = pieces-same (λ x. opening x.shape) m from sound none script old new a
 
 pub taken_up_law : TakenUpAlikeLaw
 taken_up_law m from old new sound none a =
@@ -105,5 +109,6 @@ program_goes_on_law text syntax named before behind judged valid =
     let again : IsValid read.program.shape = subst IsValid read.alike.shape valid in
     record {
       read = read;
-      same = λ first. goes_on_law (direct (routines_in named)) (direct (routines_in read.program)) (meaning_law named read.program read.alike) (direct_is_lawful (routines_in read.program) again) first before behind;
+      same = λ first. goes_on_law (direct (routines_in named)) (direct (routines_in read.program)) (meaning_law named read.program read.alike)
+          (direct_is_lawful (routines_in read.program) again) first before behind;
     }

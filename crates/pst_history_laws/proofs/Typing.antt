@@ -12,10 +12,14 @@ use Rattle.pst_program.specs.Syntax as program
 use Rattle.pst_typing.specs.declared.fault.TypeFault.{TypeFault}
 use Rattle.pst_typing.specs.declared.fault.TypeFault.TheVariants.{Unknown, Mismatch, QueryWrites, Duplicate, Limit, TooMany}
 use Rattle.pst_typing.specs.Answers.{and_then, check, found, through}
-use Rattle.pst_typing.specs.Names.{RecordType, Member, Members, no_members, with_new_member, with_field, members_from, field_line, field_name, field_kind, field_elements, is_length_of, length_in, Scope, Setting, Signature, Slot, Variable, IsLocal, IsRoot, Local, named, is_named, is_free, kind_of, is_known, field_named, variable as variable_of, nothing_declared, elements_of}
-use Rattle.pst_typing.specs.Expressions.{Sort, Int, Truth, Pointer, Judged, Bare, Known, Object, Array, operand, object, plain_field, array_field, loaded, at_index, operation, null_beside, equality, combined, judged, fits, fitted, of_sort, same_sort, sort_of}
+use Rattle.pst_typing.specs.Names.{RecordType, Member, Members, no_members, with_new_member, with_field, members_from, field_line, field_name, field_kind}
+use Rattle.pst_typing.specs.Names.{field_elements, is_length_of, length_in, Scope, Setting, Signature, Slot, Variable, IsLocal, IsRoot, Local, named, is_named}
+use Rattle.pst_typing.specs.Names.{is_free, kind_of, is_known, field_named, variable as variable_of, nothing_declared, elements_of}
+use Rattle.pst_typing.specs.Expressions.{Sort, Int, Truth, Pointer, Judged, Bare, Known, Object, Array, operand, object, plain_field, array_field, loaded}
+use Rattle.pst_typing.specs.Expressions.{at_index, operation, null_beside, equality, combined, judged, fits, fitted, of_sort, same_sort, sort_of}
 use Rattle.pst_typing.specs.Statements.{assigned, stored, element_stored, written, made, arguments, received, called, returned, statement, block}
-use Rattle.pst_typing.specs.Declarations.{noted, limit_of, elements_with, is_new, field, with_targets, targets_of, shape_of, names_of, variable, is_result_known, procedure, NamedProgram, declared, root_alone}
+use Rattle.pst_typing.specs.Declarations.{noted, limit_of, elements_with, is_new, field, with_targets, targets_of, shape_of, names_of, variable}
+use Rattle.pst_typing.specs.Declarations.{is_result_known, procedure, NamedProgram, declared, root_alone}
 use Rattle.pst_notation.specs.Lines.{phrase_lineless, block_lineless, field_lineless, local_lineless, item_lineless}
 use Rattle.pst_history_laws.specs.Lines.{action_lineless, actions_lineless, procedure_lineless}
 use Rattle.pst_history_laws.specs.Alike.{Agree, Oks, Errs, ProgramAlike}
@@ -37,12 +41,14 @@ setting_lineless s = record { scope = scope_lineless s.scope; query = s.query; r
 abbrev Same : {A : Type 0} → A → A → Type 0
 Same a b = a ≡ b
 
-and-both : {A B C D : Type 0} (R : A → B → Type 0) (S : C → D → Type 0) (x : Result A TypeFault) (y : Result B TypeFault) → Agree R x y → (f : A → Result C TypeFault) (g : B → Result D TypeFault) → ((a : A) (b : B) → R a b → Agree S (f a) (g b))
+and-both : {A B C D : Type 0} (R : A → B → Type 0) (S : C → D → Type 0) (x : Result A TypeFault) (y : Result B TypeFault) → Agree R x y
+    → (f : A → Result C TypeFault) (g : B → Result D TypeFault) → ((a : A) (b : B) → R a b → Agree S (f a) (g b))
     → Agree S (and_then x f) (and_then y g)
 and-both R S x y (Oks a b p) f g q = q a b p
 and-both R S x y (Errs u v) f g q = Errs u v
 
-and-same : {A C D : Type 0} (S : C → D → Type 0) (x y : Result A TypeFault) → Agree Same x y → (f : A → Result C TypeFault) (g : A → Result D TypeFault) → ((a : A) → Agree S (f a) (g a)) → Agree S (and_then x f) (and_then y g)
+and-same : {A C D : Type 0} (S : C → D → Type 0) (x y : Result A TypeFault) → Agree Same x y
+    → (f : A → Result C TypeFault) (g : A → Result D TypeFault) → ((a : A) → Agree S (f a) (g a)) → Agree S (and_then x f) (and_then y g)
 and-same S x y p f g q = and-both Same S x y p f g (λ a b e. subst (λ b. Agree S (f a) (g b)) e (q a))
 
 check-both : {C D : Type 0} (S : C → D → Type 0) (b c : Bool) → b ≡ c → (f g : TypeFault) (x : Result C TypeFault) (y : Result D TypeFault) → Agree S x y → Agree S (check b f x) (check c g y)
@@ -51,7 +57,8 @@ check-both S false false e f g x y p = Errs f g
 check-both S true false e f g x y p = absurd (cc)
 check-both S false true e f g x y p = absurd (cc)
 
-found-both : {A C D : Type 0} (S : C → D → Type 0) (o : Option A) (f g : TypeFault) (k : A → Result C TypeFault) (l : A → Result D TypeFault) → ((a : A) → Agree S (k a) (l a)) → Agree S (found o f k) (found o g l)
+found-both : {A C D : Type 0} (S : C → D → Type 0) (o : Option A) (f g : TypeFault) (k : A → Result C TypeFault) (l : A → Result D TypeFault)
+    → ((a : A) → Agree S (k a) (l a)) → Agree S (found o f k) (found o g l)
 found-both S None f g k l p = Errs f g
 found-both S (Some a) f g k l p = p a
 
@@ -130,7 +137,9 @@ module _ (st : Setting) where
   judged-same (tree.Field e f) l k =
       and-same Same _ _ (judged-same e l k) _ _ (λ j. and-same Same _ _ (object-same l k j) _ _ (λ o. and-same Same _ _ (plain-same l k o.type f) _ _ (λ s. Oks _ _ (loaded-same o s))))
   judged-same (tree.Indexed e f i) l k =
-      and-same Same _ _ (judged-same e l k) _ _ (λ j. and-same Same _ _ (object-same l k j) _ _ (λ o. and-same Same _ _ (array-same l k o.type f) _ _ (λ a. and-same Same _ _ (judged-same i l k) _ _ (λ x. and-same Same _ _ (operand-same l k Int x) _ _ (λ i. Oks _ _ (index-same o a i))))))
+      and-same Same _ _ (judged-same e l k) _ _ (λ j. and-same Same _ _ (object-same l k j) _ _
+      (λ o. and-same Same _ _ (array-same l k o.type f) _ _
+      (λ a. and-same Same _ _ (judged-same i l k) _ _ (λ x. and-same Same _ _ (operand-same l k Int x) _ _ (λ i. Oks _ _ (index-same o a i))))))
   judged-same (tree.Negate e) l k = and-same Same _ _ (judged-same e l k) _ _ (λ j. and-same Same _ _ (operand-same l k Int j) _ _ (λ v. Oks _ _ refl))
   judged-same (tree.Not e) l k = and-same Same _ _ (judged-same e l k) _ _ (λ j. and-same Same _ _ (operand-same l k Truth j) _ _ (λ v. Oks _ _ refl))
   judged-same (tree.Binary op a b) l k = and-same Same _ _ (judged-same a l k) _ _ (λ x. and-same Same _ _ (judged-same b l k) _ _ (λ y. combined-same l k op a b x y))
@@ -185,7 +194,8 @@ module _ (st : Setting) where
       (check (not st.query) (QueryWrites k) (check (same_sort (sort_of y.kind) (sort_of (tree.Named ty))) (Mismatch k) (Ok (program.New y.number t.number))))
   new-same l k y ty t =
       check-both Action (not st.query) (not st.query) refl (QueryWrites l) (QueryWrites k) _ _
-      (check-both Action (same_sort (sort_of y.kind) (sort_of (tree.Named ty))) (same_sort (sort_of y.kind) (sort_of (tree.Named ty))) refl (Mismatch l) (Mismatch k) (Ok (program.New y.number t.number)) (Ok (program.New y.number t.number)) (Oks _ _ refl))
+      (check-both Action (same_sort (sort_of y.kind) (sort_of (tree.Named ty))) (same_sort (sort_of y.kind) (sort_of (tree.Named ty))) refl
+      (Mismatch l) (Mismatch k) (Ok (program.New y.number t.number)) (Ok (program.New y.number t.number)) (Oks _ _ refl))
 
   made-same : (l k : ℕ) (x ty : List ℕ) → Agree Action (made st l x ty) (made st' k x ty)
   made-same l k x ty = found-both Action (named x st.locals) _ _ _ _ (λ y. found-both Action (named ty st.scope.types) _ _ _ _ (λ t. new-same l k y ty t))
@@ -211,9 +221,11 @@ module _ (st : Setting) where
   returned-same l k (Some w) (Some e) = and-same Action _ _ (fitted-same l k w e) _ _ (λ v. Oks _ _ refl)
 
   -- the signature of a procedure, and what is said of it
-  sign-both : (l k : ℕ) (p : List ℕ) (go : Signature → Result program.Action TypeFault) (go' : Signature → Result program.Action TypeFault) (f g : TypeFault) → ((s : Signature) → Agree Action (go s) (go' (signature_lineless s)))
+  sign-both : (l k : ℕ) (p : List ℕ) (go : Signature → Result program.Action TypeFault) (go' : Signature → Result program.Action TypeFault)
+      (f g : TypeFault) → ((s : Signature) → Agree Action (go s) (go' (signature_lineless s)))
       → Agree Action (found (named p st.scope.procedures) f go) (found (named p st'.scope.procedures) g go')
-  sign-both l k p go go' f g q = subst (λ o. Agree Action (found (named p st.scope.procedures) f go) (found o g go')) (sym (lookup-map_values signature_lineless (bytes_eq p) st.scope.procedures)) (on (named p st.scope.procedures))
+  sign-both l k p go go' f g q = subst (λ o. Agree Action (found (named p st.scope.procedures) f go) (found o g go'))
+      (sym (lookup-map_values signature_lineless (bytes_eq p) st.scope.procedures)) (on (named p st.scope.procedures))
     where
       on : (o : Option Signature) → Agree Action (found o f go) (found (option_map signature_lineless o) g go')
       on None = Errs _ _
@@ -227,13 +239,17 @@ module _ (st : Setting) where
     statement-same (tree.Print e) l k = and-same Action _ _ (sort-same l k Int e) _ _ (λ v. Oks _ _ refl)
     statement-same (tree.If e first) l k = and-same Action _ _ (sort-same l k Truth e) _ _ (λ c. and-both Block Action _ _ (block-same first) _ _ (λ x y q. Oks _ _ (ap (program.If c) q)))
     statement-same (tree.Either e first other) l k =
-        and-same Action _ _ (sort-same l k Truth e) _ _ (λ c. and-both Block Action _ _ (block-same first) _ _ (λ x y q. and-both Block Action _ _ (block-same other) _ _ (λ z w r. Oks _ _ (ap (λ v. program.Either c v (actions_lineless z)) q ∙ ap (program.Either c (actions_lineless y)) r))))
+        and-same Action _ _ (sort-same l k Truth e) _ _ (λ c. and-both Block Action _ _ (block-same first) _ _
+        (λ x y q. and-both Block Action _ _ (block-same other) _ _
+        (λ z w r. Oks _ _ (ap (λ v. program.Either c v (actions_lineless z)) q ∙ ap (program.Either c (actions_lineless y)) r))))
     statement-same (tree.While e body) l k = and-same Action _ _ (sort-same l k Truth e) _ _ (λ c. and-both Block Action _ _ (block-same body) _ _ (λ x y q. Oks _ _ (ap (program.While c) q)))
     statement-same (tree.Return e) l k = returned-same l k st.result e
 
     block-same : (b : tree.Phrases) → Agree Block (block st b) (block st' (block_lineless b))
     block-same tree.Empty = Oks _ _ refl
-    block-same (tree.Then line a rest) = and-both Action Block _ _ (statement-same a line 0) _ _ (λ x y q. and-both Block Block _ _ (block-same rest) _ _ (λ z w r. Oks _ _ (ap (λ v. program.Then 0 v (actions_lineless z)) q ∙ ap (program.Then 0 (action_lineless y)) r)))
+    block-same (tree.Then line a rest) = and-both Action Block _ _ (statement-same a line 0) _ _
+        (λ x y q. and-both Block Block _ _ (block-same rest) _ _
+        (λ z w r. Oks _ _ (ap (λ v. program.Then 0 v (actions_lineless z)) q ∙ ap (program.Then 0 (action_lineless y)) r)))
 
 -- ---- declarations
 
@@ -263,7 +279,12 @@ noted-same : (s : Scope) (i : tree.Item) → Agree Noted (noted s i) (noted (sco
 noted-same s (tree.Record line x limit fields) =
     check-both Noted (nat_lt (length s.types) 64) (nat_lt (length s.types) 64) refl (TooMany line) (TooMany 0) _ _ (
     check-both Noted (is_free s x) (is_free (scope_lineless s) x) (free-same s x) (Duplicate line) (Duplicate 0) _ _ (Oks _ _
-    (ap (λ m. record { types = s.types ++ (x, record { number = record { 0 = length s.types + 1 }; members = m }) ∷ []; roots = s.roots; procedures = map (λ p. (p.0, signature_lineless p.1)) s.procedures }) (members-same no_members fields))))
+    (ap (λ m. record {
+      types = s.types ++ (x, record { number = record { 0 = length s.types + 1 }; members = m }) ∷ [];
+      roots = s.roots;
+      procedures =
+          map (λ p. (p.0, signature_lineless p.1)) s.procedures;
+    }) (members-same no_members fields))))
 noted-same s (tree.Root line x kind) =
     check-both Noted (nat_lt (length s.roots.list) MOST_ROOTS) (nat_lt (length s.roots.list) MOST_ROOTS) refl (TooMany line) (TooMany 0) _ _ (
     check-both Noted (is_free s x) (is_free (scope_lineless s) x) (free-same s x) (Duplicate line) (Duplicate 0) _ _ (Oks _ _ refl))
@@ -272,10 +293,35 @@ noted-same s (tree.Procedure p) =
     let many : length (map f s.procedures) ≡ length s.procedures = length-map s.procedures f in
     check-both Noted (nat_lt (length s.procedures) 256) (nat_lt (length (map f s.procedures)) 256) (ap (λ n. nat_lt n 256) (sym many)) (TooMany p.line) (TooMany 0) _ _ (
     check-both Noted (is_free s p.name) (is_free (scope_lineless s) p.name) (free-same s p.name) (Duplicate p.line) (Duplicate 0) _ _ (Oks _ _
-    (ap (λ n. record { types = s.types; roots = s.roots; procedures = map f s.procedures ++ (p.name, record { number = record { 0 = n }; query = p.query; parameters = map local_lineless p.parameters; result = p.result }) ∷ [] }) many
-    ∙ ap (λ ps. record { types = s.types; roots = s.roots; procedures = ps }) (sym (map-append f s.procedures ((p.name, record { number = record { 0 = length s.procedures }; query = p.query; parameters = p.parameters; result = p.result }) ∷ []))))))
+    (ap (λ n. record {
+      types = s.types;
+      roots = s.roots;
+      procedures =
+          map f s.procedures ++ (
+            p.name,
+            record {
+              number = record { 0 = n };
+              query = p.query;
+              parameters = map local_lineless p.parameters;
+              result =
+                  p.result;
+            },
+          ) ∷ [];
+    }) many
+    ∙ ap (λ ps. record { types = s.types; roots = s.roots; procedures = ps })
+    (sym (map-append f s.procedures ((
+      p.name,
+      record {
+        number = record { 0 = length s.procedures };
+        query = p.query;
+        parameters =
+            p.parameters;
+        result = p.result;
+      },
+    ) ∷ []))))))
 
-through-both : {S T A : Type 0} (R : S → T → Type 0) (judge : S → A → Result S TypeFault) (judge' : T → A → Result T TypeFault) (f : A → A) → ((s : S) (t : T) (a : A) → R s t → Agree R (judge s a) (judge' t (f a))) → (xs : List A) (s : S) (t : T) → R s t
+through-both : {S T A : Type 0} (R : S → T → Type 0) (judge : S → A → Result S TypeFault) (judge' : T → A → Result T TypeFault) (f : A → A)
+    → ((s : S) (t : T) (a : A) → R s t → Agree R (judge s a) (judge' t (f a))) → (xs : List A) (s : S) (t : T) → R s t
     → Agree R (through judge s xs) (through judge' t (map f xs))
 through-both R judge judge' f q [] s t r = Oks s t r
 through-both R judge judge' f q (x ∷ xs) s t r = and-both R R _ _ (q s t x r) _ _ (λ a b p. through-both R judge judge' f q xs a b p)
@@ -289,10 +335,14 @@ module _ (s : Scope) where
       let n = field_lineless f in
       let g = with_field m f in
       check-both Same (nat_lt (length m.list) 16) (nat_lt (length m.list) 16) refl (TooMany (field_line f)) (TooMany (field_line n)) _ _ (
-      check-both Same (not (is_named (field_name f) m.list)) (not (is_named (field_name n) m.list)) (ap (λ x. not (is_named x m.list)) (name-same f)) (Duplicate (field_line f)) (Duplicate (field_line n)) _ _ (
+      check-both Same (not (is_named (field_name f) m.list)) (not (is_named (field_name n) m.list)) (ap (λ x. not (is_named x m.list)) (name-same f))
+      (Duplicate (field_line f)) (Duplicate (field_line n)) _ _ (
       check-both Same (is_length_of (field_elements f)) (is_length_of (field_elements n)) (ap is_length_of (elements-same f)) (Limit (field_line f)) (Limit (field_line n)) _ _ (
-      check-both Same (nat_le (elements_with m f) MOST_ELEMENTS) (nat_le (elements_with m n) MOST_ELEMENTS) (ap (λ e. nat_le (m.values + m.pointers + elements_of (length_in e)) MOST_ELEMENTS) (elements-same f)) (TooMany (field_line f)) (TooMany (field_line n)) _ _ (
-      check-both Same (is_known s (field_kind f)) (is_known s' (field_kind n)) (known-same s (field_kind f) ∙ ap (is_known s') (word-same f)) (Unknown (field_line f)) (Unknown (field_line n)) (Ok (with_field m f)) (Ok (with_field m n)) (Oks _ _ (field-kept f))))))
+      check-both Same (nat_le (elements_with m f) MOST_ELEMENTS) (nat_le (elements_with m n) MOST_ELEMENTS)
+      (ap (λ e. nat_le (m.values + m.pointers + elements_of (length_in e)) MOST_ELEMENTS) (elements-same f)) (TooMany (field_line f))
+      (TooMany (field_line n)) _ _ (
+      check-both Same (is_known s (field_kind f)) (is_known s' (field_kind n)) (known-same s (field_kind f) ∙ ap (is_known s') (word-same f))
+      (Unknown (field_line f)) (Unknown (field_line n)) (Ok (with_field m f)) (Ok (with_field m n)) (Oks _ _ (field-kept f))))))
     where
       name-same : (f : tree.FieldText) → field_name f ≡ field_name (field_lineless f)
       name-same (tree.Val line x n) = refl
@@ -318,7 +368,8 @@ module _ (s : Scope) where
       check-both Same (is_known s l.kind) (is_known s' l.kind) (known-same s l.kind) (Unknown l.line) (Unknown 0) (Ok one) (Ok one) (Oks one one refl)))
 
   variables-same : (most : ℕ) (ls : List tree.LocalText) (before : List (List ℕ × Local)) → Agree Same (through (variable s most) before ls) (through (variable s' most) before (map local_lineless ls))
-  variables-same most ls before = through-both Same (variable s most) (variable s' most) local_lineless (λ a b l e. subst (λ b. Agree Same (variable s most a l) (variable s' most b (local_lineless l))) e (variable-same most a l)) ls before before refl
+  variables-same most ls before = through-both Same (variable s most) (variable s' most) local_lineless
+      (λ a b l e. subst (λ b. Agree Same (variable s most a l) (variable s' most b (local_lineless l))) e (variable-same most a l)) ls before before refl
 
   result-same : (r : Option tree.TypeWord) → is_result_known s r ≡ is_result_known s' r
   result-same None = refl
@@ -335,7 +386,17 @@ module _ (s : Scope) where
   abbrev Proc : program.Procedure → program.Procedure → Type 0
   Proc a b = procedure_lineless a ≡ procedure_lineless b
 
-  procedure-same : (p : tree.ProcedureText) (q : tree.ProcedureText) → q ≡ record { line = 0; query = p.query; name = p.name; parameters = map local_lineless p.parameters; result = p.result; locals = map local_lineless p.locals; body = block_lineless p.body } → Agree Proc (procedure s p) (procedure s' q)
+  procedure-same : (p : tree.ProcedureText) (q : tree.ProcedureText)
+      → q ≡ record {
+        line = 0;
+        query = p.query;
+        name = p.name;
+        parameters = map local_lineless p.parameters;
+        result = p.result;
+        locals =
+            map local_lineless p.locals;
+        body = block_lineless p.body;
+      } → Agree Proc (procedure s p) (procedure s' q)
   procedure-same p q e = subst (λ q. Agree Proc (procedure s p) (procedure s' q)) (sym e)
       (and-same Proc _ _ (variables-same 8 p.parameters []) _ _ (λ ps. check-both Proc _ _ (result-same p.result) _ _ _ _ (
       and-same Proc _ _ (variables-same (length ps + 64) p.locals ps) _ _ (λ vs.
@@ -356,7 +417,8 @@ module _ (s : Scope) where
   declared-same : (a b : NamedProgram) (i : tree.Item) → ProgramAlike a b → Agree ProgramAlike (declared s a i) (declared s' b (item_lineless i))
   declared-same a b (tree.Record line x limit fields) r =
       found-both ProgramAlike (limit_of limit) _ _ _ _ (λ n.
-      and-same ProgramAlike _ _ (through-both Same (field s) (field s') field_lineless (λ m m' f e. subst (λ m'. Agree Same (field s m f) (field s' m' (field_lineless f))) e (field-same m f)) fields no_members no_members refl) _ _ (λ m.
+      and-same ProgramAlike _ _ (through-both Same (field s) (field s') field_lineless
+      (λ m m' f e. subst (λ m'. Agree Same (field s m f) (field s' m' (field_lineless f))) e (field-same m f)) fields no_members no_members refl) _ _ (λ m.
       Oks _ _ (record {
         shape = ap (λ z. z ++ shape_of s n m ∷ []) r.shape ∙ ap (λ t. b.shape ++ t ∷ []) (shape-same n m);
         names = ap (λ z. z ++ names_of x m ∷ []) r.names;
@@ -367,7 +429,8 @@ module _ (s : Scope) where
       and-both Proc ProgramAlike _ _ (procedure-same p _ refl) _ _ (λ x y q. Oks _ _ (record {
         shape = r.shape;
         names = r.names;
-        procedures = map-append procedure_lineless a.procedures (x ∷ []) ∙ ap (λ z. z ++ procedure_lineless x ∷ []) r.procedures ∙ ap (λ z. map procedure_lineless b.procedures ++ z ∷ []) q ∙ sym (map-append procedure_lineless b.procedures (y ∷ []));
+        procedures = map-append procedure_lineless a.procedures (x ∷ []) ∙ ap (λ z. z ++ procedure_lineless x ∷ []) r.procedures
+            ∙ ap (λ z. map procedure_lineless b.procedures ++ z ∷ []) q ∙ sym (map-append procedure_lineless b.procedures (y ∷ []));
       }))
 
   root-same : ProgramAlike (root_alone s) (root_alone s')
@@ -375,6 +438,7 @@ module _ (s : Scope) where
 
 pub typing_law : TypingLaw
 typing_law items =
-    and-both Noted ProgramAlike _ _ (through-both Noted noted noted item_lineless (λ s t i e. subst (λ t. Agree Noted (noted s i) (noted t (item_lineless i))) (sym e) (noted-same s i)) items nothing_declared nothing_declared refl) _ _
+    and-both Noted ProgramAlike _ _ (through-both Noted noted noted item_lineless
+    (λ s t i e. subst (λ t. Agree Noted (noted s i) (noted t (item_lineless i))) (sym e) (noted-same s i)) items nothing_declared nothing_declared refl) _ _
     (λ s t e. subst (λ t. Agree ProgramAlike (through (declared s) (root_alone s) items) (through (declared t) (root_alone t) (map item_lineless items))) (sym e)
     (through-both ProgramAlike (declared s) (declared (scope_lineless s)) item_lineless (λ a b i r. declared-same s a b i r) items (root_alone s) (root_alone (scope_lineless s)) (root-same s)))

@@ -42,6 +42,15 @@ abbrev pub StaysBehindLaw : Type 0
 StaysBehindLaw = (m : Meaning) (from old new : History) (script : List (List ℕ)) → IsSoundHistory m from → NoneOpen from → AreAlike m from old new
     → AreAlike m from (state_after (script_of by_tree m) old script) (state_after (script_of by_tree m) new script)
 
+-- the replies to a script on a history
+abbrev pub replies_on : Meaning → History → (script : List (List ℕ)) → List (List ℕ)
+replies_on m h script = pieces_from (script_of by_tree m) h script
+
+-- a script has the same replies on histories that go on alike
+abbrev pub RepliesBehindLaw : Type 0
+RepliesBehindLaw = (m : Meaning) (from old new : History) (script : List (List ℕ)) → IsSoundHistory m from → NoneOpen from → AreAlike m from old new
+    → replies_on m old script ≡ replies_on m new script
+
 -- and the same opening is taken up from both
 abbrev pub TakenUpAlikeLaw : Type 0
 TakenUpAlikeLaw = (m : Meaning) (from old new : History) → IsSoundHistory m from → NoneOpen from → AreAlike m from old new → taken_up m old ≡ taken_up m new
@@ -49,10 +58,6 @@ TakenUpAlikeLaw = (m : Meaning) (from old new : History) → IsSoundHistory m fr
 -- the history that a script from version 0 alone leaves
 abbrev pub left_by : Meaning → (script : List (List ℕ)) → History
 left_by m script = history_after by_tree m script
-
--- the replies to a script on a history
-abbrev pub replies_on : Meaning → History → (script : List (List ℕ)) → List (List ℕ)
-replies_on m h script = pieces_from (script_of by_tree m) h script
 
 -- the replies to a script from an opening
 abbrev pub replies_from : (Meaning → Opening) → Meaning → (script : List (List ℕ)) → List (List ℕ)

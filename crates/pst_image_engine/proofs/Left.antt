@@ -30,7 +30,8 @@ use Rattle.pst_program.specs.Sound.{CountsWithin}
 use Rattle.pst_base.specs.declared.names.Counts.{Counts}
 use Rattle.pst_image_meaning.proofs.Nodes.{slice_get-there}
 
-module _ (H : Type 0) (m : Meaning) (x : Runs Place NodeId (Activation H NodeId Place)) (active : List (OpenEntry H NodeId Place)) (budget next : ℕ) (s : Stored) (h : History) (k : IsStore s) (stand : StandsFor m x active budget next (state_of s) h) where
+module _ (H : Type 0) (m : Meaning) (x : Runs Place NodeId (Activation H NodeId Place)) (active : List (OpenEntry H NodeId Place)) (budget next : ℕ)
+    (s : Stored) (h : History) (k : IsStore s) (stand : StandsFor m x active budget next (state_of s) h) where
   -- version v + 1 is one of the opening, and has one of the first forks
   record IsGiven (v : ℕ) (row : VersionRow Place) (index : ℕ) : Type 0 where
     early : v + 1 < length h.start.heaps
@@ -110,7 +111,8 @@ module _ (H : Type 0) (m : Meaning) (x : Runs Place NodeId (Activation H NodeId 
       }
 
   run_fork : (v : ℕ) (row : VersionRow Place) → slice_get s.versions (suc v) ≡ Some row → HasRunFork v row
-  run_fork v row e = ⊎_elim (λ (early : v + 1 < length h.start.heaps). given_fork v row e early) (λ (late : length h.start.heaps ≤ v + 1). later_fork v row e late) (cases_lt (v + 1) (length h.start.heaps))
+  run_fork v row e = ⊎_elim (λ (early : v + 1 < length h.start.heaps). given_fork v row e early)
+      (λ (late : length h.start.heaps ≤ v + 1). later_fork v row e late) (cases_lt (v + 1) (length h.start.heaps))
 
   same_number : (a b : RunNo) → a.0 ≡ b.0 → a ≡ b
   same_number a b e = λ i. record { 0 = e i }
@@ -123,7 +125,8 @@ module _ (H : Type 0) (m : Meaning) (x : Runs Place NodeId (Activation H NodeId 
     ]
     | inr x ↦ elim q.kind as (λ _. v ≡ w) [
       | inl y ↦ absurd (omega (arith, y.below, x.taken, same))
-      | inr y ↦ let one = stand.sound.apart x.late y.late x.version y.version x.found y.found (same_number x.version.run y.version.run (sym x.run ∙ same ∙ y.run)) in omega (arith, one, x.number, y.number)
+      | inr y ↦ let one = stand.sound.apart x.late y.late x.version y.version x.found y.found
+          (same_number x.version.run y.version.run (sym x.run ∙ same ∙ y.run)) in omega (arith, one, x.number, y.number)
     ]
   ]
 
@@ -153,7 +156,8 @@ pub named_law : NamedLaw
 named_law H m x active budget next s h k stand i l =
     let p = k.born i l in
     let n = (arena s).name i in
-    let there : get (heap_at s.shape (arena s) (begin_of s p.0)) n ≡ Some _ = ap (get (heap_at s.shape (arena s) (begin_of s p.0))) (sym p.2.starts.name) ∙ heap_has s.shape (arena s) (begin_of s p.0) k.arena.chained p.2.first
+    let there : get (heap_at s.shape (arena s) (begin_of s p.0)) n ≡ Some _ =
+    ap (get (heap_at s.shape (arena s) (begin_of s p.0))) (sym p.2.starts.name) ∙ heap_has s.shape (arena s) (begin_of s p.0) k.arena.chained p.2.first
     (lives_first (arena s) i _ _ k.arena.chained p.2) in
     let below = stand.older p.0 p.1 n _ there in
     ⊎_elim

@@ -1,4 +1,5 @@
 pub mod Versions
 pub mod Counted
 pub mod Left
+pub mod Engines
 pub mod Opens

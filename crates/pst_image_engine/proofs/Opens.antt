@@ -40,7 +40,8 @@ module _ (s : Stored) (k : IsStore s) (forks : AreForksOfVersions s) where
       ap (λ (r : VersionRow Place). r.run.0) (one_row s k o.version v o.row row o.at e (sym o.place ∙ x.place))
 
   -- of two versions that of the later run has the later fork
-  later_fork : (v w : ℕ) (a b : VersionRow Place) (e : slice_get s.versions (suc v) ≡ Some a) (f : slice_get s.versions (suc w) ≡ Some b) → a.run.0 < b.run.0 → (forks.all v a e).index < (forks.all w b f).index
+  later_fork : (v w : ℕ) (a b : VersionRow Place) (e : slice_get s.versions (suc v) ≡ Some a) (f : slice_get s.versions (suc w) ≡ Some b)
+      → a.run.0 < b.run.0 → (forks.all v a e).index < (forks.all w b f).index
   later_fork v w a b e f less =
       let x = forks.all v a e in
       let y = forks.all w b f in

@@ -27,7 +27,8 @@ module _ (s : Stored) (next : ℕ) (h : IsStore s) (o : AreInRunOrder s next) wh
         ends = omega (arith, i, f, g);
       }
 
-  siblings : (v w : ℕ) (a b : VersionRow Place) → slice_get s.versions (suc v) ≡ Some a → slice_get s.versions (suc w) ≡ Some b → a.parent.0 ≡ b.parent.0 → a.run.0 < b.run.0 → end_of s b.place < begin_of s a.place
+  siblings : (v w : ℕ) (a b : VersionRow Place) → slice_get s.versions (suc v) ≡ Some a → slice_get s.versions (suc w) ≡ Some b
+      → a.parent.0 ≡ b.parent.0 → a.run.0 < b.run.0 → end_of s b.place < begin_of s a.place
   siblings v w a b ea eb p r =
       let x = o.forks v a ea in
       let y = o.forks w b eb in

@@ -1,5 +1,6 @@
 -- A way to write and a way to read that fit each other: what is read stood there as it is written, and what is written is read again.
-use Rattle.std.proofs.Common.{◌≡◌, ℕ, zero, suc, ◌+◌, ◌^◌, ◌<◌, ◌≤◌, Bool, true, false, cond, ltb, List, [], ◌∷◌, ◌++◌, length, get_or, take, drop, Option, Some, None, refl, sym, ap, subst, ◌∙◌, append_assoc, arith, inl, inr}
+use Rattle.std.proofs.Common.{◌≡◌, ℕ, zero, suc, ◌+◌, ◌^◌, ◌<◌, ◌≤◌, Bool, true, false, cond, ltb, List, [], ◌∷◌, ◌++◌, length, get_or, take, drop, Option}
+use Rattle.std.proofs.Common.{Some, None, refl, sym, ap, subst, ◌∙◌, append_assoc, arith, inl, inr}
 use Rattle.std.specs.Int.{w64, from_be_bytes}
 use Rattle.std.specs.List.{flat_map, AllByRecursion}
 use Rattle.std.proofs.lemmas.Bool.{cases_lt, ltb-false, ltb-true, le-ltb, lt-ltb}
@@ -79,7 +80,11 @@ number_takes s n rest fits e =
     let n-is : from_be_bytes w64 (take 8 s) ≡ n = ap (λ (p : ℕ × List ℕ). p.0) g.1 in
     let rest-is : drop 8 s ≡ rest = ap (λ (p : ℕ × List ℕ). p.1) g.1 in
     let front : number n ≡ take 8 s = ap number (sym n-is) ∙ number_back (take 8 s) (omega (arith, length-take 8 s)) (IsBytes-take 8 s fits) in (
-      record { parts = sym (take-append-drop 8 s) ∙ ap (λ (x : List ℕ). x ++ drop 8 s) (sym front) ∙ ap (λ (x : List ℕ). number n ++ x) rest-is; rest_fits = subst IsBytes rest-is (IsBytes-drop 8 s fits) },
+      record {
+        parts = sym (take-append-drop 8 s) ∙ ap (λ (x : List ℕ). x ++ drop 8 s) (sym front)
+            ∙ ap (λ (x : List ℕ). number n ++ x) rest-is;
+        rest_fits = subst IsBytes rest-is (IsBytes-drop 8 s fits);
+      },
       subst (λ (k : ℕ). k < 2 ^ 64) n-is (number_below (take 8 s) (IsBytes-take 8 s fits)),
     )
 
@@ -140,7 +145,8 @@ times_takes {A} a f p ca (suc n) s xs rest fits e =
     let joined = Takes-then s (f one.0.0) one.0.1 (flat_map f two.0.0) two.0.1 first.0 second.0 in
     subst (λ (r : List A × List ℕ). Takes s (flat_map f r.0) r.1 × ((length r.0 ≡ suc n) × AllByRecursion p r.0)) same (rw flat_map-cons joined, (ap suc second.1.0, (first.1, second.1.1)))
 
-times_again : {A : Type 0} (a : Read A) (f : A → List ℕ) (p : A → Type 0) → IsCode a f p → (xs : List A) (rest : List ℕ) → AllByRecursion p xs → times a (length xs) (flat_map f xs ++ rest) ≡ Some (xs, rest)
+times_again : {A : Type 0} (a : Read A) (f : A → List ℕ) (p : A → Type 0) → IsCode a f p → (xs : List A) (rest : List ℕ) → AllByRecursion p xs
+    → times a (length xs) (flat_map f xs ++ rest) ≡ Some (xs, rest)
 times_again a f p ca [] rest h = refl
 times_again {A} a f p ca (x ∷ xs) rest h =
     let regrouped : flat_map f (x ∷ xs) ++ rest ≡ f x ++ (flat_map f xs ++ rest) = ap (λ (y : List ℕ). y ++ rest) (flat_map-cons f x xs) ∙ append_assoc (f x) (flat_map f xs) rest in
@@ -148,7 +154,8 @@ times_again {A} a f p ca (x ∷ xs) rest h =
     ∙ ap (λ (o : Option (List A × List ℕ)). o >>= λ ys. Some (x ∷ ys.0, ys.1)) (times_again a f p ca xs rest h.1))
 
 -- how many, and then each of them
-pub counted_code : {A : Type 0} (limit : ℕ) (a : Read A) (f : A → List ℕ) (p : A → Type 0) → limit ≤ 2 ^ 64 → IsCode a f p → IsCode (read_counted limit a) (counted f) (λ xs. (length xs < limit) × AllByRecursion p xs)
+pub counted_code : {A : Type 0} (limit : ℕ) (a : Read A) (f : A → List ℕ) (p : A → Type 0) → limit ≤ 2 ^ 64 → IsCode a f p
+    → IsCode (read_counted limit a) (counted f) (λ xs. (length xs < limit) × AllByRecursion p xs)
 counted_code {A} limit a f p le ca = record {
   takes = λ s xs rest fits e.
       let one = bind_some (below limit s) (λ n. times a n.0 n.1) (xs, rest) e in
@@ -158,7 +165,8 @@ counted_code {A} limit a f p le ca = record {
       subst (λ (n : ℕ). Takes s (number n ++ flat_map f xs) rest × ((n < limit) × AllByRecursion p xs)) (sym second.1.0) (joined, (first.1, second.1.1));
   again = λ xs rest h.
       let regrouped : counted f xs ++ rest ≡ number (length xs) ++ (flat_map f xs ++ rest) = append_assoc (number (length xs)) (flat_map f xs) rest in
-      ap (read_counted limit a) regrouped ∙ (ap (λ (o : Option (ℕ × List ℕ)). o >>= λ n. times a n.0 n.1) ((below_code limit le).again (length xs) (flat_map f xs ++ rest) h.0) ∙ times_again a f p ca xs rest h.1);
+      ap (read_counted limit a) regrouped ∙ (ap (λ (o : Option (ℕ × List ℕ)). o >>= λ n. times a n.0 n.1)
+      ((below_code limit le).again (length xs) (flat_map f xs ++ rest) h.0) ∙ times_again a f p ca xs rest h.1);
 }
 
 -- ---- the parts of a thing, put together
@@ -169,7 +177,8 @@ pub record IsMade {A B : Type 0} (f : A → List ℕ) (p : A → Type 0) (g : B 
   pub fitting : (a : A) → p a → q (make a)
   pub parted : (b : B) → q b → p (parts b)
 
-pub made_code : {A B : Type 0} (a : Read A) (f : A → List ℕ) (p : A → Type 0) (g : B → List ℕ) (q : B → Type 0) (make : A → B) (parts : B → A) → IsMade f p g q make parts → IsCode a f p → IsCode (made make a) g q
+pub made_code : {A B : Type 0} (a : Read A) (f : A → List ℕ) (p : A → Type 0) (g : B → List ℕ) (q : B → Type 0) (make : A → B) (parts : B → A)
+    → IsMade f p g q make parts → IsCode a f p → IsCode (made make a) g q
 made_code {A} {B} a f p g q make parts m ca = record {
   takes = λ s b rest fits e.
       let one = bind_some (a s) (λ x. Some (make x.0, x.1)) (b, rest) e in
@@ -179,7 +188,8 @@ made_code {A} {B} a f p g q make parts m ca = record {
       subst (λ (r : B × List ℕ). Takes s (g r.0) r.1 × q r.0) same (there, m.fitting one.0.0 first.1);
   again = λ b rest h.
       let bytes : g b ≡ f (parts b) = ap g (sym (m.same b)) ∙ m.written (parts b) in
-      ap (λ (t : List ℕ). made make a (t ++ rest)) bytes ∙ (ap (λ (o : Option (A × List ℕ)). o >>= λ x. Some (make x.0, x.1)) (ca.again (parts b) rest (m.parted b h)) ∙ ap (λ (x : B). Some (x, rest)) (m.same b));
+      ap (λ (t : List ℕ). made make a (t ++ rest)) bytes ∙ (ap (λ (o : Option (A × List ℕ)). o >>= λ x. Some (make x.0, x.1))
+      (ca.again (parts b) rest (m.parted b h)) ∙ ap (λ (x : B). Some (x, rest)) (m.same b));
 }
 
 -- ---- texts

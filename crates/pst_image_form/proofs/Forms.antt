@@ -8,14 +8,17 @@ use Rattle.std.proofs.lemmas.Slice.Eq.{bytes_eq-Decides}
 use Rattle.pst_image_form.specs.declared.fault.FormFault.{FormFault}
 use Rattle.pst_image_form.specs.declared.fault.FormFault.TheVariants.{Form, Memory}
 use Rattle.pst_image_form.specs.declared.parts.ImageParts.{ImageParts}
-use Rattle.pst_image_form.specs.Bytes.{number, counted, text_bytes, version_bytes, stamp_bytes, node_bytes, counts_bytes, magic, body_bytes, image_bytes, FitsVersion, FitsStamp, FitsNode, FitsCounts, Fits64, Fits, HasForm, FormIsOne}
-use Rattle.pst_image_form.specs.Reading.{Fails, IsMemory, read_number, read_32, below, both, read_counted, read_text, make_version, make_stamp, make_counts, read_counts, make_node, make_image, read_version, read_stamp, read_node, read_body, read_front}
+use Rattle.pst_image_form.specs.Bytes.{number, counted, text_bytes, version_bytes, stamp_bytes, node_bytes, counts_bytes, magic, body_bytes, image_bytes}
+use Rattle.pst_image_form.specs.Bytes.{FitsVersion, FitsStamp, FitsNode, FitsCounts, Fits64, Fits, HasForm, FormIsOne}
+use Rattle.pst_image_form.specs.Reading.{Fails, IsMemory, read_number, read_32, below, both, read_counted, read_text, make_version, make_stamp, make_counts}
+use Rattle.pst_image_form.specs.Reading.{read_counts, make_node, make_image, read_version, read_stamp, read_contents, read_node, read_body, read_front}
 use Rattle.pst_image_form.proofs.Codes.{IsBytes, IsBytes-drop, IsCode, test_some, some_is, number_code, below_code, both_code, counted_code, made_code, text_code}
 
 code32 : IsCode read_32 number (λ n. n < 2 ^ 32)
 code32 = below_code (2 ^ 32) (lit≤ tt)
 
-version_fields : IsCode (both read_32 (both read_32 (both read_32 read_32))) (λ p. number p.0 ++ (number p.1.0 ++ (number p.1.1.0 ++ number p.1.1.1))) (λ p. (p.0 < 2 ^ 32) × ((p.1.0 < 2 ^ 32) × ((p.1.1.0 < 2 ^ 32) × (p.1.1.1 < 2 ^ 32))))
+version_fields : IsCode (both read_32 (both read_32 (both read_32 read_32))) (λ p. number p.0 ++ (number p.1.0 ++ (number p.1.1.0 ++ number p.1.1.1)))
+    (λ p. (p.0 < 2 ^ 32) × ((p.1.0 < 2 ^ 32) × ((p.1.1.0 < 2 ^ 32) × (p.1.1.1 < 2 ^ 32))))
 version_fields = both_code _ _ _ _ _ _ code32 (both_code _ _ _ _ _ _ code32 (both_code _ _ _ _ _ _ code32 code32))
 
 pub version_code : IsCode read_version version_bytes FitsVersion
@@ -40,7 +43,8 @@ stamp_code = made_code _ _ _ _ _ make_stamp (λ s. (s.slot.0, (s.place, s.conten
 }) stamp_fields
 
 node_fields : IsCode (both read_32 (both read_32 (both (below (2 ^ 8)) (both read_32 (both read_32 (both read_number (both (read_counted (2 ^ 16) read_number) (read_counted (2 ^ 64) read_stamp))))))))
-    (λ p. number p.0 ++ (number p.1.0 ++ (number p.1.1.0 ++ (number p.1.1.1.0 ++ (number p.1.1.1.1.0 ++ (number p.1.1.1.1.1.0 ++ (counted number p.1.1.1.1.1.1.0 ++ counted stamp_bytes p.1.1.1.1.1.1.1)))))))
+    (λ p. number p.0 ++ (number p.1.0 ++ (number p.1.1.0 ++ (number p.1.1.1.0 ++
+    (number p.1.1.1.1.0 ++ (number p.1.1.1.1.1.0 ++ (counted number p.1.1.1.1.1.1.0 ++ counted stamp_bytes p.1.1.1.1.1.1.1)))))))
     (λ p. (p.0 < 2 ^ 32) × ((p.1.0 < 2 ^ 32) × ((p.1.1.0 < 2 ^ 8) × ((p.1.1.1.0 < 2 ^ 32) × ((p.1.1.1.1.0 < 2 ^ 32) × ((p.1.1.1.1.1.0 < 2 ^ 64)
     × (((length p.1.1.1.1.1.1.0 < 2 ^ 16) × AllByRecursion Fits64 p.1.1.1.1.1.1.0) × ((length p.1.1.1.1.1.1.1 < 2 ^ 64) × AllByRecursion FitsStamp p.1.1.1.1.1.1.1))))))))
 node_fields =
@@ -48,11 +52,23 @@ node_fields =
     (both_code _ _ _ _ _ _ number_code (both_code _ _ _ _ _ _ (counted_code (2 ^ 16) _ _ _ (lit≤ tt) number_code) (counted_code (2 ^ 64) _ _ _ (lit≤ tt) stamp_code)))))))
 
 pub node_code : IsCode read_node node_bytes FitsNode
-unfolding read_node
+unfolding read_node read_contents
 node_code = made_code _ _ _ _ _ make_node (λ k. (k.name.run.0, (k.name.ordinal, (k.ty.0, (k.lo, (k.hi, (k.later, (k.bases, k.stamps)))))))) (record {
   same = λ k. refl;
   written = λ p. refl;
-  fitting = λ p h. record { run = h.0; ordinal = h.1.0; ty = h.1.1.0; lo = h.1.1.1.0; hi = h.1.1.1.1.0; later = h.1.1.1.1.1.0; slots = h.1.1.1.1.1.1.0.0; bases = h.1.1.1.1.1.1.0.1; stamped = h.1.1.1.1.1.1.1.0; stamps = h.1.1.1.1.1.1.1.1 };
+  fitting = λ p h. record {
+    run = h.0;
+    ordinal = h.1.0;
+    ty = h.1.1.0;
+    lo = h.1.1.1.0;
+    hi = h.1.1.1.1.0;
+    later = h.1.1.1.1.1.0;
+    slots =
+        h.1.1.1.1.1.1.0.0;
+    bases = h.1.1.1.1.1.1.0.1;
+    stamped = h.1.1.1.1.1.1.1.0;
+    stamps = h.1.1.1.1.1.1.1.1;
+  };
   parted = λ k h. (h.run, (h.ordinal, (h.ty, (h.lo, (h.hi, (h.later, ((h.slots, h.bases), (h.stamped, h.stamps))))))));
 }) node_fields
 

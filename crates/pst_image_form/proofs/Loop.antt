@@ -28,7 +28,8 @@ ends a Form front count i bytes total lt h so_far =
     let one : with_front front (times a (count - i) bytes) ≡ None = rw (k, h) refl in
     sym so_far ∙ one
 
-pub is_done : {A : Type 0} (a : Read A) (front : List A) (count i : ℕ) (bytes : List ℕ) (total : Option (List A × List ℕ)) → count ≤ i → with_front front (times a (count - i) bytes) ≡ total → total ≡ Some (front, bytes)
+pub is_done : {A : Type 0} (a : Read A) (front : List A) (count i : ℕ) (bytes : List ℕ) (total : Option (List A × List ℕ)) → count ≤ i
+    → with_front front (times a (count - i) bytes) ≡ total → total ≡ Some (front, bytes)
 is_done {A} a front count i bytes total le so_far =
     let k : count - i ≡ 0 = omega arith in
     let one : with_front front (times a (count - i) bytes) ≡ Some (front, bytes) = rw k (ap (λ (ns : List A). Some (ns, bytes)) (append-nil front)) in

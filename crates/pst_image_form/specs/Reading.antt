@@ -121,9 +121,11 @@ read_version = made make_version (both read_32 (both read_32 (both read_32 read_
 unfoldable pub read_stamp : Read StampPart
 read_stamp = made make_stamp (both (below (2 ^ 16)) (both read_32 read_number))
 
+unfoldable pub read_contents : Read (List ℕ × List StampPart)
+read_contents = both (read_counted (2 ^ 16) read_number) (read_counted (2 ^ 64) read_stamp)
+
 unfoldable pub read_node : Read NodePart
-read_node = made make_node (both read_32 (both read_32 (both (below (2 ^ 8)) (both read_32 (both read_32 (both read_number
-    (both (read_counted (2 ^ 16) read_number) (read_counted (2 ^ 64) read_stamp))))))))
+read_node = made make_node (both read_32 (both read_32 (both (below (2 ^ 8)) (both read_32 (both read_32 (both read_number read_contents))))))
 
 unfoldable pub read_counts : Read Counts
 read_counts = made make_counts (both read_number (both read_number read_number))

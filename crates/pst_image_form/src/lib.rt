@@ -19,7 +19,7 @@ mod read;
 mod write;
 
 pub use fault::FormFault;
-pub use laws::form_is_one;
-pub use parts::{Image, ImageParts, NodePart, StampPart, VersionPart};
+pub use laws::{entry_slots_in_digits, form_is_one};
+pub use parts::{ENTRY_SLOTS, Image, ImageParts, NodePart, StampPart, VersionPart};
 pub use read::read_image;
 pub use write::write_image;

@@ -2,6 +2,9 @@
 
 use pst_base::{Counts, Items, Name, RunNo, SlotNo, Text, TypeNo, VersionNo};
 
+/// How many numbers of slots an entry tells apart: slot `f` of node `x` is the number `(x + 1) * ENTRY_SLOTS + f`.
+pub const ENTRY_SLOTS: u64 = 128;
+
 /// A version: a node of the version tree, and its stretch of the list of places.
 #[derive(Clone, Copy)]
 pub struct VersionPart {

@@ -2,7 +2,7 @@
 
 ghost use Rattle.std.specs.Prelude.{◌≡◌, ℕ, ◌^◌, List, Option, IfOk};
 ghost use Rattle.pst_image_form.specs.Bytes.{HasForm};
-ghost use Rattle.pst_image_form.specs.Reading.{Gives, ReadsAs, read_number, below, read_32, times, read_counted, read_text, read_version, read_stamp, read_node, read_counts, read_body, read_front};
+ghost use Rattle.pst_image_form.specs.Reading.{Gives, ReadsAs, read_number, below, read_32, times, read_counted, read_text, read_version, read_stamp, read_contents, read_node, read_counts, read_body, read_front};
 ghost use Rattle.pst_image_form.specs.declared.parts.ImageParts.{ImageParts};
 
 use crate::fault::FormFault;
@@ -158,6 +158,21 @@ fn parts<T: Part>(alloc: Global, count: u64, bytes: &[u8]) -> Result<(Items<T>, 
     Ok((Items::from_vec(items), rest))
 }
 
+/// What a node holds: a base for each slot, and what is stamped.
+#[tactic(auto, unfolding(crate::specs::Reading::read_contents))]
+fn contents(
+    alloc: Global,
+    bytes: &[u8],
+) -> Result<((Items<u64>, Items<StampPart>), &[u8]), FormFault>
+    ensures { Gives (λ x. (x.0, x.1.now)) result (read_contents bytes.now) }
+{
+    let (slots, rest) = number16(bytes)?;
+    let (bases, rest) = parts::<u64>(alloc, u64::from(slots), rest)?;
+    let (stamped, rest) = number(rest)?;
+    let (stamps, rest) = parts::<StampPart>(alloc, stamped, rest)?;
+    Ok(((bases, stamps), rest))
+}
+
 #[tactic(auto, unfolding(crate::specs::Reading::read_node))]
 fn node(alloc: Global, bytes: &[u8]) -> Result<(NodePart, &[u8]), FormFault>
     ensures { Gives (λ x. (x.0, x.1.now)) result (read_node bytes.now) }
@@ -168,10 +183,7 @@ fn node(alloc: Global, bytes: &[u8]) -> Result<(NodePart, &[u8]), FormFault>
     let (lo, rest) = number32(rest)?;
     let (hi, rest) = number32(rest)?;
     let (later, rest) = number(rest)?;
-    let (slots, rest) = number16(rest)?;
-    let (bases, rest) = parts::<u64>(alloc, u64::from(slots), rest)?;
-    let (stamped, rest) = number(rest)?;
-    let (stamps, rest) = parts::<StampPart>(alloc, stamped, rest)?;
+    let ((bases, stamps), rest) = contents(alloc, rest)?;
     let node = NodePart {
         name: Name {
             run: RunNo(run),

@@ -11,7 +11,7 @@ use Rattle.pst_image_meaning.proofs.Nodes.{are_nodes}
 use Rattle.pst_image_meaning.proofs.MirrorParts.{entered, pointed}
 use Rattle.pst_image_meaning.proofs.Versions.{shown}
 use Rattle.pst_image_meaning.proofs.ChainsParts.{chained}
-use Rattle.pst_image_meaning.proofs.Parts.{bounded, within, in_range}
+use Rattle.pst_image_meaning.proofs.PartBounds.{bounded, within, in_range}
 
 module _ (s : Stored) (text : List ℕ) (next budget : ℕ) (h : IsStore s) (q : AreSmall s) (left : IsLeftStore s next) (n : AreNumbers next budget) where
   pub all_hold : (rule : Rule) → Holds s.shape (parts_of s text next budget) rule

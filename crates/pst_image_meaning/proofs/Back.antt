@@ -37,7 +37,8 @@ bases_back : (t : TypeShape) (stamps : List Stamp) (j k : ℕ) (ns : List ℕ)
     → ((g m : ℕ) → m ≡ j + g → g < length ns → content_number (content_of t m (get_or ns g 0)) ≡ get_or ns g 0)
     → map (λ c. content_number c.content) (slots_from stamps k (contents_from t j ns)) ≡ ns
 bases_back t stamps j k [] h = refl
-bases_back t stamps j k (n ∷ ns) h = ap₂ (λ (x : ℕ) (xs : List ℕ). x ∷ xs) (h 0 j (omega arith) (omega arith)) (bases_back t stamps (suc j) (suc k) ns (λ g m e l. h (suc g) m (omega (arith, e)) (omega (arith, l))))
+bases_back t stamps j k (n ∷ ns) h = ap₂ (λ (x : ℕ) (xs : List ℕ). x ∷ xs) (h 0 j (omega arith) (omega arith))
+    (bases_back t stamps (suc j) (suc k) ns (λ g m e l. h (suc g) m (omega (arith, e)) (omega (arith, l))))
 
 -- ---- versions
 
@@ -116,7 +117,9 @@ module _ (s : Stored) (p : ImageParts) (h : Given s p) where
 
     part_back : node_part r (node_of s.shape k) ≡ k
     part_back =
-        let bases = bases_back t (map (stamp_made t) k.stamps) 0 0 k.bases (λ g m e l. subst (λ (m : ℕ). content_number (content_of t m (get_or k.bases g 0)) ≡ get_or k.bases g 0) (sym (let q : m ≡ g = omega (arith, e) in q)) (base_back g l)) in
+        let bases = bases_back t (map (stamp_made t) k.stamps) 0 0 k.bases
+        (λ g m e l. subst (λ (m : ℕ). content_number (content_of t m (get_or k.bases g 0)) ≡ get_or k.bases g 0)
+        (sym (let q : m ≡ g = omega (arith, e) in q)) (base_back g l)) in
         let stamps = map-back (stamp_made t) (stamp_part r) k.stamps no_stamp stamp_back in
         λ i. record { name = k.name; ty = k.ty; lo = lo_placed i; hi = hi_placed i; later = link_back k.later i; bases = bases i; stamps = stamps i }
 
@@ -142,8 +145,10 @@ module _ (s : Stored) (p : ImageParts) (h : Given s p) where
   version_same : (v : ℕ) (row : VersionRow Place) → slice_get s.versions v ≡ Some row → version_part r row ≡ version_part (λ n. n) row
   version_same v row e =
       let there = version_there v row e in
-      let begin : row.place.begin.0 < p.places = (let low = begins_there p.versions p.places p.next_run.0 some h.nested v there in omega (arith, low, ap (λ (q : VersionPart). q.begin) (row_is v row e))) in
-      let end : row.place.end.0 < p.places = (let high = ends_there p.versions p.places p.next_run.0 some h.nested (suc v) v (omega arith) there in omega (arith, high, ap (λ (q : VersionPart). q.end) (row_is v row e))) in
+      let begin : row.place.begin.0 < p.places = (let low = begins_there p.versions p.places p.next_run.0 some h.nested v there in
+      omega (arith, low, ap (λ (q : VersionPart). q.begin) (row_is v row e))) in
+      let end : row.place.end.0 < p.places = (let high = ends_there p.versions p.places p.next_run.0 some h.nested (suc v) v (omega arith) there in
+      omega (arith, high, ap (λ (q : VersionPart). q.end) (row_is v row e))) in
       λ i. record { parent = row.parent; run = row.run; begin = placed row.place.begin.0 begin i; end = placed row.place.end.0 end i }
 
   pub versions_shown : version_parts s ≡ p.versions

@@ -214,7 +214,11 @@ module _ (s : Stored) (p : ImageParts) (h : Given s p) where
   held_by : (i : ℕ) (n : Node) → slice_get s.nodes i ≡ Some n → IsHeldBy n
   held_by i n e =
       let l = part_there s p h i n e in
-      subst IsHeldBy (sym (node_is s p h i n e)) (record { bases = base_any (node_at p.nodes i) (is_node s p h i l) (fits_node s p h i l); stamps = stamp_any (node_at p.nodes i) (is_node s p h i l) (fits_node s p h i l) })
+      subst IsHeldBy (sym (node_is s p h i n e)) (record {
+        bases = base_any (node_at p.nodes i) (is_node s p h i l) (fits_node s p h i l);
+        stamps =
+            stamp_any (node_at p.nodes i) (is_node s p h i l) (fits_node s p h i l);
+      })
 
   pub any : (i : ℕ) (n : Node) → slice_get s.nodes i ≡ Some n → (g m : ℕ) → IsAny s.shape p.nodes n.head.ty g (content_in r n.row g m)
   any i n e = (let b = held_by i n e in at_all r n.row (IsAny s.shape p.nodes n.head.ty) b.bases b.stamps)
@@ -237,5 +241,6 @@ module _ (s : Stored) (p : ImageParts) (h : Given s p) where
       let b = held_by i n e in
       record {
         bases = λ g l. short_any n.head.ty g (base_in n.row g) (b.bases g);
-        stamps = λ k l. short_any n.head.ty (get_or n.row.stamps k no_stamp_of).slot.0 (get_or n.row.stamps k no_stamp_of).content (b.stamps k (get_or n.row.stamps k no_stamp_of) (slice_get-get_or n.row.stamps k no_stamp_of l));
+        stamps = λ k l. short_any n.head.ty (get_or n.row.stamps k no_stamp_of).slot.0 (get_or n.row.stamps k no_stamp_of).content
+            (b.stamps k (get_or n.row.stamps k no_stamp_of) (slice_get-get_or n.row.stamps k no_stamp_of l));
       }

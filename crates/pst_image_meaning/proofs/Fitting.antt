@@ -34,7 +34,8 @@ none_field t g e = ⊎_elim
     (λ (le : element_count t ≤ g). le)
     (cases_lt g (element_count t))
 
-module _ (shape : List TypeShape) (ks : List NodePart) (kty : TypeNo) (ty : ℕ → TypeNo) (same : (y : ℕ) → y < length ks → (node_at ks y).ty.0 ≡ (ty y).0) (g : ℕ) (below : g < slot_count (type_at shape kty)) where
+module _ (shape : List TypeShape) (ks : List NodePart) (kty : TypeNo) (ty : ℕ → TypeNo)
+    (same : (y : ℕ) → y < length ks → (node_at ks y).ty.0 ≡ (ty y).0) (g : ℕ) (below : g < slot_count (type_at shape kty)) where
   abbrev t : TypeShape
   t = type_at shape kty
 

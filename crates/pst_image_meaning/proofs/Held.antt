@@ -10,10 +10,12 @@ use Rattle.pst_rows.specs.Values.{RowValue, base_in, stamp_at, stamps_in, conten
 -- what is stamped is the content of a stamp of the slot
 stamped-is : (r : ℕ → ℕ) (es : List Stamp) (g n : ℕ) (c : Content) → stamp_at r es g n ≡ Some c → (k : ℕ) × (e : Stamp) × (slice_get es k ≡ Some e) × (e.slot.0 ≡ g) × (e.content ≡ c)
 stamped-is r [] g n c x = absurd (cc)
-stamped-is r (e ∷ es) g n c x = elim (eqb e.slot.0 g && eqb (r e.place.0) n) as (λ b. (eqb e.slot.0 g && eqb (r e.place.0) n) ≡ b → cond b (Some e.content) (stamp_at r es g n) ≡ Some c → (k : ℕ) × (f : Stamp) × (slice_get (e ∷ es) k ≡ Some f) × (f.slot.0 ≡ g) × (f.content ≡ c)) [
-  | true ↦ λ q y. (0, e, refl, eqb-true e.slot.0 g (first (eqb e.slot.0 g) (eqb (r e.place.0) n) q), cc)
-  | false ↦ λ q y. (let z = stamped-is r es g n c y in (suc z.0, z.1, z.2, z.3, z.4))
-] refl x
+stamped-is r (e ∷ es) g n c x = elim (eqb e.slot.0 g && eqb (r e.place.0) n) as
+    (λ b. (eqb e.slot.0 g && eqb (r e.place.0) n) ≡ b → cond b (Some e.content) (stamp_at r es g n) ≡ Some c → (k : ℕ) × (f : Stamp)
+    × (slice_get (e ∷ es) k ≡ Some f) × (f.slot.0 ≡ g) × (f.content ≡ c)) [
+      | true ↦ λ q y. (0, e, refl, eqb-true e.slot.0 g (first (eqb e.slot.0 g) (eqb (r e.place.0) n) q), cc)
+      | false ↦ λ q y. (let z = stamped-is r es g n c y in (suc z.0, z.1, z.2, z.3, z.4))
+    ] refl x
   where
     first : (a b : Bool) → (a && b) ≡ true → a ≡ true
     first true b q = refl

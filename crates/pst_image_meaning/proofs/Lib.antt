@@ -14,13 +14,13 @@ pub mod MirrorStore
 pub mod Narrow
 pub mod Nodes
 pub mod Numbers
-pub mod Parts
+pub mod PartBounds
 pub mod Places
 pub mod Rebuilt
 pub mod RowsParts
 pub mod RowsStore
-pub mod Rules
+pub mod StoreRules
 pub mod Shown
-pub mod Store
+pub mod StoreBounds
 pub mod Versions
 pub mod Whole

@@ -23,7 +23,7 @@ use Rattle.pst_image_rules.specs.Segments.{begins, ends}
 use Rattle.pst_image_rules.specs.Mirror.{IsPointerSlot, shape_of}
 use Rattle.pst_image_rules.specs.Sides.{AreTyped}
 use Rattle.pst_image_rules.specs.Laws.{IsSegment}
-use Rattle.pst_image_rules.proofs.Mirror.{few_elements}
+use Rattle.pst_image_rules.proofs.MirrorSizes.{few_elements}
 use Rattle.pst_image_rules.proofs.Following.{segments_follow}
 use Rattle.pst_image_meaning.specs.Parts.{content_number, node_part}
 use Rattle.pst_image_meaning.proofs.RowsParts.{begun, begins_held, piece}

@@ -1,5 +1,6 @@
 -- What a store shows as nodes are nodes of their types.
-use Rattle.std.proofs.Common.{◌≡◌, ◌≢◌, ℕ, zero, suc, ◌+◌, ◌-◌, ◌<◌, ◌≤◌, Bool, true, false, cond, List, [], ◌∷◌, length, get_or, map, Option, Some, None, refl, sym, ap, ◌∙◌, subst, inl, inr, ⊎_elim, arith}
+use Rattle.std.proofs.Common.{◌≡◌, ◌≢◌, ℕ, zero, suc, ◌+◌, ◌-◌, ◌<◌, ◌≤◌, Bool, true, false, cond, List, [], ◌∷◌, length, get_or, map, Option, Some, None, refl}
+use Rattle.std.proofs.Common.{sym, ap, ◌∙◌, subst, inl, inr, ⊎_elim, arith}
 use Rattle.std.specs.Prelude.{slice_get}
 use Rattle.std.specs.Option.{option_map}
 use Rattle.std.proofs.lemmas.Bool.{cases_eq, cases_Bool, le-ltb, lt-ltb}
@@ -142,7 +143,9 @@ module _ (s : Stored) (h : IsStore s) where
     where
       few : element_count (type_at s.shape ty) ≤ 64
       few = ⊎_elim
-          (λ (root : ty.0 ≡ 0). let fields : element_count (type_at s.shape root_type) ≤ 32 = h.valid.root_fields in let same : element_count (type_at s.shape ty) ≡ element_count (type_at s.shape root_type) = ap (λ (n : ℕ). element_count (type_at s.shape (record { 0 = n }))) root in omega (arith, fields, same))
+          (λ (root : ty.0 ≡ 0). let fields : element_count (type_at s.shape root_type) ≤ 32 = h.valid.root_fields in
+          let same : element_count (type_at s.shape ty) ≡ element_count (type_at s.shape root_type) =
+          ap (λ (n : ℕ). element_count (type_at s.shape (record { 0 = n }))) root in omega (arith, fields, same))
           (λ (other : ty.0 ≢ 0). h.valid.elements ty (omega (arith, other)) known)
           (cases_eq ty.0 0)
 
@@ -205,7 +208,8 @@ module _ (s : Stored) (h : IsStore s) where
     fewer : (j : ℕ) → j < length (node_part r n).stamps → j < length n.row.stamps
     fewer j l = omega (arith, l, length-map n.row.stamps (stamp_part r))
 
-    inside : (j : ℕ) → j < length n.row.stamps → ((get_or n.row.stamps j no_stamp_of).slot.0 < length n.row.slots) × (r n.row.lo.0 < r (get_or n.row.stamps j no_stamp_of).place.0) × (r (get_or n.row.stamps j no_stamp_of).place.0 < r n.row.hi.0)
+    inside : (j : ℕ) → j < length n.row.stamps → ((get_or n.row.stamps j no_stamp_of).slot.0 < length n.row.slots)
+        × (r n.row.lo.0 < r (get_or n.row.stamps j no_stamp_of).place.0) × (r (get_or n.row.stamps j no_stamp_of).place.0 < r n.row.hi.0)
     inside j l = stamp_inside r (r n.row.lo.0) (r n.row.hi.0) (length n.row.slots) n.row.stamps v.stamps j l
 
     after_by : (a b : Stamp) → IsBefore r a b → IsAfter (stamp_part r a) (stamp_part r b)
@@ -221,7 +225,8 @@ module _ (s : Stored) (h : IsStore s) where
     pub lives_at : (j : ℕ) → j < length n.row.stamps → IsIn (arena s) i (r (get_or n.row.stamps j no_stamp_of).place.0)
     lives_at j l = let p = inside j l in in_life i n e (r (get_or n.row.stamps j no_stamp_of).place.0) (omega (arith, p.1)) p.2
 
-    pub stamp_held : (j : ℕ) → j < length n.row.stamps → (arena s).chart.holds i (get_or n.row.stamps j no_stamp_of).slot.0 (r (get_or n.row.stamps j no_stamp_of).place.0) ≡ (get_or n.row.stamps j no_stamp_of).content
+    pub stamp_held : (j : ℕ) → j < length n.row.stamps → (arena s).chart.holds i (get_or n.row.stamps j no_stamp_of).slot.0
+        (r (get_or n.row.stamps j no_stamp_of).place.0) ≡ (get_or n.row.stamps j no_stamp_of).content
     stamp_held j l =
         let e0 = get_or n.row.stamps j no_stamp_of in
         let p = inside j l in

@@ -15,7 +15,7 @@ use Rattle.pst_image_meaning.proofs.RowsStore.{rows, wide, known, kinds}
 use Rattle.pst_image_meaning.proofs.Contents.{short}
 use Rattle.pst_image_meaning.proofs.ChainsStore.{chains, types, root_type_is, root_alone, relic, inside}
 use Rattle.pst_image_meaning.proofs.MirrorStore.{segments}
-use Rattle.pst_image_meaning.proofs.Store.{two, most, spent, runs, versions, bounded, small, left}
+use Rattle.pst_image_meaning.proofs.StoreBounds.{two, most, spent, runs, versions, bounded, small, left}
 
 module _ (s : Stored) (p : ImageParts) (h : Given s p) where
   taken : IsTaken s p.next_run.0

@@ -85,7 +85,8 @@ module _ (r : ℕ → ℕ) (places : ℕ) (n : Node) (v : IsValue r places n.row
 
       other : a ≢ r n.row.lo.0 → IsHeld r n g a c
       other not = ⊎_elim
-          (λ (none : stamps_in r n.row g a ≡ None). absurd (let z : option_map content_number (stamps_in r n.row g a) ≡ Some c = sym (later g a not) ∙ e in let y : None ≡ Some c = sym (ap (option_map content_number) none) ∙ z in cc))
+          (λ (none : stamps_in r n.row g a ≡ None). absurd (let z : option_map content_number (stamps_in r n.row g a) ≡ Some c = sym (later g a not)
+          ∙ e in let y : None ≡ Some c = sym (ap (option_map content_number) none) ∙ z in cc))
           (λ (x : (w : Content) × (stamps_in r n.row g a ≡ Some w)).
           let z : Some (content_number x.0) ≡ Some c = sym (ap (option_map content_number) x.1) ∙ sym (later g a not) ∙ e in
           record {
@@ -105,7 +106,8 @@ module _ (r : ℕ → ℕ) (places : ℕ) (n : Node) (v : IsValue r places n.row
       (λ (q : a ≡ r n.row.lo.0). begins_at_lo (node_part r n) g a q ∙ ap Some (bases_at n.row.slots g ∙ sym (ap content_number (at_begin g a q))))
       (λ (not : a ≢ r n.row.lo.0). ⊎_elim
       (λ (none : stamps_in r n.row g a ≡ None). absurd (let nh : a ≢ r n.row.hi.0 = λ q. omega (arith, q, high) in let off = unedged g a not nh none in let no : true ≡ false = sym edge ∙ off in cc))
-      (λ (x : (w : Content) × (stamps_in r n.row g a ≡ Some w)). later g a not ∙ ap (option_map content_number) x.1 ∙ ap Some (sym (ap content_number (at_stamp (stamps_in r n.row g) (base_in n.row g) x.0 a x.1))))
+      (λ (x : (w : Content) × (stamps_in r n.row g a ≡ Some w)). later g a not ∙ ap (option_map content_number) x.1
+      ∙ ap Some (sym (ap content_number (at_stamp (stamps_in r n.row g) (base_in n.row g) x.0 a x.1))))
       (option_cases (stamps_in r n.row g a)))
       (cases_eq a (r n.row.lo.0))
 

@@ -59,7 +59,9 @@ module _ (r : ℕ → ℕ) (shape : List TypeShape) where
     base_same : (g : ℕ) → base_in (back n).row g ≡ base_in n.row g
     base_same g =
         (parts_hold (back n).row.lo (back n).row.hi (contents_from (type_at shape n.head.ty) 0 (node_part r n).bases) (back n).row.stamps).content g
-        ∙ bases_back (type_at shape n.head.ty) 0 n.row.slots (λ g m e l. subst (λ (m : ℕ). content_of (type_at shape n.head.ty) m (content_number (base_in n.row g)) ≡ base_in n.row g) (sym (let q : m ≡ g = omega (arith, e) in q)) (h.bases g l)) g
+        ∙ bases_back (type_at shape n.head.ty) 0 n.row.slots (λ g m e l. subst
+        (λ (m : ℕ). content_of (type_at shape n.head.ty) m (content_number (base_in n.row g)) ≡ base_in n.row g)
+        (sym (let q : m ≡ g = omega (arith, e) in q)) (h.bases g l)) g
 
     stamps_same : (g : ℕ) → stamps_in (λ n. n) (back n).row g ≡ stamps_in r n.row g
     stamps_same g = fun_ext (λ m. stamps_back (type_at shape n.head.ty) r n.row.stamps h.stamps g m)
@@ -74,7 +76,8 @@ module _ (r : ℕ → ℕ) (shape : List TypeShape) where
   link_same None = refl
   link_same (Some i) = refl
 
-  of_node-same : {A : Type 0} (f h : Node → A) (other : A) (nodes : List Node) → ((n : Node) → f (back n) ≡ h n) → (i : ℕ) → of_node f other (nodes_of shape (map (node_part r) nodes)) i ≡ of_node h other nodes i
+  of_node-same : {A : Type 0} (f h : Node → A) (other : A) (nodes : List Node) → ((n : Node) → f (back n) ≡ h n) → (i : ℕ)
+      → of_node f other (nodes_of shape (map (node_part r) nodes)) i ≡ of_node h other nodes i
   of_node-same f h other [] e i = refl
   of_node-same f h other (n ∷ ns) e zero = e n
   of_node-same f h other (n ∷ ns) e (suc i) = of_node-same f h other ns e i
@@ -106,9 +109,11 @@ module _ (s : Stored) (h : IsStore s) (short : AreShort s) where
   small_field i g m (FromOf x f) e = entry_small s h i g m x.0 f.0 e
 
   module _ (i : ℕ) (n : Node) (e : slice_get s.nodes i ≡ Some n) where
-    held_back : (g m : ℕ) (c : Content) → IsIn (arena s) i m → g < length n.row.slots → (arena s).chart.holds i g m ≡ c → IsShortContent c → content_of (type_at s.shape n.head.ty) g (content_number c) ≡ c
+    held_back : (g m : ℕ) (c : Content) → IsIn (arena s) i m → g < length n.row.slots → (arena s).chart.holds i g m ≡ c → IsShortContent c
+        → content_of (type_at s.shape n.head.ty) g (content_number c) ≡ c
     held_back g m c a l held fits =
-        let kind = subst (λ (t : TypeNo). IsOfKind (type_at s.shape t) (arena s).ty g c) (type_is s h i n e) (subst (λ (c : Content). IsOfKind (type_at s.shape ((arena s).ty i)) (arena s).ty g c) held (h.arena.kinds i g m a)) in
+        let kind = subst (λ (t : TypeNo). IsOfKind (type_at s.shape t) (arena s).ty g c) (type_is s h i n e)
+        (subst (λ (c : Content). IsOfKind (type_at s.shape ((arena s).ty i)) (arena s).ty g c) held (h.arena.kinds i g m a)) in
         content_back (type_at s.shape n.head.ty) (arena s).ty g c (omega (arith, l, h.wide i n e)) kind fits (small_field i g m c held)
 
     is_back : IsBack s.shape n

@@ -59,7 +59,8 @@ module _ (s : Stored) (next : ℕ) where
           let x = row_at (suc v) f.high in
           let i = n.within v x.0 x.1 in
           let r = n.runs v x.0 x.1 in
-          let up : version_at (version_parts s) (parent_of (version_parts s) (suc v)) ≡ version_part (rank s.places) i.parent = ap (version_at (version_parts s)) (parent_is (suc v) x.0 x.1) ∙ part_at x.0.parent.0 i.parent i.at in
+          let up : version_at (version_parts s) (parent_of (version_parts s) (suc v)) ≡ version_part (rank s.places) i.parent =
+          ap (version_at (version_parts s)) (parent_is (suc v) x.0 x.1) ∙ part_at x.0.parent.0 i.parent i.at in
           subst (λ (p : VersionPart). IsInside next (suc v) p (version_at (version_parts s) (parent_of (version_parts s) (suc v)))) (sym (part_at (suc v) x.0 x.1))
           (subst (λ (q : VersionPart). IsInside next (suc v) (version_part (rank s.places) x.0) q) (sym up) (record {
             older = i.below;
@@ -78,7 +79,8 @@ module _ (s : Stored) (next : ℕ) where
           let y = row_at (suc w) g.high in
           ap suc (n.own_run v w x.0 y.0 x.1 y.1 (sym (run_is (suc v) x.0 x.1) ∙ e ∙ run_is (suc w) y.0 y.1))
 
-      apart : (v w : ℕ) → IsFurther (version_parts s) v → IsFurther (version_parts s) w → parent_of (version_parts s) v ≡ parent_of (version_parts s) w → run_of (version_parts s) v < run_of (version_parts s) w
+      apart : (v w : ℕ) → IsFurther (version_parts s) v → IsFurther (version_parts s) w
+          → parent_of (version_parts s) v ≡ parent_of (version_parts s) w → run_of (version_parts s) v < run_of (version_parts s) w
           → (version_at (version_parts s) w).end < (version_at (version_parts s) v).begin
       apart zero w f g p r = let low = f.low in absurd (omega (arith, low))
       apart (suc v) zero f g p r = let low = g.low in absurd (omega (arith, low))
@@ -90,7 +92,8 @@ module _ (s : Stored) (next : ℕ) where
 
   kept : 2 ≤ length s.places → slice_get s.versions 0 ≡ Some (first_row s.start) → AreNested (version_parts s) (length s.places) next → AreVersionsNested s next
   kept two root n =
-      let r : IsRootVersion (version_part (rank s.places) (first_row s.start)) (length s.places) = subst (λ (p : VersionPart). IsRootVersion p (length s.places)) (part_at 0 (first_row s.start) root) n.root in
+      let r : IsRootVersion (version_part (rank s.places) (first_row s.start)) (length s.places) =
+      subst (λ (p : VersionPart). IsRootVersion p (length s.places)) (part_at 0 (first_row s.start) root) n.root in
       record {
         root = root;
         first = r.begin;
@@ -104,13 +107,17 @@ module _ (s : Stored) (next : ℕ) where
             let x = row_at row.parent.0 (omega (arith, older, high, run_is (suc v) row e, part_older v row e n)) in
             let up : version_at (version_parts s) (parent_of (version_parts s) (suc v)) ≡ version_part (rank s.places) x.0 = ap (version_at (version_parts s)) at ∙ part_at row.parent.0 x.0 x.1 in
             let j : IsInside next (suc v) (version_part (rank s.places) row) (version_part (rank s.places) x.0) =
-            subst (λ (q : VersionPart). IsInside next (suc v) (version_part (rank s.places) row) q) up (subst (λ (p : VersionPart). IsInside next (suc v) p (version_at (version_parts s) (parent_of (version_parts s) (suc v)))) (part_at (suc v) row e) i) in
+            subst (λ (q : VersionPart). IsInside next (suc v) (version_part (rank s.places) row) q) up
+            (subst (λ (p : VersionPart). IsInside next (suc v) p (version_at (version_parts s) (parent_of (version_parts s) (suc v))))
+            (part_at (suc v) row e) i) in
             record { parent = x.0; at = x.1; below = j.older; begins = j.begins; some = j.life; ends = j.ends };
-        runs = λ v row e. let i = n.inside (suc v) (further v row e) in let low = i.run_low in let high = i.run_high in let same = run_is (suc v) row e in (omega (arith, low, same), omega (arith, high, same));
+        runs = λ v row e. let i = n.inside (suc v) (further v row e) in let low = i.run_low in let high = i.run_high in let same =
+            run_is (suc v) row e in (omega (arith, low, same), omega (arith, high, same));
         own_run = λ v w a b e f same.
             let one = n.own_run (suc v) (suc w) (further v a e) (further w b f) (run_is (suc v) a e ∙ same ∙ sym (run_is (suc w) b f)) in omega (arith, one);
         siblings = λ v w a b e f same less.
-            let one = n.siblings (suc v) (suc w) (further v a e) (further w b f) (parent_is (suc v) a e ∙ same ∙ sym (parent_is (suc w) b f)) (omega (arith, less, run_is (suc v) a e, run_is (suc w) b f)) in
+            let one = n.siblings (suc v) (suc w) (further v a e) (further w b f) (parent_is (suc v) a e ∙ same ∙ sym (parent_is (suc w) b f))
+            (omega (arith, less, run_is (suc v) a e, run_is (suc w) b f)) in
             omega (arith, one, end_is (suc w) b f, begin_is (suc v) a e);
       }
     where

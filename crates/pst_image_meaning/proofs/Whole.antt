@@ -20,7 +20,7 @@ use Rattle.pst_image_meaning.specs.Chains.{ChainsGive}
 use Rattle.pst_image_meaning.specs.Taken.{HasKinds, IsTaken}
 use Rattle.pst_image_meaning.specs.Rules.{TakenIsStoreLaw}
 use Rattle.pst_image_meaning.proofs.Built.{built_law}
-use Rattle.pst_image_meaning.proofs.Rules.{chains_law}
+use Rattle.pst_image_meaning.proofs.StoreRules.{chains_law}
 use Rattle.pst_image_meaning.proofs.Held.{at_all}
 
 -- ---- kinds
@@ -68,7 +68,8 @@ module _ (s : Stored) (next : ℕ) (t : IsTaken s next) where
     chained = chained.chained;
     one_type = t.types;
     known = t.known;
-    mirrored = positions_from_segments (arena s).chart (charts_steady r (length s.places) (map (λ n. n.row) s.nodes) t.rows) (charts_tiled r (length s.places) (map (λ n. n.row) s.nodes) t.rows) t.segments;
+    mirrored = positions_from_segments (arena s).chart (charts_steady r (length s.places) (map (λ n. n.row) s.nodes) t.rows)
+        (charts_tiled r (length s.places) (map (λ n. n.row) s.nodes) t.rows) t.segments;
     kinds = kinds;
     root = λ n l.
         let x = chained.root n l in
@@ -81,7 +82,8 @@ module _ (s : Stored) (next : ℕ) (t : IsTaken s next) where
       let x = t.relics i l in (
         x.place,
         inr (inr (record { index = x.index; at = x.at })),
-        subst (λ (b : ℕ). LivesOver (arena s) i b (end_of s x.place)) (sym x.begins) (subst (λ (e : ℕ). LivesOver (arena s) i ((arena s).lo x.first) e) (sym x.stops) (chained.lives i x.first x.last l x.ends)),
+        subst (λ (b : ℕ). LivesOver (arena s) i b (end_of s x.place)) (sym x.begins)
+            (subst (λ (e : ℕ). LivesOver (arena s) i ((arena s).lo x.first) e) (sym x.stops) (chained.lives i x.first x.last l x.ends)),
       )
 
   store : IsStore s

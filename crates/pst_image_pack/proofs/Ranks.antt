@@ -50,7 +50,8 @@ next_last ps i next is e = ⊎_elim
 abbrev pub filled : List ℕ → ℕ → ℕ → ℕ
 filled ps k p = cond (nat_lt (rank ps p) k) (rank ps p) (length ps)
 
-pub fill_more : (ps table : List ℕ) (k at : ℕ) → k < length ps → rank ps at ≡ k → length table ≡ length ps → at < length table → ((p : ℕ) → get_or table p (length ps) ≡ filled ps k p) → (p : ℕ) → get_or (set table at k) p (length ps) ≡ filled ps (k + 1) p
+pub fill_more : (ps table : List ℕ) (k at : ℕ) → k < length ps → rank ps at ≡ k → length table ≡ length ps → at < length table
+    → ((p : ℕ) → get_or table p (length ps) ≡ filled ps k p) → (p : ℕ) → get_or (set table at k) p (length ps) ≡ filled ps (k + 1) p
 fill_more ps table k at l is wide small each p = ⊎_elim
     (λ (e : p ≡ at).
     let here : rank ps p ≡ k = ap (rank ps) e ∙ is in
@@ -67,5 +68,6 @@ fill_more ps table k at l is wide small each p = ⊎_elim
 pub fill_all : (ps : List ℕ) (p : ℕ) → filled ps (length ps) p ≡ rank ps p
 fill_all ps p = ⊎_elim
     (λ (m : rank ps p < length ps). ap (λ (b : Bool). cond b (rank ps p) (length ps)) (lt-ltb (rank ps p) (length ps) m))
-    (λ (m : length ps ≤ rank ps p). ap (λ (b : Bool). cond b (rank ps p) (length ps)) (le-ltb (rank ps p) (length ps) m) ∙ (let most = rank_le ps p in let same : length ps ≡ rank ps p = omega (arith, m, most) in same))
+    (λ (m : length ps ≤ rank ps p). ap (λ (b : Bool). cond b (rank ps p) (length ps)) (le-ltb (rank ps p) (length ps) m)
+    ∙ (let most = rank_le ps p in let same : length ps ≡ rank ps p = omega (arith, m, most) in same))
     (cases_lt (rank ps p) (length ps))

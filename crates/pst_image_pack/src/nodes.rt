@@ -3,6 +3,7 @@
 ghost use Rattle.std.specs.Prelude.{◌≡◌, ◌<◌, ◌≤◌, ◌^◌, ℕ, IfOk, Some, get_or, length, map, slice_get};
 ghost use Rattle.std.specs.List.{AllByRecursion};
 ghost use Rattle.pst_base.specs.declared.names.NodeId.{NodeId};
+ghost use Rattle.pst_base.specs.declared.shape.TheConstants.{MOST_SLOTS};
 ghost use Rattle.pst_rows.specs.Rows.{shown, no_stamp};
 ghost use Rattle.pst_rows.specs.Values.{base_in};
 ghost use Rattle.pst_rows.specs.declared.content.Stamp.{Stamp};
@@ -16,7 +17,7 @@ ghost use Rattle.pst_image_pack.specs.Positions.{position_in};
 
 use crate::positions::position;
 use pst_base::{Items, Name, NoMemory, NodeId, SlotNo, TypeNo};
-use pst_image_form::{NodePart, StampPart};
+use pst_image_form::{ENTRY_SLOTS, NodePart, StampPart};
 use pst_nodes::node::{Node, Nodes};
 use pst_rows::{Content, Row, Stamp};
 use std::alloc::Global;
@@ -33,7 +34,7 @@ fn content_number(content: Content) -> u64
         Content::Null => 0,
         Content::Target(node) => node.0 + 1,
         Content::Free => 0,
-        Content::From(node, slot) => (node.0 + 1) * 128 + u64::from(slot.0),
+        Content::From(node, slot) => (node.0 + 1) * ENTRY_SLOTS + u64::from(slot.0),
     }
 }
 
@@ -66,7 +67,7 @@ fn stamp_part(stamp: Stamp, positions: &[u32]) -> StampPart
 
 /// What the slots of a row hold at first.
 fn bases_of(alloc: Global, row: &Row) -> Result<Items<u64>, NoMemory>
-    requires few { length (shown row.now).slots ≤ 80 }
+    requires few { length (shown row.now).slots ≤ MOST_SLOTS }
     requires small { (g : ℕ) → g < length (shown row.now).slots → IsSmallContent (base_in (shown row.now) g) }
     ensures bases { IfOk result (λ bases. bases ≡ map (λ c. number_of c.content) (shown row.now).slots) }
     ensures fits { IfOk result (AllByRecursion Fits64) }

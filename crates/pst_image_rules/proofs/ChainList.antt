@@ -44,7 +44,8 @@ none_more ks marks n chains h taken = record {
   by i free (inr lt) = h.all i lt free
 
 -- a head, and the last node of its chain
-pub chain_is : (ks : List NodePart) (marks : List Bool) (n : ℕ) (c : Chain) → AreMarked ks (length ks) marks → n < length ks → is_marked marks n ≡ false → c.head.0 ≡ n → IsLastOf ks n c.last.0 → IsChain ks c
+pub chain_is : (ks : List NodePart) (marks : List Bool) (n : ℕ) (c : Chain) → AreMarked ks (length ks) marks → n < length ks
+    → is_marked marks n ≡ false → c.head.0 ≡ n → IsLastOf ks n c.last.0 → IsChain ks c
 chain_is ks marks n c m there free head_is last = record {
   head_there = omega arith;
   last_there = last.there;
@@ -65,7 +66,8 @@ which chains c k lt = by (cases_lt k (length chains))
     by (inl less) = earlier less (get_or_append_left chains (c ∷ []) no_chain k less)
     by (inr le) = (let is : k ≡ length chains = omega (arith, length-append chains (c ∷ [])) in newest is (ap (λ (j : ℕ). chain_at (chains ++ c ∷ []) j) is ∙ last_is chains c))
 
-pub one_more : (ks : List NodePart) (marks : List Bool) (n : ℕ) (chains : List Chain) (c : Chain) → AreChainsTo ks marks n chains → c.head.0 ≡ n → IsChain ks c → AreChainsTo ks marks (n + 1) (chains ++ c ∷ [])
+pub one_more : (ks : List NodePart) (marks : List Bool) (n : ℕ) (chains : List Chain) (c : Chain) → AreChainsTo ks marks n chains → c.head.0 ≡ n
+    → IsChain ks c → AreChainsTo ks marks (n + 1) (chains ++ c ∷ [])
 one_more ks marks n chains c h head_is chain = record {
   each = λ k lt. each_by k (which chains c k lt);
   below = λ k lt. below_by k (which chains c k lt);
@@ -99,7 +101,8 @@ one_more ks marks n chains c h head_is chain = record {
       record { index = at.index; there = omega (arith, wider, at.there); is = ap (λ (x : Chain). x.head.0) (get_or_append_left chains (c ∷ []) no_chain at.index at.there) ∙ at.is }
 
 -- all heads are seen
-pub all_chains : (ks : List NodePart) (marks : List Bool) (chains : List Chain) → AreLinked ks (length ks) → HaveLives ks → AreMarked ks (length ks) marks → AreChainsTo ks marks (length ks) chains → AreChains ks chains
+pub all_chains : (ks : List NodePart) (marks : List Bool) (chains : List Chain) → AreLinked ks (length ks) → HaveLives ks
+    → AreMarked ks (length ks) marks → AreChainsTo ks marks (length ks) chains → AreChains ks chains
 all_chains ks marks chains links lives m h = record { each = h.each; rising = h.rising; all = all_by } where
   behind : (i last : ℕ) → (node_at ks last).later ≡ 0 → Leads ks i last ⊎ Leads ks last i → Leads ks i last
   behind i last none (inl way) = way

@@ -1,5 +1,6 @@
 -- Where the segment of a slot ends.
-use Rattle.std.proofs.Common.{◌≡◌, ◌≢◌, ℕ, zero, suc, ◌+◌, ◌-◌, ◌<◌, ◌≤◌, Bool, true, false, cond, List, [], ◌∷◌, length, get_or, Option, Some, None, unwrap_or, refl, sym, ap, subst, ◌∙◌, arith, ◌⊎◌, inl, inr}
+use Rattle.std.proofs.Common.{◌≡◌, ◌≢◌, ℕ, zero, suc, ◌+◌, ◌-◌, ◌<◌, ◌≤◌, Bool, true, false, cond, List, [], ◌∷◌, length, get_or, Option, Some, None, unwrap_or}
+use Rattle.std.proofs.Common.{refl, sym, ap, subst, ◌∙◌, arith, ◌⊎◌, inl, inr}
 use Rattle.std.specs.Option.{option_map}
 use Rattle.std.proofs.lemmas.Bool.{cases_eq, cases_lt}
 use Rattle.std.proofs.lemmas.Bool.Decides.{nat_tests}
@@ -31,7 +32,14 @@ none_or_first test (s ∷ ss) = by (test s) refl (none_or_first test ss)
         all : (j : ℕ) → j < suc (length ss) → test (get_or (s ∷ ss) j no_stamp) ≡ false
         all zero lt = is
         all (suc j) lt = none.1 j (omega arith)
-    by false is (inr f) = inr (record { index = suc f.index; there = omega (arith, f.there); passes = f.passes; found = ap (λ (b : Bool). cond b (Some s) (first test ss)) is ∙ f.found; earlier = before })
+    by false is (inr f) = inr (record {
+      index = suc f.index;
+      there = omega (arith, f.there);
+      passes = f.passes;
+      found =
+          ap (λ (b : Bool). cond b (Some s) (first test ss)) is ∙ f.found;
+      earlier = before;
+    })
       where
         before : (j : ℕ) → j < suc f.index → test (get_or (s ∷ ss) j no_stamp) ≡ false
         before zero lt = is
@@ -126,13 +134,16 @@ follows shape places ks k g a c node e = by (none_or_first (is_behind g a) k.sta
           some = omega (arith, end, behind_place g a (stamp_of k f.index) f.passes);
           high = omega (arith, end, inside.before);
           next = inr (subst (λ (n : ℕ). (c : ℕ) × (begins k g n ≡ Some c)) (sym end) (begun (none_or_first (is_at g (stamp_of k f.index).place) k.stamps)));
-          whole = λ n more less. none_begins k g n (λ is. absurd (omega (arith, is, low.0, more))) (first_none (is_at g n) k.stamps (λ j lt. free n more (omega (arith, end, less)) j lt (is_at g n (stamp_of k j)) refl));
+          whole = λ n more less. none_begins k g n (λ is. absurd (omega (arith, is, low.0, more)))
+              (first_none (is_at g n) k.stamps (λ j lt. free n more (omega (arith, end, less)) j lt (is_at g n (stamp_of k j)) refl));
         }
       where
         here : is_at g (stamp_of k f.index).place (stamp_of k f.index) ≡ true
         here = is_at_itself g (stamp_of k f.index) (behind_slot g a (stamp_of k f.index) f.passes)
 
-        begun : ((first (is_at g (stamp_of k f.index).place) k.stamps ≡ None) × ((j : ℕ) → j < length k.stamps → is_at g (stamp_of k f.index).place (get_or k.stamps j no_stamp) ≡ false)) ⊎ IsFirst (is_at g (stamp_of k f.index).place) k.stamps
+        begun : ((first (is_at g (stamp_of k f.index).place) k.stamps ≡ None)
+            × ((j : ℕ) → j < length k.stamps → is_at g (stamp_of k f.index).place (get_or k.stamps j no_stamp) ≡ false))
+            ⊎ IsFirst (is_at g (stamp_of k f.index).place) k.stamps
             → (c : ℕ) × (begins k g (stamp_of k f.index).place ≡ Some c)
         begun (inl none) = absurd (clash (is_at g (stamp_of k f.index).place (stamp_of k f.index)) here (none.1 f.index f.there))
         begun (inr s) = (
@@ -155,7 +166,9 @@ follows shape places ks k g a c node e = by (none_or_first (is_behind g a) k.sta
                 step (inl same) = omega (arith, ap (λ (m : ℕ). (stamp_of k m).place) same, place, less)
                 step (inr not) =
                     let gap : f.index + suc (j - f.index - 1) ≡ j = omega arith in
-                    let one_slot : (stamp_of k f.index).slot.0 ≡ (stamp_of k (f.index + suc (j - f.index - 1))).slot.0 = behind_slot g a (stamp_of k f.index) f.passes ∙ (sym (at_slot g n (stamp_of k j) is) ∙ ap (λ (m : ℕ). (stamp_of k m).slot.0) (sym gap)) in
+                    let one_slot : (stamp_of k f.index).slot.0 ≡ (stamp_of k (f.index + suc (j - f.index - 1))).slot.0 =
+                    behind_slot g a (stamp_of k f.index) f.passes
+                    ∙ (sym (at_slot g n (stamp_of k j) is) ∙ ap (λ (m : ℕ). (stamp_of k m).slot.0) (sym gap)) in
                     omega (arith, rises k sorted f.index (j - f.index - 1) (omega arith) one_slot, ap (λ (m : ℕ). (stamp_of k m).place) gap, place, less)
 
 pub segments_follow : SegmentsFollow

@@ -47,7 +47,8 @@ kind_below t f k e = by (cases_lt f t.values)
     by : (f < t.values) ⊎ (t.values ≤ f) → f < element_count t
     by (inl lt) = omega arith
     by (inr le) =
-        let found = mapped_some (slice_get t.targets (f - t.values)) k (sym (ap (λ (b : Bool). cond b (Some Int) (option_map Pointer (slice_get t.targets (f - t.values)))) (le-ltb f t.values le)) ∙ e) in
+        let found = mapped_some (slice_get t.targets (f - t.values)) k
+        (sym (ap (λ (b : Bool). cond b (Some Int) (option_map Pointer (slice_get t.targets (f - t.values)))) (le-ltb f t.values le)) ∙ e) in
         omega (arith, slice_get_within t.targets (f - t.values) found.0 found.1, le)
 
 -- ---- contents
@@ -80,7 +81,8 @@ pub inverse_slot_there : (shape : List TypeShape) (ks : List NodePart) (i g : �
 inverse_slot_there shape ks i g typed lt slot = omega (arith, (typed.1 i lt).slots, slot.below)
 
 -- a pointer leads to a node that is there
-pub pointer_there : (shape : List TypeShape) (ks : List NodePart) (i g a c : ℕ) → AreTyped shape ks → i < length ks → IsPointerSlot (shape_of shape ks i) g → begins (node_at ks i) g a ≡ Some c → c ≢ 0 → c - 1 < length ks
+pub pointer_there : (shape : List TypeShape) (ks : List NodePart) (i g a c : ℕ) → AreTyped shape ks → i < length ks
+    → IsPointerSlot (shape_of shape ks i) g → begins (node_at ks i) g a ≡ Some c → c ≢ 0 → c - 1 < length ks
 pointer_there shape ks i g a c typed lt slot e some =
     let kind = pointer_kind (shape_of shape ks i) g slot in
     by kind.0 (subst (λ (k : Option Kind). HasKind shape ks (node_at ks i).ty k c) kind.1 (content_fits shape ks i g a c typed lt (pointer_slot_there shape ks i g typed lt slot) e))
@@ -98,9 +100,11 @@ record IsEntryThere (ks : List NodePart) (c : ℕ) : Type 0 where
   node_there : node < length ks
   slot_there : slot < length (node_at ks node).bases
 
-entry_there : (shape : List TypeShape) (ks : List NodePart) (i g a c : ℕ) → AreTyped shape ks → i < length ks → IsInverseSlot (shape_of shape ks i) g → begins (node_at ks i) g a ≡ Some c → c ≢ 0 → IsEntryThere ks c
+entry_there : (shape : List TypeShape) (ks : List NodePart) (i g a c : ℕ) → AreTyped shape ks → i < length ks → IsInverseSlot (shape_of shape ks i) g
+    → begins (node_at ks i) g a ≡ Some c → c ≢ 0 → IsEntryThere ks c
 entry_there shape ks i g a c typed lt slot e some =
-    by (subst (λ (k : Option Kind). HasKind shape ks (node_at ks i).ty k c) (inverse_kind (shape_of shape ks i) g slot) (content_fits shape ks i g a c typed lt (inverse_slot_there shape ks i g typed lt slot) e))
+    by (subst (λ (k : Option Kind). HasKind shape ks (node_at ks i).ty k c) (inverse_kind (shape_of shape ks i) g slot)
+    (content_fits shape ks i g a c typed lt (inverse_slot_there shape ks i g typed lt slot) e))
   where
     by : HoldsEntry shape ks (node_at ks i).ty c → IsEntryThere ks c
     by (inl none) = absurd (some none)
@@ -127,7 +131,8 @@ pub record IsRead (ks : List NodePart) (c : ℕ) : Type 0 where
   pub is : c ≡ entry (c / 128 - 1) (c % 128)
   pub small : c % 128 < 128
 
-pub entry_read : (shape : List TypeShape) (ks : List NodePart) (i g a c : ℕ) → AreTyped shape ks → i < length ks → IsInverseSlot (shape_of shape ks i) g → begins (node_at ks i) g a ≡ Some c → c ≢ 0 → IsRead ks c
+pub entry_read : (shape : List TypeShape) (ks : List NodePart) (i g a c : ℕ) → AreTyped shape ks → i < length ks
+    → IsInverseSlot (shape_of shape ks i) g → begins (node_at ks i) g a ≡ Some c → c ≢ 0 → IsRead ks c
 entry_read shape ks i g a c typed lt slot e some =
     let h = entry_there shape ks i g a c typed lt slot e some in
     let node : c / 128 ≡ h.node + 1 = ap (λ (x : ℕ). x / 128) h.is ∙ entry_node h.node h.slot h.small in
@@ -143,7 +148,8 @@ entry_read shape ks i g a c typed lt slot e some =
 
 -- ---- what is asked where a segment begins
 
-pub entered_at : (shape : List TypeShape) (ks : List NodePart) (i g a c e : ℕ) → Some c ≡ begins (node_at ks i) g a → c ≢ 0 → e ≡ ends (node_at ks i) g a → IsEntered shape ks i g a e (c - 1) ↔ IsEnteredAt shape ks i g a
+pub entered_at : (shape : List TypeShape) (ks : List NodePart) (i g a c e : ℕ) → Some c ≡ begins (node_at ks i) g a → c ≢ 0
+    → e ≡ ends (node_at ks i) g a → IsEntered shape ks i g a e (c - 1) ↔ IsEnteredAt shape ks i g a
 entered_at shape ks i g a c e held some end = (
   λ h y is. subst (λ (z : ℕ). IsEntered shape ks i g a (ends (node_at ks i) g a) z) (target y is) (subst (λ (z : ℕ). IsEntered shape ks i g a z (c - 1)) end h),
   λ at. subst (λ (z : ℕ). IsEntered shape ks i g a z (c - 1)) (sym end) (at (c - 1) (sym held ∙ ap (λ (z : ℕ). Some z) whole)),
@@ -155,13 +161,16 @@ entered_at shape ks i g a c e held some end = (
     target : (y : ℕ) → begins (node_at ks i) g a ≡ Some (suc y) → c - 1 ≡ y
     target y is = (let same = some_same c (suc y) (held ∙ is) in omega arith)
 
-pub pointed_at : (ks : List NodePart) (i g a c e : ℕ) → Some c ≡ begins (node_at ks i) g a → IsRead ks c → e ≡ ends (node_at ks i) g a → HasPointer ks (c / 128 - 1) (c % 128) a e i ↔ IsPointedAt ks i g a
+pub pointed_at : (ks : List NodePart) (i g a c e : ℕ) → Some c ≡ begins (node_at ks i) g a → IsRead ks c → e ≡ ends (node_at ks i) g a
+    → HasPointer ks (c / 128 - 1) (c % 128) a e i ↔ IsPointedAt ks i g a
 pointed_at ks i g a c e held read end = (
   λ h x f small is.
       let same = some_same c (entry x f) (held ∙ is) in
       let node : c / 128 - 1 ≡ x = omega (arith, ap (λ (z : ℕ). z / 128) same, entry_node x f small) in
       let field : c % 128 ≡ f = ap (λ (z : ℕ). z % 128) same ∙ entry_slot x f small in
-      subst (λ (z : ℕ). HasPointer ks x z a (ends (node_at ks i) g a) i) field (subst (λ (z : ℕ). HasPointer ks z (c % 128) a (ends (node_at ks i) g a) i) node (subst (λ (z : ℕ). HasPointer ks (c / 128 - 1) (c % 128) a z i) end h)),
+      subst (λ (z : ℕ). HasPointer ks x z a (ends (node_at ks i) g a) i) field
+      (subst (λ (z : ℕ). HasPointer ks z (c % 128) a (ends (node_at ks i) g a) i) node
+      (subst (λ (z : ℕ). HasPointer ks (c / 128 - 1) (c % 128) a z i) end h)),
   λ at. subst (λ (z : ℕ). HasPointer ks (c / 128 - 1) (c % 128) a z i) (sym end) (at (c / 128 - 1) (c % 128) read.small (sym held ∙ ap (λ (z : ℕ). Some z) read.is)),
 )
 
@@ -186,7 +195,8 @@ free_pointed ks i g a c held null x f small is = absurd (let same = some_same c 
 
 -- ---- what is mirrored where bases and stamped values begin is mirrored everywhere
 
-mirrored_where : (shape : List TypeShape) (ks : List NodePart) (side : Side) (i g a c : ℕ) → IsNodeMirrored shape ks side i → g < length (node_at ks i).bases → begins (node_at ks i) g a ≡ Some c → IsMirroredAt shape ks side i g a
+mirrored_where : (shape : List TypeShape) (ks : List NodePart) (side : Side) (i g a c : ℕ) → IsNodeMirrored shape ks side i
+    → g < length (node_at ks i).bases → begins (node_at ks i) g a ≡ Some c → IsMirroredAt shape ks side i g a
 mirrored_where shape ks side i g a c mirrored there e = by (cases_eq a (node_at ks i).lo)
   where
     by : (a ≡ (node_at ks i).lo) ⊎ (a ≢ (node_at ks i).lo) → IsMirroredAt shape ks side i g a
@@ -201,22 +211,32 @@ mirrored_where shape ks side i g a c mirrored there e = by (cases_eq a (node_at 
 pub pointers_entered : (shape : List TypeShape) (ks : List NodePart) → AreTyped shape ks → AreMirrored shape ks Pointers ↔ ArePointersEntered shape ks
 pointers_entered shape ks typed = (
   λ mirrored x f a lt slot y e. (mirrored_where shape ks Pointers x f a (suc y) (mirrored x lt) (pointer_slot_there shape ks x f typed lt slot) e).mirrored slot y e,
-  λ all i lt. record { bases = λ g there. record { mirrored = λ slot. all i g (node_at ks i).lo lt slot }; stamps = λ j there. record { mirrored = λ slot. all i (stamp_of (node_at ks i) j).slot.0 (stamp_of (node_at ks i) j).place lt slot } },
+  λ all i lt. record {
+    bases = λ g there. record { mirrored = λ slot. all i g (node_at ks i).lo lt slot };
+    stamps =
+        λ j there. record { mirrored = λ slot. all i (stamp_of (node_at ks i) j).slot.0 (stamp_of (node_at ks i) j).place lt slot };
+  },
 )
 
 pub entries_pointed : (shape : List TypeShape) (ks : List NodePart) → AreTyped shape ks → AreMirrored shape ks Entries ↔ AreEntriesPointed shape ks
 entries_pointed shape ks typed = (
   λ mirrored y s a lt slot x f small e. (mirrored_where shape ks Entries y s a (entry x f) (mirrored y lt) (inverse_slot_there shape ks y s typed lt slot) e).mirrored slot x f small e,
-  λ all i lt. record { bases = λ g there. record { mirrored = λ slot. all i g (node_at ks i).lo lt slot }; stamps = λ j there. record { mirrored = λ slot. all i (stamp_of (node_at ks i) j).slot.0 (stamp_of (node_at ks i) j).place lt slot } },
+  λ all i lt. record {
+    bases = λ g there. record { mirrored = λ slot. all i g (node_at ks i).lo lt slot };
+    stamps =
+        λ j there. record { mirrored = λ slot. all i (stamp_of (node_at ks i) j).slot.0 (stamp_of (node_at ks i) j).place lt slot };
+  },
 )
 
-pub mirrored_pointers : (shape : List TypeShape) (ks : List NodePart) (side : Side) (i g a : ℕ) (b : Bool) → side ≡ Pointers → IsSlotOf side (shape_of shape ks i) g → IsTrue b ↔ IsEnteredAt shape ks i g a → IsTrue b ↔ IsMirroredAt shape ks side i g a
+pub mirrored_pointers : (shape : List TypeShape) (ks : List NodePart) (side : Side) (i g a : ℕ) (b : Bool) → side ≡ Pointers
+    → IsSlotOf side (shape_of shape ks i) g → IsTrue b ↔ IsEnteredAt shape ks i g a → IsTrue b ↔ IsMirroredAt shape ks side i g a
 mirrored_pointers shape ks side i g a b is slot both = (
   λ t. record { mirrored = λ s. subst (λ (x : Side). HasPartner shape ks x i g a) (sym is) (both.0 t) },
   λ f. both.1 (subst (λ (x : Side). HasPartner shape ks x i g a) is (f.mirrored slot)),
 )
 
-pub mirrored_entries : (shape : List TypeShape) (ks : List NodePart) (side : Side) (i g a : ℕ) (b : Bool) → side ≡ Entries → IsSlotOf side (shape_of shape ks i) g → IsTrue b ↔ IsPointedAt ks i g a → IsTrue b ↔ IsMirroredAt shape ks side i g a
+pub mirrored_entries : (shape : List TypeShape) (ks : List NodePart) (side : Side) (i g a : ℕ) (b : Bool) → side ≡ Entries
+    → IsSlotOf side (shape_of shape ks i) g → IsTrue b ↔ IsPointedAt ks i g a → IsTrue b ↔ IsMirroredAt shape ks side i g a
 mirrored_entries shape ks side i g a b is slot both = (
   λ t. record { mirrored = λ s. subst (λ (x : Side). HasPartner shape ks x i g a) (sym is) (both.0 t) },
   λ f. both.1 (subst (λ (x : Side). HasPartner shape ks x i g a) is (f.mirrored slot)),

@@ -30,7 +30,8 @@ none_more vs r table order t h none = record {
   by v fv (inl is) = absurd (omega (arith, is, none, fv.low))
   by v fv (inr lt) = h.all v fv lt
 
-pub one_more : (vs : List VersionPart) (r : ℕ) (table order : List ℕ) → IsTable vs (length vs) table → IsOrderTo vs r order → 0 < get_or table r 0 → IsOrderTo vs (r + 1) (order ++ get_or table r 0 ∷ [])
+pub one_more : (vs : List VersionPart) (r : ℕ) (table order : List ℕ) → IsTable vs (length vs) table → IsOrderTo vs r order → 0 < get_or table r 0
+    → IsOrderTo vs (r + 1) (order ++ get_or table r 0 ∷ [])
 one_more vs r table order t h some = record {
   each = λ k lt. each_by k (at k lt);
   below = λ k lt. below_by k (at k lt);
@@ -43,23 +44,30 @@ one_more vs r table order t h some = record {
   known : (get_or table r 0 < length vs) × (run_of vs (get_or table r 0) ≡ r)
   known = t.only r some
 
-  at : (k : ℕ) → k < length (order ++ get_or table r 0 ∷ []) → ((k < length order) × (get_or (order ++ get_or table r 0 ∷ []) k 0 ≡ get_or order k 0)) ⊎ ((k ≡ length order) × (get_or (order ++ get_or table r 0 ∷ []) k 0 ≡ get_or table r 0))
+  at : (k : ℕ) → k < length (order ++ get_or table r 0 ∷ []) → ((k < length order) × (get_or (order ++ get_or table r 0 ∷ []) k 0 ≡ get_or order k 0))
+      ⊎ ((k ≡ length order) × (get_or (order ++ get_or table r 0 ∷ []) k 0 ≡ get_or table r 0))
   at k lt = by (cases_lt k (length order))
     where
-      by : (k < length order) ⊎ (length order ≤ k) → ((k < length order) × (get_or (order ++ get_or table r 0 ∷ []) k 0 ≡ get_or order k 0)) ⊎ ((k ≡ length order) × (get_or (order ++ get_or table r 0 ∷ []) k 0 ≡ get_or table r 0))
+      by : (k < length order) ⊎ (length order ≤ k) → ((k < length order) × (get_or (order ++ get_or table r 0 ∷ []) k 0 ≡ get_or order k 0))
+          ⊎ ((k ≡ length order) × (get_or (order ++ get_or table r 0 ∷ []) k 0 ≡ get_or table r 0))
       by (inl less) = inl (less, get_or_append_left order (get_or table r 0 ∷ []) 0 k less)
       by (inr le) = (let is : k ≡ length order = omega (arith, wider) in inr (is, ap (λ (n : ℕ). get_or (order ++ get_or table r 0 ∷ []) n 0) is ∙ last_is order (get_or table r 0)))
 
-  each_by : (k : ℕ) → ((k < length order) × (get_or (order ++ get_or table r 0 ∷ []) k 0 ≡ get_or order k 0)) ⊎ ((k ≡ length order) × (get_or (order ++ get_or table r 0 ∷ []) k 0 ≡ get_or table r 0)) → IsFurther vs (get_or (order ++ get_or table r 0 ∷ []) k 0)
+  each_by : (k : ℕ) → ((k < length order) × (get_or (order ++ get_or table r 0 ∷ []) k 0 ≡ get_or order k 0))
+      ⊎ ((k ≡ length order) × (get_or (order ++ get_or table r 0 ∷ []) k 0 ≡ get_or table r 0)) → IsFurther vs (get_or (order ++ get_or table r 0 ∷ []) k 0)
   each_by k (inl a) = subst (IsFurther vs) (sym a.1) (h.each k a.0)
   each_by k (inr b) = subst (IsFurther vs) (sym b.1) (record { low = some; high = known.0 })
 
-  below_by : (k : ℕ) → ((k < length order) × (get_or (order ++ get_or table r 0 ∷ []) k 0 ≡ get_or order k 0)) ⊎ ((k ≡ length order) × (get_or (order ++ get_or table r 0 ∷ []) k 0 ≡ get_or table r 0)) → run_of vs (get_or (order ++ get_or table r 0 ∷ []) k 0) < r + 1
+  below_by : (k : ℕ) → ((k < length order) × (get_or (order ++ get_or table r 0 ∷ []) k 0 ≡ get_or order k 0))
+      ⊎ ((k ≡ length order) × (get_or (order ++ get_or table r 0 ∷ []) k 0 ≡ get_or table r 0))
+      → run_of vs (get_or (order ++ get_or table r 0 ∷ []) k 0) < r + 1
   below_by k (inl a) = omega (arith, ap (run_of vs) a.1, h.below k a.0)
   below_by k (inr b) = omega (arith, ap (run_of vs) b.1, known.1)
 
-  rising_by : (k : ℕ) → ((k < length order) × (get_or (order ++ get_or table r 0 ∷ []) k 0 ≡ get_or order k 0)) ⊎ ((k ≡ length order) × (get_or (order ++ get_or table r 0 ∷ []) k 0 ≡ get_or table r 0))
-      → ((k + 1 < length order) × (get_or (order ++ get_or table r 0 ∷ []) (k + 1) 0 ≡ get_or order (k + 1) 0)) ⊎ ((k + 1 ≡ length order) × (get_or (order ++ get_or table r 0 ∷ []) (k + 1) 0 ≡ get_or table r 0))
+  rising_by : (k : ℕ) → ((k < length order) × (get_or (order ++ get_or table r 0 ∷ []) k 0 ≡ get_or order k 0))
+      ⊎ ((k ≡ length order) × (get_or (order ++ get_or table r 0 ∷ []) k 0 ≡ get_or table r 0))
+      → ((k + 1 < length order) × (get_or (order ++ get_or table r 0 ∷ []) (k + 1) 0 ≡ get_or order (k + 1) 0))
+      ⊎ ((k + 1 ≡ length order) × (get_or (order ++ get_or table r 0 ∷ []) (k + 1) 0 ≡ get_or table r 0))
       → run_of vs (get_or (order ++ get_or table r 0 ∷ []) k 0) < run_of vs (get_or (order ++ get_or table r 0 ∷ []) (k + 1) 0)
   rising_by k (inl a) (inl b) = omega (arith, ap (run_of vs) a.1, ap (run_of vs) b.1, h.rising k b.0)
   rising_by k (inl a) (inr b) = omega (arith, ap (run_of vs) a.1, ap (run_of vs) b.1, h.below k a.0, known.1)

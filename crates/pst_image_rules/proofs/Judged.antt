@@ -78,10 +78,12 @@ never e = absurd cc
 -- ---- rules that speak of the nodes, where a function has them apart
 
 -- a rule that holds, and one that does not
-pub holds_too : (shape : List TypeShape) (p : ImageParts) (rule : Rule) (nodes : List NodePart) (Asks : List NodePart → Type 0) → nodes ≡ p.nodes → HoldBelow shape p (number_of rule) → (Asks p.nodes → Holds shape p rule) → Asks nodes → HoldBelow shape p (number_of rule + 1)
+pub holds_too : (shape : List TypeShape) (p : ImageParts) (rule : Rule) (nodes : List NodePart) (Asks : List NodePart → Type 0) → nodes ≡ p.nodes
+    → HoldBelow shape p (number_of rule) → (Asks p.nodes → Holds shape p rule) → Asks nodes → HoldBelow shape p (number_of rule + 1)
 holds_too shape p rule nodes Asks same earlier is asked = one_more shape p rule earlier (is (subst Asks same asked))
 
-pub fails_first : (shape : List TypeShape) (p : ImageParts) (rule : Rule) (nodes : List NodePart) (Asks : List NodePart → Type 0) → nodes ≡ p.nodes → HoldBelow shape p (number_of rule) → (Holds shape p rule → Asks p.nodes) → (Asks nodes → ⊥) → IsFirstFailed shape p rule
+pub fails_first : (shape : List TypeShape) (p : ImageParts) (rule : Rule) (nodes : List NodePart) (Asks : List NodePart → Type 0) → nodes ≡ p.nodes
+    → HoldBelow shape p (number_of rule) → (Holds shape p rule → Asks p.nodes) → (Asks nodes → ⊥) → IsFirstFailed shape p rule
 fails_first shape p rule nodes Asks same earlier is not = record { earlier = earlier; fails = λ holds. not (subst Asks (sym same) (is holds)) }
 
 -- each node is one of its type

@@ -1,5 +1,6 @@
 -- One more node that leads to another one, or to none.
-use Rattle.std.proofs.Common.{◌≡◌, ◌≢◌, ℕ, suc, ◌+◌, ◌<◌, Bool, true, false, List, [], ◌∷◌, ◌++◌, length, get_or, set, replicate, refl, sym, ap, subst, ◌∙◌, arith, ◌⊎◌, inl, inr, get_or-set_other, get_or-set_same}
+use Rattle.std.proofs.Common.{◌≡◌, ◌≢◌, ℕ, suc, ◌+◌, ◌<◌, Bool, true, false, List, [], ◌∷◌, ◌++◌, length, get_or, set, replicate, refl, sym, ap, subst, ◌∙◌}
+use Rattle.std.proofs.Common.{arith, ◌⊎◌, inl, inr, get_or-set_other, get_or-set_same}
 use Rattle.std.specs.List.{Contains}
 use Rattle.std.proofs.lemmas.List.{get_or-replicate, get_or_past, length-replicate, length-set}
 use Rattle.std.proofs.lemmas.List.Elements.{Contains-append_left, Contains-push, Contains-push_cases}
@@ -130,7 +131,8 @@ not_linked ks n t marks m lt later cannot h = by (is_marked marks t) refl
 -- ---- heads
 
 -- a node that is a head
-pub one_head_more : (ks : List NodePart) (marks : List Bool) (n : ℕ) (heads : List Head) → AreHeads ks marks n heads → is_marked marks n ≡ false → AreHeads ks marks (n + 1) (heads ++ head_at ks n ∷ [])
+pub one_head_more : (ks : List NodePart) (marks : List Bool) (n : ℕ) (heads : List Head) → AreHeads ks marks n heads → is_marked marks n ≡ false
+    → AreHeads ks marks (n + 1) (heads ++ head_at ks n ∷ [])
 one_head_more ks marks n heads h free = record {
   each = λ i lt e. each_by i e (below_or i n lt);
   only = λ x c. only_by x (Contains-push_cases heads (head_at ks n) x c);

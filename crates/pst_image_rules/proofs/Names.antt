@@ -24,13 +24,17 @@ not_behind g h not = grind (arith, nat_tests)
 
 -- what stands further on is not before
 further : (xs : List Head) → IsSorted head_cmp xs → (p n : ℕ) → p + n < length xs → NotBehind (get_or xs p no_head) (get_or xs (p + n) no_head)
-further xs sorted p zero lt = inr (ap (λ (k : ℕ). (get_or xs k no_head).name.run.0) (omega arith), omega (arith, ap (λ (k : ℕ). (get_or xs k no_head).name.ordinal) (let e : p ≡ p + 0 = omega arith in e)))
+further xs sorted p zero lt = inr (
+  ap (λ (k : ℕ). (get_or xs k no_head).name.run.0) (omega arith),
+  omega (arith, ap (λ (k : ℕ). (get_or xs k no_head).name.ordinal) (let e : p ≡ p + 0 = omega arith in e)),
+)
 further xs sorted p (suc n) lt = by (further xs sorted p n (omega arith)) (not_behind (get_or xs (p + n) no_head) (get_or xs (p + suc n) no_head) (step (p + suc n) (omega arith)))
   where
     step : (k : ℕ) → k ≡ (p + n) + 1 → is_lt (head_cmp (get_or xs k no_head) (get_or xs (p + n) no_head)) ≡ false
     step k is = ap (λ (j : ℕ). is_lt (head_cmp (get_or xs j no_head) (get_or xs (p + n) no_head))) is ∙ sorted (p + n) no_head (omega arith) (omega arith)
 
-    by : NotBehind (get_or xs p no_head) (get_or xs (p + n) no_head) → NotBehind (get_or xs (p + n) no_head) (get_or xs (p + suc n) no_head) → NotBehind (get_or xs p no_head) (get_or xs (p + suc n) no_head)
+    by : NotBehind (get_or xs p no_head) (get_or xs (p + n) no_head) → NotBehind (get_or xs (p + n) no_head) (get_or xs (p + suc n) no_head)
+        → NotBehind (get_or xs p no_head) (get_or xs (p + suc n) no_head)
     by (inl a) (inl b) = inl (omega arith)
     by (inl a) (inr b) = inl (omega (arith, b.0))
     by (inr a) (inl b) = inl (omega (arith, a.0))
@@ -43,14 +47,21 @@ between g m h (inl a) (inr b) r o = absurd (omega (arith, b.0))
 between g m h (inr a) (inl b) r o = absurd (omega (arith, a.0))
 between g m h (inr a) (inr b) r o = (a.0, omega (arith, a.1, b.1))
 
-one_node : (xs : List Head) → IsSorted head_cmp xs → AreNeighboursApart xs → (p n : ℕ) → p + n < length xs → (get_or xs p no_head).name.run.0 ≡ (get_or xs (p + n) no_head).name.run.0 → (get_or xs p no_head).name.ordinal ≡ (get_or xs (p + n) no_head).name.ordinal
+one_node : (xs : List Head) → IsSorted head_cmp xs → AreNeighboursApart xs → (p n : ℕ) → p + n < length xs
+    → (get_or xs p no_head).name.run.0 ≡ (get_or xs (p + n) no_head).name.run.0 → (get_or xs p no_head).name.ordinal ≡ (get_or xs (p + n) no_head).name.ordinal
     → (get_or xs p no_head).node ≡ (get_or xs (p + n) no_head).node
 one_node xs sorted apart p zero lt r o = ap (λ (k : ℕ). (get_or xs k no_head).node) (omega arith)
 one_node xs sorted apart p (suc n) lt r o =
     let behind : (p + n) + 1 ≡ p + suc n = omega arith in
-    let last : NotBehind (get_or xs (p + n) no_head) (get_or xs (p + suc n) no_head) = subst (λ (k : ℕ). NotBehind (get_or xs (p + n) no_head) (get_or xs k no_head)) behind (not_behind (get_or xs (p + n) no_head) (get_or xs ((p + n) + 1) no_head) (sorted (p + n) no_head (omega arith) (omega arith))) in
+    let last : NotBehind (get_or xs (p + n) no_head) (get_or xs (p + suc n) no_head) =
+    subst (λ (k : ℕ). NotBehind (get_or xs (p + n) no_head) (get_or xs k no_head)) behind
+    (not_behind (get_or xs (p + n) no_head) (get_or xs ((p + n) + 1) no_head) (sorted (p + n) no_head (omega arith) (omega arith))) in
     let same = between (get_or xs p no_head) (get_or xs (p + n) no_head) (get_or xs (p + suc n) no_head) (further xs sorted p n (omega arith)) last r o in
-    let neighbour = (apart (p + n) (omega arith)).same (record { run = sym same.0 ∙ r ∙ ap (λ (k : ℕ). (get_or xs k no_head).name.run.0) (sym behind); ordinal = sym same.1 ∙ o ∙ ap (λ (k : ℕ). (get_or xs k no_head).name.ordinal) (sym behind) }) in
+    let neighbour = (apart (p + n) (omega arith)).same (record {
+      run = sym same.0 ∙ r ∙ ap (λ (k : ℕ). (get_or xs k no_head).name.run.0) (sym behind);
+      ordinal = sym same.1 ∙ o
+          ∙ ap (λ (k : ℕ). (get_or xs k no_head).name.ordinal) (sym behind);
+    }) in
     one_node xs sorted apart p n (omega arith) same.0 same.1 ∙ neighbour ∙ ap (λ (k : ℕ). (get_or xs k no_head).node) behind
 
 -- sorted heads whose neighbours are of different names have names of their own
@@ -73,15 +84,21 @@ own_names xs ys moved sorted apart g h cg ch both = by (Contains-permutation xs 
         order (inl lt) =
             let n = gap p q (omega arith) in
             let far : get_or ys (p + n.0) no_head ≡ h = ap (λ (k : ℕ). get_or ys k no_head) n.1 ∙ h_is in
-            sym (ap (λ (x : Head). x.node) g_is) ∙ one_node ys sorted apart p n.0 (omega (arith, n.1)) (ap (λ (x : Head). x.name.run.0) g_is ∙ both.run ∙ sym (ap (λ (x : Head). x.name.run.0) far)) (ap (λ (x : Head). x.name.ordinal) g_is ∙ both.ordinal ∙ sym (ap (λ (x : Head). x.name.ordinal) far)) ∙ ap (λ (x : Head). x.node) far
+            sym (ap (λ (x : Head). x.node) g_is) ∙ one_node ys sorted apart p n.0 (omega (arith, n.1))
+            (ap (λ (x : Head). x.name.run.0) g_is ∙ both.run ∙ sym (ap (λ (x : Head). x.name.run.0) far))
+            (ap (λ (x : Head). x.name.ordinal) g_is ∙ both.ordinal ∙ sym (ap (λ (x : Head). x.name.ordinal) far)) ∙ ap (λ (x : Head). x.node) far
         order (inr le) =
             let n = gap q p le in
             let far : get_or ys (q + n.0) no_head ≡ g = ap (λ (k : ℕ). get_or ys k no_head) n.1 ∙ g_is in
-            sym (sym (ap (λ (x : Head). x.node) h_is) ∙ one_node ys sorted apart q n.0 (omega (arith, n.1)) (ap (λ (x : Head). x.name.run.0) h_is ∙ sym both.run ∙ sym (ap (λ (x : Head). x.name.run.0) far)) (ap (λ (x : Head). x.name.ordinal) h_is ∙ sym both.ordinal ∙ sym (ap (λ (x : Head). x.name.ordinal) far)) ∙ ap (λ (x : Head). x.node) far)
+            sym (sym (ap (λ (x : Head). x.node) h_is) ∙ one_node ys sorted apart q n.0 (omega (arith, n.1))
+            (ap (λ (x : Head). x.name.run.0) h_is ∙ sym both.run ∙ sym (ap (λ (x : Head). x.name.run.0) far))
+            (ap (λ (x : Head). x.name.ordinal) h_is ∙ sym both.ordinal ∙ sym (ap (λ (x : Head). x.name.ordinal) far)) ∙ ap (λ (x : Head). x.node) far)
 
 pub neighbours_apart : (xs ys : List Head) → IsPermutation xs ys → HaveOwnNames xs → AreNeighboursApart ys
 neighbours_apart xs ys moved own k lt = record {
-  same = λ both. own (get_or ys k no_head) (get_or ys (k + 1) no_head) (Contains-permutation ys xs _ (IsPermutation-sym xs ys moved) (Contains-get_or ys k no_head (omega arith))) (Contains-permutation ys xs _ (IsPermutation-sym xs ys moved) (Contains-get_or ys (k + 1) no_head lt)) both;
+  same = λ both. own (get_or ys k no_head) (get_or ys (k + 1) no_head)
+      (Contains-permutation ys xs _ (IsPermutation-sym xs ys moved) (Contains-get_or ys k no_head (omega arith)))
+      (Contains-permutation ys xs _ (IsPermutation-sym xs ys moved) (Contains-get_or ys (k + 1) no_head lt)) both;
 }
 
 pub apart_more : (xs : List Head) (i : ℕ) → 1 ≤ i → ((k : ℕ) → k + 1 < i → IsApart (get_or xs k no_head) (get_or xs (k + 1) no_head)) → IsApart (get_or xs (i - 1) no_head) (get_or xs i no_head)

@@ -1,5 +1,6 @@
 -- Stamped values in order, and the first that passes a test.
-use Rattle.std.proofs.Common.{◌≡◌, ℕ, zero, suc, ◌+◌, ◌-◌, ◌<◌, ◌≤◌, Bool, true, false, List, [], ◌∷◌, length, get_or, Option, Some, None, unwrap_or, refl, sym, ap, subst, ◌∙◌, arith, ◌⊎◌, inl, inr, cond, eqb, eq-eqb}
+use Rattle.std.proofs.Common.{◌≡◌, ℕ, zero, suc, ◌+◌, ◌-◌, ◌<◌, ◌≤◌, Bool, true, false, List, [], ◌∷◌, length, get_or, Option, Some, None, unwrap_or, refl, sym}
+use Rattle.std.proofs.Common.{ap, subst, ◌∙◌, arith, ◌⊎◌, inl, inr, cond, eqb, eq-eqb}
 use Rattle.std.specs.Option.{option_map}
 use Rattle.std.proofs.lemmas.Bool.{cases_lt, eqb-true}
 use Rattle.std.proofs.lemmas.Bool.Decides.{nat_tests}
@@ -10,7 +11,8 @@ use Rattle.pst_image_rules.specs.Segments.{first, is_at, is_behind, is_before, i
 
 -- ---- the first that passes a test
 
-pub first_is : (test : StampPart → Bool) (ss : List StampPart) (i : ℕ) → i < length ss → test (get_or ss i no_stamp) ≡ true → ((j : ℕ) → j < i → test (get_or ss j no_stamp) ≡ false) → first test ss ≡ Some (get_or ss i no_stamp)
+pub first_is : (test : StampPart → Bool) (ss : List StampPart) (i : ℕ) → i < length ss → test (get_or ss i no_stamp) ≡ true
+    → ((j : ℕ) → j < i → test (get_or ss j no_stamp) ≡ false) → first test ss ≡ Some (get_or ss i no_stamp)
 first_is test [] i lt at before = absurd (omega arith)
 first_is test (s ∷ ss) zero lt at before = ap (λ (b : Bool). cond b (Some s) (first test ss)) at
 first_is test (s ∷ ss) (suc i) lt at before =
@@ -25,10 +27,12 @@ pub first_there : (test : StampPart → Bool) (ss : List StampPart) (s : StampPa
 first_there test [] s e = absurd cc
 first_there test (t ∷ ss) s e = by (test t) refl (first_there test ss s)
   where
-    shift : (first test ss ≡ Some s → (i : ℕ) × (i < length ss) × (get_or ss i no_stamp ≡ s) × (test s ≡ true)) → first test ss ≡ Some s → (i : ℕ) × (i < suc (length ss)) × (get_or (t ∷ ss) i no_stamp ≡ s) × (test s ≡ true)
+    shift : (first test ss ≡ Some s → (i : ℕ) × (i < length ss) × (get_or ss i no_stamp ≡ s) × (test s ≡ true)) → first test ss ≡ Some s → (i : ℕ)
+        × (i < suc (length ss)) × (get_or (t ∷ ss) i no_stamp ≡ s) × (test s ≡ true)
     shift more found = (let m = more found in (suc m.0, omega (arith, m.1), m.2, m.3))
 
-    by : (b : Bool) → test t ≡ b → (first test ss ≡ Some s → (i : ℕ) × (i < length ss) × (get_or ss i no_stamp ≡ s) × (test s ≡ true)) → (i : ℕ) × (i < suc (length ss)) × (get_or (t ∷ ss) i no_stamp ≡ s) × (test s ≡ true)
+    by : (b : Bool) → test t ≡ b → (first test ss ≡ Some s → (i : ℕ) × (i < length ss) × (get_or ss i no_stamp ≡ s) × (test s ≡ true)) → (i : ℕ)
+        × (i < suc (length ss)) × (get_or (t ∷ ss) i no_stamp ≡ s) × (test s ≡ true)
     by true is more =
         let here : Some t ≡ Some s = sym (ap (λ (b : Bool). cond b (Some t) (first test ss)) is) ∙ e in
         let same : t ≡ s = cc in
@@ -65,7 +69,8 @@ early_to k g a m sorted lt at i less = by (is_before g a (stamp_of k i)) refl
     by true is = is
     by false is =
         let same : i + (m - i) ≡ m = omega arith in
-        let late : is_before g a (stamp_of k m) ≡ false = subst (λ (n : ℕ). is_before g a (stamp_of k n) ≡ false) same (all_on k (λ s. is_before g a s ≡ false) sorted (late_on g a) i (m - i) (omega arith) is) in
+        let late : is_before g a (stamp_of k m) ≡ false = subst (λ (n : ℕ). is_before g a (stamp_of k n) ≡ false) same
+        (all_on k (λ s. is_before g a s ≡ false) sorted (late_on g a) i (m - i) (omega arith) is) in
         let clash : true ≡ false = sym at ∙ late in absurd cc
 
 pub late_from : (k : NodePart) (g a m : ℕ) → IsSorted k → m < length k.stamps → is_before g a (stamp_of k m) ≡ false → (i : ℕ) → m ≤ i → i < length k.stamps → is_before g a (stamp_of k i) ≡ false

@@ -68,7 +68,8 @@ pub record HasHead (ks : List NodePart) (marks : List Bool) (i : ℕ) : Type 0 w
   pub steps : ℕ
   pub way : LeadsBy ks steps head i
 
-head_by : (ks : List NodePart) (marks : List Bool) → FitsOn ks → HaveLives ks → AreMarked ks (length ks) marks → (i : ℕ) → i < length ks → ((o : ℕ) → lo_of ks o < lo_of ks i → o < length ks → HasHead ks marks o) → (b : Bool) → is_marked marks i ≡ b → HasHead ks marks i
+head_by : (ks : List NodePart) (marks : List Bool) → FitsOn ks → HaveLives ks → AreMarked ks (length ks) marks → (i : ℕ) → i < length ks
+    → ((o : ℕ) → lo_of ks o < lo_of ks i → o < length ks → HasHead ks marks o) → (b : Bool) → is_marked marks i ≡ b → HasHead ks marks i
 head_by ks marks f lives m i lt earlier false is = record { head = i; there = lt; free = is; steps = 0; way = refl }
 head_by ks marks f lives m i lt earlier true is =
     let o = m.only i is in
@@ -83,7 +84,8 @@ pub fits_on : (ks : List NodePart) → AreLinked ks (length ks) → FitsOn ks
 fits_on ks l = record { there = l.there; next = l.next }
 
 -- marks and heads of different names make chains
-pub chained : (places next_run : ℕ) (ks : List NodePart) (marks : List Bool) (heads : List Head) → HaveLives ks → IsRootNode (node_at ks 0) → ((i : ℕ) → i < length ks → IsNamed places next_run (node_at ks i))
+pub chained : (places next_run : ℕ) (ks : List NodePart) (marks : List Bool) (heads : List Head) → HaveLives ks → IsRootNode (node_at ks 0)
+    → ((i : ℕ) → i < length ks → IsNamed places next_run (node_at ks i))
     → AreLinked ks (length ks) → AreMarked ks (length ks) marks → AreHeads ks marks (length ks) heads → HaveOwnNames heads → AreChained places next_run ks
 chained places next_run ks marks heads lives root named linked marked are own = record {
   root = root;
@@ -99,7 +101,8 @@ chained places next_run ks marks heads lives root named linked marked are own = 
       let h = head_of ks marks f lives marked (suc (lo_of ks j)) j (omega arith) lt' in
       let g_name = one_name ks f g.steps g.head i g.there g.way in
       let h_name = one_name ks f h.steps h.head j h.there h.way in
-      let one_head : g.head ≡ h.head = own (head_at ks g.head) (head_at ks h.head) (are.each g.head g.there g.free) (are.each h.head h.there h.free) (record { run = g_name.run ∙ same.run ∙ sym h_name.run; ordinal = g_name.ordinal ∙ same.ordinal ∙ sym h_name.ordinal }) in
+      let one_head : g.head ≡ h.head = own (head_at ks g.head) (head_at ks h.head) (are.each g.head g.there g.free) (are.each h.head h.there h.free)
+      (record { run = g_name.run ∙ same.run ∙ sym h_name.run; ordinal = g_name.ordinal ∙ same.ordinal ∙ sym h_name.ordinal }) in
       both_ways ks g.steps h.steps h.head i j (subst (λ (x : ℕ). LeadsBy ks g.steps x i) one_head g.way) h.way
 
 chain_fits : (places next_run : ℕ) (ks : List NodePart) → AreChained places next_run ks → FitsOn ks
@@ -129,7 +132,8 @@ linked places next_run ks lives c = record {
   once_by i k j lt lt' e e' (inr way) = sym (apart k i j lt' lt e' e way)
 
 -- in chains no two heads have one name
-pub heads_apart : (places next_run : ℕ) (ks : List NodePart) (marks : List Bool) (heads : List Head) → AreChained places next_run ks → AreMarked ks (length ks) marks → AreHeads ks marks (length ks) heads → HaveOwnNames heads
+pub heads_apart : (places next_run : ℕ) (ks : List NodePart) (marks : List Bool) (heads : List Head) → AreChained places next_run ks
+    → AreMarked ks (length ks) marks → AreHeads ks marks (length ks) heads → HaveOwnNames heads
 heads_apart places next_run ks marks heads c marked are g h cg ch same =
     let o = are.only g cg in
     let p = are.only h ch in

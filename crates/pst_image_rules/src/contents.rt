@@ -5,7 +5,7 @@ ghost use Rattle.pst_base.specs.Shape.{type_at, field_kind};
 ghost use Rattle.pst_image_rules.specs.Nodes.{IsNodeOf, HoldsPointer, HoldsEntry, IsFieldTo, HasKind, FitsSlot};
 
 use pst_base::{Kind, Shape, SlotNo, TypeNo};
-use pst_image_form::NodePart;
+use pst_image_form::{ENTRY_SLOTS, NodePart};
 
 /// What a slot of a type holds, or None where the type has no such element.
 fn kind_of(shape: &Shape, ty: TypeNo, slot: SlotNo) -> Option<Kind>
@@ -55,11 +55,11 @@ fn holds_entry(shape: &Shape, nodes: &[NodePart], ty: TypeNo, content: u64) -> b
     if content == 0 {
         return true;
     }
-    if content < 128 {
+    if content < ENTRY_SLOTS {
         return false;
     }
-    let node = (content / 128 - 1) as usize;
-    let slot = SlotNo((content % 128) as u16);
+    let node = (content / ENTRY_SLOTS - 1) as usize;
+    let slot = SlotNo((content % ENTRY_SLOTS) as u16);
     is_field_to(shape, nodes, node, slot, ty)
 }
 

@@ -9,7 +9,7 @@ ghost use Rattle.pst_image_rules.specs.Sides.{AreTyped, HasEntryIn, HasOneEntry,
 
 use crate::segments::{Segment, segment_at};
 use pst_base::{Shape, SlotNo, TypeNo};
-use pst_image_form::NodePart;
+use pst_image_form::{ENTRY_SLOTS, NodePart};
 
 /// A side of the mirror rule: that pointers have their entries, or that entries have their pointers.
 #[derive(Clone, Copy)]
@@ -34,7 +34,9 @@ fn is_entry(content: u64, node: usize, slot: SlotNo) -> bool
     requires { slot.0 < 128 }
     ensures { IsTrue result ↔ (content ≡ entry node slot.0) }
 {
-    128 <= content && content / 128 - 1 == node as u64 && content % 128 == u64::from(slot.0)
+    ENTRY_SLOTS <= content
+        && content / ENTRY_SLOTS - 1 == node as u64
+        && content % ENTRY_SLOTS == u64::from(slot.0)
 }
 
 /// How many elements the fields of a type have.
@@ -206,8 +208,8 @@ fn is_entry_pointed(
         return true;
     }
     let pointer = Pointer {
-        node: (segment.content / 128 - 1) as usize,
-        slot: SlotNo((segment.content % 128) as u16),
+        node: (segment.content / ENTRY_SLOTS - 1) as usize,
+        slot: SlotNo((segment.content % ENTRY_SLOTS) as u16),
         from: place,
         until: segment.end,
         target: node,

@@ -25,7 +25,7 @@ use Rattle.pst_image_meaning.specs.Denoted.{nodes_of, places_of, relic_of}
 use Rattle.pst_image_meaning.specs.Made.{IsMade, IsRebuilt}
 use Rattle.pst_image_meaning.proofs.Lists.{all_at}
 use Rattle.pst_image_meaning.proofs.Given.{given}
-use Rattle.pst_image_meaning.proofs.Store.{small}
+use Rattle.pst_image_meaning.proofs.StoreBounds.{small}
 use Rattle.pst_image_meaning.proofs.Rebuilt.{made_is_store, made_is_rebuilt}
 use Rattle.pst_image_unpack.specs.Listing.{HasFew, AreFew, HasNumbers, HaveParents, no_place, places_in, rows_in, forks_in}
 use Rattle.pst_image_unpack.proofs.Counting.{few}

@@ -36,7 +36,8 @@ pub one_text : (text : List ℕ) (a b : NamedProgram) → IsOwnText text a → I
 one_text text a b h k = (one_program text h.syntax k.syntax a b h.judged k.judged).0
 
 -- a text is not its own canonical text, where the one that it is accepted with has another
-pub other_text : (text canonical_text : List ℕ) (s : ProgramText) (a : NamedProgram) → Judged text (Accepted s a) → canonical_text ≡ canonical s → (canonical_text ≡ text → ⊥) → (b : NamedProgram) → IsOwnText text b → ⊥
+pub other_text : (text canonical_text : List ℕ) (s : ProgramText) (a : NamedProgram) → Judged text (Accepted s a) → canonical_text ≡ canonical s
+    → (canonical_text ≡ text → ⊥) → (b : NamedProgram) → IsOwnText text b → ⊥
 other_text text c s a h is differs b own = differs (is ∙ ap canonical (one_program text s own.syntax a b h own.judged).1 ∙ own.own)
 
 -- where a fault is found, there is no such program

@@ -68,7 +68,13 @@ module _ (vs : List VersionPart) (end next : ℕ) (by_run : List ℕ) (places : 
   -- the rows are those of the versions
   pub versions_back : map (version_part (λ n. n)) (rows_in vs places) ≡ vs
   versions_back = turned (version_part (λ n. n)) (length vs) (row_in vs places) vs no_version refl
-      (λ v l. λ i. record { parent = (version_at vs v).parent; run = (version_at vs v).run; begin = ap (λ (q : Place). q.begin.0) (place_at v l) i; end = ap (λ (q : Place). q.end.0) (place_at v l) i })
+      (λ v l. λ i. record {
+        parent = (version_at vs v).parent;
+        run = (version_at vs v).run;
+        begin =
+            ap (λ (q : Place). q.begin.0) (place_at v l) i;
+        end = ap (λ (q : Place). q.end.0) (place_at v l) i;
+      })
 
   module _ (s : Stored) (rows : s.versions ≡ rows_in vs places) (forks : s.forks ≡ forks_in vs places by_run) (calls : s.calls ≡ length by_run) where
     in_rows : (v : ℕ) (row : VersionRow Place) → slice_get s.versions v ≡ Some row → v < length vs

@@ -1,3 +1,4 @@
+pub mod Alone
 pub mod Built
 pub mod Counting
 pub mod Deciding

@@ -22,10 +22,12 @@ listed-step n f xs ys x grown so_far is =
 contents-snoc : (t : TypeShape) (g : ℕ) (ns : List ℕ) (n : ℕ) → contents_from t g (ns ++ n ∷ []) ≡ contents_from t g ns ++ content_of t (g + length ns) n ∷ []
 contents-snoc t g [] n = ap (λ k. content_of t k n ∷ []) (let same : g ≡ g + 0 = omega arith in same)
 contents-snoc t g (m ∷ ns) n =
-    ap (λ cs. content_of t g m ∷ cs) (contents-snoc t (suc g) ns n ∙ ap (λ k. contents_from t (suc g) ns ++ content_of t k n ∷ []) (let same : suc g + length ns ≡ g + suc (length ns) = omega arith in same))
+    ap (λ cs. content_of t g m ∷ cs) (contents-snoc t (suc g) ns n
+    ∙ ap (λ k. contents_from t (suc g) ns ++ content_of t k n ∷ []) (let same : suc g + length ns ≡ g + suc (length ns) = omega arith in same))
 
 -- so it is of a list that is made slot by slot
-pub contents-step : (t : TypeShape) (ns : List ℕ) (i : ℕ) (xs ys : List Content) (x : Content) → ys ≡ xs ++ x ∷ [] → i < length ns → xs ≡ contents_from t 0 (take i ns) → x ≡ content_of t i (get_or ns i 0) → ys ≡ contents_from t 0 (take (i + 1) ns)
+pub contents-step : (t : TypeShape) (ns : List ℕ) (i : ℕ) (xs ys : List Content) (x : Content) → ys ≡ xs ++ x ∷ [] → i < length ns
+    → xs ≡ contents_from t 0 (take i ns) → x ≡ content_of t i (get_or ns i 0) → ys ≡ contents_from t 0 (take (i + 1) ns)
 contents-step t ns i xs ys x grown l so_far is =
     let many : i ≡ 0 + length (take i ns) = omega (arith, length-take-le i ns (let le : i ≤ length ns = omega (arith, l) in le)) in
     grown ∙ ap (λ (zs : List Content). zs ++ x ∷ []) so_far ∙ ap (λ z. contents_from t 0 (take i ns) ++ z ∷ []) (is ∙ ap (λ k. content_of t k (get_or ns i 0)) many)
@@ -37,7 +39,8 @@ there-at (y ∷ ys) zero x l is = ap Some (sym is)
 there-at (y ∷ ys) (suc i) x l is = there-at ys i x (omega (arith, l)) is
 
 -- so it is of what is seen of a list that is made item by item
-pub seen-step : {A B C : Type 0} (g : A → C) (f : B → C) (ps : List B) (i : ℕ) (p : B) (xs ys : List A) (x : A) → ys ≡ xs ++ x ∷ [] → i < length ps → p ≡ get_or ps i p → map g xs ≡ map f (take i ps) → g x ≡ f p → map g ys ≡ map f (take (i + 1) ps)
+pub seen-step : {A B C : Type 0} (g : A → C) (f : B → C) (ps : List B) (i : ℕ) (p : B) (xs ys : List A) (x : A) → ys ≡ xs ++ x ∷ [] → i < length ps
+    → p ≡ get_or ps i p → map g xs ≡ map f (take i ps) → g x ≡ f p → map g ys ≡ map f (take (i + 1) ps)
 seen-step g f ps i p xs ys x grown l item so_far is =
     ap (map g) grown ∙ map-append g xs (x ∷ []) ∙ ap₂ (λ zs z. zs ++ z ∷ []) so_far (is ∙ ap f item) ∙ sym (map_more f ps i p l)
 

@@ -49,7 +49,8 @@ next_place old new k z o i h =
     let stands : rank old k ≡ k = ap (λ (qs : List ℕ). rank qs k) o ∙ rank-listed (suc k) (λ j. j) (λ a b e. e) k (omega arith) in
     let grown : new ≡ old ++ z ∷ [] = i.list ∙ ap (λ n. insert old n z) (let same : suc (rank old k) ≡ length old = omega (arith, stands, len) in same) ∙ insert_end old z in
     let many : length new ≡ suc (suc k) = ap length grown ∙ (let P : ℕ → Type 0 = λ n. length (old ++ z ∷ []) ≡ suc n in subst P len (length_snoc old z)) in
-    let small : z < suc (suc k) = let P : List ℕ → Type 0 = λ qs. AreBelow (suc (suc k)) qs in below_last (suc (suc k)) z old (subst P grown (let Q : ℕ → Type 0 = λ n. AreBelow n new in subst Q many h.small)) in
+    let small : z < suc (suc k) = let P : List ℕ → Type 0 = λ qs. AreBelow (suc (suc k)) qs in
+    below_last (suc (suc k)) z old (subst P grown (let Q : ℕ → Type 0 = λ n. AreBelow n new in subst Q many h.small)) in
     let is : z ≡ suc k = ⊎_elim
     (λ (lt : z < suc k). absurd (let at : rank old z ≡ z = ap (λ (qs : List ℕ). rank qs z) o ∙ rank-listed (suc k) (λ j. j) (λ a b e. e) z lt in let out = i.fresh in omega (arith, at, out, len, lt)))
     (λ (le : suc k ≤ z). omega (arith, le, small))

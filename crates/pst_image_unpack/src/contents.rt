@@ -5,12 +5,9 @@ ghost use Rattle.pst_image_meaning.specs.Denoted.{content_of as denoted_content,
 ghost use Rattle.pst_image_unpack.specs.Listing.{AreOfFirst};
 
 use pst_base::{Kind, NoMemory, NodeId, SlotNo, TypeShape};
-use pst_image_form::StampPart;
+use pst_image_form::{ENTRY_SLOTS, StampPart};
 use pst_order::Pos;
 use pst_rows::{Content, Stamp};
-
-/// How many numbers of entries a node has: one for each pointer slot that a record can have.
-const ENTRIES: u64 = 128;
 
 /// The content of a slot of a node of a type, by its number.
 pub fn content_of(ty: &TypeShape, slot: SlotNo, number: u64) -> Content
@@ -22,8 +19,8 @@ pub fn content_of(ty: &TypeShape, slot: SlotNo, number: u64) -> Content
         Some(Kind::Pointer(_)) => Content::Target(NodeId(number - 1)),
         None if number == 0 => Content::Free,
         None => {
-            let node = NodeId((number / ENTRIES).saturating_sub(1));
-            Content::From(node, SlotNo((number % ENTRIES) as u16))
+            let node = NodeId((number / ENTRY_SLOTS).saturating_sub(1));
+            Content::From(node, SlotNo((number % ENTRY_SLOTS) as u16))
         }
     }
 }

@@ -4,7 +4,8 @@
 //! the parts of an image is `IsRebuilt` of `pst_image_meaning`.
 //!
 //! Contract: [`unpack`] gives the program of an image, the store that it tells of, and how long it is, exactly where all rules hold; else
-//! it says which rule fails first; `accepted_or_refused` is the law that never both are so. [`rebuild`] makes the store: the order list
+//! it says which rule fails first. By the laws of `accepted_or_refused` never both are so, and no two rules fail first; by those of
+//! `packed_and_taken` a store that was taken is packed as the same bytes again, and what is packed of any store is accepted. [`rebuild`] makes the store: the order list
 //! by insertions behind the last place, the nodes with their rows, the versions, their forks in the order of the runs, and for each
 //! record the place over which it lives. It shows the parts again, and has the heap at each position that the parts denote. All takes
 //! time by the length of the image. Want of memory is the one free answer. (This project's own form of keeping a store of fat nodes.)
@@ -24,5 +25,5 @@ mod taking;
 mod versions;
 
 pub use fault::ImageFault;
-pub use laws::accepted_or_refused;
+pub use laws::{accepted_or_refused, packed_and_taken};
 pub use taking::{Unpacked, unpack};

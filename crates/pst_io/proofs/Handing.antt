@@ -1,17 +1,18 @@
 -- What was handed out of an input, one time after another.
-use Rattle.std.proofs.Common.{◌≡◌, ◌⊎◌, inl, inr, ℕ, ◌+◌, ◌-◌, ◌<◌, ◌≤◌, Bool, cond, true, false, List, [], ◌∷◌, ◌++◌, length, take, drop, refl, sym, ap, ◌∙◌, arith, None, Some, IsTrue, append-nil, append_assoc, length-append, length-take, take-append-drop}
+use Rattle.std.proofs.Common.{◌≡◌, ◌⊎◌, inl, inr, ℕ, ◌+◌, ◌-◌, ◌<◌, ◌≤◌, Bool, cond, true, false, List, [], ◌∷◌, ◌++◌, length, take, drop, refl, sym, ap, ◌∙◌}
+use Rattle.std.proofs.Common.{subst, arith, None, Some, IsTrue, append-nil, append_assoc, length-append, length-take, take-append-drop}
 use Rattle.std.specs.declared.option.Option.{Option}
 use Rattle.std.specs.Io.KnownBytes.{Consumes, IsAtEnd, Keeps, prepend_known}
 use Rattle.std.proofs.KnownBytes.{Consumes-nil, Consumes-trans, Consumes-kept}
 use Rattle.std.proofs.lemmas.List.{drop_all, length-take-le}
 use Rattle.std.proofs.Math.Seq.{take-append_seam, take-length}
 use Rattle.pst_io.specs.Text.{lines_of, whole_lines, IsFirstFeed}
-use Rattle.pst_io.specs.Input.{InputState, Hands, Gives, Reads, AreNextLines, NeedsNoRead, skipped}
+use Rattle.pst_io.specs.Input.{InputState, Hands, Gives, Reads, AreNextLines, NeedsNoRead, HandsTo, skipped}
 use Rattle.pst_io.proofs.TextLemmas.{lines_of-feed, whole_lines-feed, lines_of-unfed, split_at_feed, front_clear}
 
 -- nothing was read, and nothing handed out
 pub hands_none : (a : InputState) (left : Option (List ℕ)) → Hands a left a left []
-hands_none a left = record { bytes = []; consumed = Consumes-nil left; kept = append-nil a.held; counted = omega arith }
+hands_none a left = record { bytes = []; consumed = Consumes-nil left; kept = append-nil a.held; counted = omega arith; limit = refl }
 
 pub hands_then : (a : InputState) (left : Option (List ℕ)) (b : InputState) (left' : Option (List ℕ)) (c : InputState) (left'' : Option (List ℕ)) (text text' : List ℕ)
     → Hands a left b left' text → Hands b left' c left'' text' → Hands a left c left'' (text ++ text')
@@ -21,11 +22,35 @@ hands_then a left b left' c left'' text text' p q = record {
   kept = sym (append_assoc a.held p.bytes q.bytes) ∙ ap (λ l. l ++ q.bytes) p.kept ∙ append_assoc text b.held q.bytes ∙ ap (λ l. text ++ l) q.kept
       ∙ sym (append_assoc text text' c.held);
   counted = omega (arith, p.counted, q.counted, length-append text text');
+  limit = q.limit ∙ p.limit;
 }
 
+-- so many of the bytes that are held were handed out
+pub hands_held : (a : InputState) (left : Option (List ℕ)) (n : ℕ) → n ≤ length a.held → Hands a left (skipped n a) left (take n a.held)
+hands_held a left n few = record {
+  bytes = [];
+  consumed = Consumes-nil left;
+  kept = append-nil a.held ∙ sym (take-append-drop n a.held);
+  counted = omega (arith, length-take-le n a.held few);
+  limit = refl;
+}
+
+-- these bytes were handed out to the end of a text, and then so many of those that were held; then more was read
+pub hands_on : (a : InputState) (left : Option (List ℕ)) (b : InputState) (left' : Option (List ℕ)) (c : InputState) (d : InputState) (left'' : Option (List ℕ)) (old text new : List ℕ) (n : ℕ)
+    → HandsTo a left b left' old text → n ≤ length b.held → c ≡ skipped n b → new ≡ text ++ take n b.held → Hands c left' d left'' [] → HandsTo a left d left'' old new
+hands_on a left b left' c d left'' old text new n p few is put more =
+    let part : Hands b left' c left' (take n b.held) = subst (λ (s : InputState). Hands b left' s left' (take n b.held)) (sym is) (hands_held b left' n few) in
+    let given = p.given ++ take n b.held in
+    record {
+      given = given;
+      hands = subst (λ l. Hands a left d left'' l) (append-nil given) (hands_then a left c left' d left'' given [] (hands_then a left b left' c left' p.given (take n b.held) p.hands part) more);
+      text = put ∙ ap (λ l. l ++ take n b.held) p.text ∙ append_assoc old p.given (take n b.held);
+    }
+
 -- a source that failed keeps what it has
-pub hands_kept : (a : InputState) (left : Option (List ℕ)) (b : InputState) (left' left'' : Option (List ℕ)) (text : List ℕ) → Hands a left b left' text → Keeps left' left'' → Hands a left b left'' text
-hands_kept a left b left' left'' text p same = record { bytes = p.bytes; consumed = Consumes-kept left left' left'' p.bytes p.consumed same; kept = p.kept; counted = p.counted }
+pub hands_kept : (a : InputState) (left : Option (List ℕ)) (b : InputState) (left' left'' : Option (List ℕ)) (text : List ℕ)
+    → Hands a left b left' text → Keeps left' left'' → Hands a left b left'' text
+hands_kept a left b left' left'' text p same = record { bytes = p.bytes; consumed = Consumes-kept left left' left'' p.bytes p.consumed same; kept = p.kept; counted = p.counted; limit = p.limit }
 
 -- the text that was handed out, and what was pending behind it
 told_front : (left left' : Option (List ℕ)) (held bytes text held' : List ℕ) (lines : List (List ℕ)) → Consumes left left' bytes → held ++ bytes ≡ text ++ held'
@@ -97,6 +122,7 @@ hands_feed a left b left' i p first = record {
   consumed = p.consumed;
   kept = kept_feed a.held p.bytes b.held i p.kept first;
   counted = omega (arith, p.counted, length-append (take i b.held) (10 ∷ []), length-take-le i b.held (omega (arith, first.within)));
+  limit = p.limit;
 }
 
 pub gives_feed : (a : InputState) (left : Option (List ℕ)) (b : InputState) (left' : Option (List ℕ)) (i : ℕ) → Reads a left b left' → IsFirstFeed i b.held
@@ -115,6 +141,7 @@ hands_rest a left b left' n p all = record {
   consumed = p.consumed;
   kept = p.kept ∙ sym (take-append-drop n b.held);
   counted = omega (arith, p.counted, length-take n b.held);
+  limit = p.limit;
 }
 
 told_rest : (left left' : Option (List ℕ)) (held bytes held' line rest : List ℕ) → Consumes left left' bytes → held ++ bytes ≡ held' → line ≡ held' → rest ≡ [] → IsAtEnd left'

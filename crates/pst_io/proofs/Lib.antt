@@ -1,3 +1,4 @@
 pub mod Parts
 pub mod TextLemmas
 pub mod Handing
+pub mod Going

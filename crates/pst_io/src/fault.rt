@@ -10,7 +10,7 @@ use std::alloc::AllocError;
 pub enum LinesFault {
     /// The source failed.
     Failed,
-    /// The input has more than 67,108,864 bytes, and no further whole line is among the first 67,108,864.
+    /// The input has more bytes than the reader may read, and no further whole line is among those that it may.
     TooLong,
     /// There was no memory for the bytes of a line. Nothing that was read is lost.
     Memory,

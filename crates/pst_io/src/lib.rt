@@ -4,7 +4,8 @@
 //! faults. `Lines` holds at most one read beyond the line that it handed out.
 //!
 //! Contract: `put` writes a piece whole, or a proper prefix with a fault that the sink counted. `Lines::next` hands out exactly
-//! the next line, and answers the end, too long an input and a fault exactly where they come.
+//! the next line, and `Lines::hand` exactly the next bytes, so many as it is asked for; both answer the end, an input that is
+//! longer than the reader's limit and a fault exactly where they come.
 //!
 //!     let mut lines = Lines::new(alloc);
 //!     while lines.next(&mut source)? {
@@ -26,6 +27,6 @@ pub use fault::LinesFault;
 pub use lines::Lines;
 pub use memory_sink::MemSink;
 pub use memory_source::MemSource;
-pub use room::{MOST_INPUT, MOST_READ, limits_in_digits};
+pub use room::{MOST_INPUT, MOST_READ, MOST_SERVED, limits_in_digits};
 pub use standard::{StdSink, StdSource};
 pub use traits::{Failed, Sink, Source, put};

@@ -1,23 +1,23 @@
 // A source, line by line.
-ghost use Rattle.std.specs.Prelude.{◌≡◌, ◌≢◌, ◌<◌, ◌≤◌, ◌↔◌, ◌-◌, max, [], ◌∷◌, length, true, false, IfErr, OnErr, IsOk, OnOk, Ok, Err, IsTrue, is_err};
+ghost use Rattle.std.specs.Prelude.{◌≡◌, ◌≢◌, ◌<◌, ◌≤◌, ◌↔◌, ◌+◌, ◌-◌, max, [], ◌∷◌, length, true, false, IfErr, OnErr, IsOk, OnOk, Ok, Err, IsTrue, is_err};
 ghost use Rattle.pst_io.specs.Causes.{Rose};
 ghost use Rattle.pst_io.specs.Text.{line_text, whole_lines};
-ghost use Rattle.pst_io.specs.Input.{Hands, Gives, Reads, ReadsPast, IsOver, NeedsNoRead, IsCutOff, bytes_read, pending};
-ghost use Rattle.pst_io.specs.Lines.{LinesState, IsOpen, not_begun};
+ghost use Rattle.pst_io.specs.Input.{Hands, Gives, Reads, ReadsPast, IsOver, NeedsNoRead, IsCutOff, HandsTo, HandsPast, bytes_read, pending};
+ghost use Rattle.pst_io.specs.Lines.{LinesState, IsOpen, GoesOn, not_begun, unread};
 ghost use Rattle.std.specs.Io.KnownBytes.{IsAtEnd};
 
 use crate::fault::LinesFault;
 use crate::input::Input;
-use crate::room::{MOST_INPUT, MOST_READ};
+use crate::room::{MOST_INPUT, MOST_READ, MOST_SERVED};
 use crate::traits::Source;
 use std::alloc::Global;
 use std::marker::Model;
 
 /// Hands out the lines of a source one by one, as they are read.
 ///
-/// A line ends at a line feed, and bytes after the last line feed are a line too. At most [`MOST_INPUT`]
-/// bytes are read, and one more to see whether the input is longer, at most [`MOST_READ`] a read. It keeps
-/// the line that is ready, and of what is behind it at most one read.
+/// A line ends at a line feed, and bytes after the last line feed are a line too. No more bytes are read than its
+/// limit, [`MOST_INPUT`] where it is told no other, and one more to see whether the input is longer, at most
+/// [`MOST_READ`] a read. It keeps the line that is ready, and of what is behind it at most one read.
 #[derive(Drop)]
 pub struct Lines {
     input: Input,
@@ -48,12 +48,20 @@ impl Model for Lines {
 }
 
 impl Lines {
-    /// A reader that has read nothing. It takes no memory before its first read.
+    /// A reader that has read nothing, and may read [`MOST_INPUT`] bytes. It takes no memory before its first read.
     pub fn new(alloc: Global) -> Lines
         ensures { result ≡ not_begun }
     {
+        Lines::up_to(alloc, MOST_INPUT)
+    }
+
+    /// A reader that has read nothing, and may read so many bytes. It takes no memory before its first read.
+    pub fn up_to(alloc: Global, most: usize) -> Lines
+        requires { most ≤ MOST_SERVED }
+        ensures { result ≡ unread most }
+    {
         Lines {
-            input: Input::new(alloc),
+            input: Input::new(alloc, most),
             line_end: 0,
             taken: 0,
             ready: false,
@@ -84,7 +92,7 @@ impl Lines {
         // What stands after a fault.
         ensures cut_off { OnErr result (IsCutOff self.new.input) }
         ensures reads { IfErr result (λ fault. (fault ≡ LinesFault.TooLong → ⊥) → Reads self.old.input (S.left source.old) self.new.input (S.left source.new)) }
-        ensures too_long { result ≡ Err LinesFault.TooLong → ReadsPast self.old.input (S.left source.old) self.new.input (S.left source.new) MOST_INPUT }
+        ensures too_long { result ≡ Err LinesFault.TooLong → ReadsPast self.old.input (S.left source.old) self.new.input (S.left source.new) }
         ensures fault { result ≡ Err LinesFault.Failed → Rose (S.faults source.old) (S.faults source.new) }
         ensures failed { self.new.failed ≡ is_err result }
 
@@ -92,12 +100,27 @@ impl Lines {
         // So less than one read is held behind the line that is handed out, or no more than was held before.
         ensures no_read { NeedsNoRead self.old.input → IsOk result × (source.new ≡ source.old) }
         ensures ahead { result ≡ Ok true → length self.new.input.held ≤ max (length self.old.input.held) (MOST_READ - 1) }
-        ensures within { bytes_read self.new.input ≤ MOST_INPUT }
+        ensures within { bytes_read self.new.input ≤ self.new.input.most }
+        ensures limit { self.new.input.most ≡ self.old.input.most }
 
         ensures ready { IsTrue self.new.ready ↔ (result ≡ Ok true) }
         ensures open { OnOk result (IsOpen self.new (S.left source.new)) }
         ensures goes_on { result ≡ Ok true → self.old.input.handed < self.new.input.handed }
         ensures later { S.faults source.old ≤ S.faults source.new }
+    {
+        self.go_on(source)
+    }
+
+    // Goes on to the next line, as `next` does: what comes of it is said as one.
+    #[inline(always)]
+    fn go_on<S: Source>(&mut self, source: &mut S) -> Result<bool, LinesFault>
+        requires { IsOpen self.old (S.left source.old) }
+        ensures goes { GoesOn result self.old (S.left source.old) self.new (S.left source.new) }
+        ensures no_read { NeedsNoRead self.old.input → IsOk result × (source.new ≡ source.old) }
+        ensures within { bytes_read self.new.input ≤ self.new.input.most }
+        ensures limit { self.new.input.most ≡ self.old.input.most }
+        ensures later { S.faults source.old ≤ S.faults source.new }
+        ensures fault { result ≡ Err LinesFault.Failed → Rose (S.faults source.old) (S.faults source.new) }
     {
         self.input.skip(self.taken);
         self.line_end = 0;
@@ -119,6 +142,47 @@ impl Lines {
                 self.ready = rest > 0;
                 Ok(self.ready)
             }
+            Err(fault) => {
+                self.failed = true;
+                Err(fault)
+            }
+        }
+    }
+
+    /// Hands out so many of the next bytes, or those up to the end of the input, to the end of a text, and says
+    /// whether there were so many. What was read beyond them is handed out by the next call.
+    ///
+    /// No line is ready then. As for `next`, each call has to be given the same source, no read is made where
+    /// enough is held, and the reader is not asked again after an `Err`: what was handed out before it stands in
+    /// the text. No memory is taken by the count, but as bytes come.
+    pub fn hand<S: Source>(
+        &mut self,
+        source: &mut S,
+        count: usize,
+        text: &mut Vec<u8>,
+    ) -> Result<bool, LinesFault>
+        requires { IsOpen self.old (S.left source.old) }
+        ensures hands { (result ≡ Err LinesFault.TooLong → ⊥) → HandsTo self.old.input (S.left source.old) self.new.input (S.left source.new) text.old.items text.new.items }
+        ensures past { result ≡ Err LinesFault.TooLong → HandsPast self.old.input (S.left source.old) self.new.input (S.left source.new) text.old.items text.new.items }
+        ensures whole { result ≡ Ok true → length text.new.items ≡ length text.old.items + count }
+        ensures end { result ≡ Ok false → (length text.new.items < length text.old.items + count) × IsOver self.new.input }
+        ensures near { OnOk result (length self.new.input.held ≤ max (length self.old.input.held) (MOST_READ - 1)) }
+        ensures no_read { count ≤ length self.old.input.held → source.new ≡ source.old }
+        ensures ready { self.new.ready ≡ false }
+        ensures failed { self.new.failed ≡ is_err result }
+        ensures within { bytes_read self.new.input ≤ self.new.input.most }
+        ensures limit { self.new.input.most ≡ self.old.input.most }
+        ensures open { OnOk result (IsOpen self.new (S.left source.new)) }
+        ensures later { S.faults source.old ≤ S.faults source.new }
+        ensures fault { result ≡ Err LinesFault.Failed → Rose (S.faults source.old) (S.faults source.new) }
+    {
+        self.input.skip(self.taken);
+        self.line_end = 0;
+        self.taken = 0;
+        self.ready = false;
+        self.fed = false;
+        match self.input.hand(source, count, text) {
+            Ok(whole) => Ok(whole),
             Err(fault) => {
                 self.failed = true;
                 Err(fault)

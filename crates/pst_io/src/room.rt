@@ -1,18 +1,22 @@
 // The buffer of an input: the bytes that are held stand between two places of it.
 ghost use Rattle.std.specs.Prelude.{◌≡◌, ◌<◌, ◌≤◌, ◌-◌, drop, take, vec_len, OnErr, OnOk};
-ghost use Rattle.pst_io.specs.declared.room.TheConstants.{MOST_INPUT, MOST_READ};
+ghost use Rattle.pst_io.specs.declared.room.TheConstants.{MOST_INPUT, MOST_SERVED, MOST_READ};
 
 use std::alloc::AllocError;
 
-/// The most bytes of one source that are read and handed out as lines: 64 MiB.
+/// The most bytes of one source that a reader of lines reads where it is told no other limit: 64 MiB.
 pub const MOST_INPUT: usize = 67_108_864;
+
+/// The greatest limit that a reader of lines may have: 2^62 bytes, which is more than any memory holds.
+pub const MOST_SERVED: usize = 4_611_686_018_427_387_904;
 
 /// The most bytes that one read asks a source for: 64 KiB.
 pub const MOST_READ: usize = 65_536;
 
-/// Both limits in digits.
+/// The limits in digits.
 pub fn limits_in_digits()
     ensures input { MOST_INPUT ≡ 67108864 }
+    ensures served { MOST_SERVED ≡ 4611686018427387904 }
     ensures read { MOST_READ ≡ 65536 }
 {}
 
@@ -28,18 +32,19 @@ pub fn move_to_front(buffer: &mut Vec<u8>, start: usize, end: usize)
     }
 }
 
-// Makes room behind the first bytes, so many that a line of n bytes costs a copy of at most n in all.
-pub fn make_room(buffer: &mut Vec<u8>, end: usize) -> Result<(), AllocError>
+// Makes room behind the first bytes, up to a limit, so many that a line of n bytes costs a copy of at most n in all.
+pub fn make_room(buffer: &mut Vec<u8>, end: usize, most: usize) -> Result<(), AllocError>
     requires within { end ≤ vec_len buffer.old }
-    requires below { end < MOST_INPUT }
-    requires most { vec_len buffer.old ≤ MOST_INPUT }
+    requires below { end < most }
+    requires most { vec_len buffer.old ≤ most }
+    requires served { most ≤ MOST_SERVED }
     ensures room { OnOk result (end < vec_len buffer.new) }
     ensures front { OnOk result (take end buffer.new.items ≡ take end buffer.old.items) }
-    ensures within { vec_len buffer.new ≤ MOST_INPUT }
+    ensures within { vec_len buffer.new ≤ most }
     ensures err { OnErr result (buffer.new.items ≡ buffer.old.items) }
 {
     if end == buffer.len() {
-        buffer.resize(MOST_READ.max(2 * end).min(MOST_INPUT), 0)?;
+        buffer.resize(MOST_READ.max(2 * end).min(most), 0)?;
     }
     Ok(())
 }

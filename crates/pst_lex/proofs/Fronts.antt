@@ -6,7 +6,7 @@ use Rattle.std.specs.Fmt.{decimal}
 use Rattle.pst_lex.specs.declared.faults.LexFault.{LexFault}
 use Rattle.pst_lex.specs.declared.faults.LexFault.TheVariants as fault
 use Rattle.pst_lex.specs.Bytes.{is_word, is_letter, is_digit, is_symbol, is_pair, gap_step, gap, EndsWord, NoPair, StartsWithLetter, StartsWithDigit}
-use Rattle.pst_lex.specs.Words.{mark_text, Word, Fixed, Name, Number, Unknown}
+use Rattle.pst_lex.specs.Words.{mark_text, Word, Fixed, Name, Number}
 use Rattle.pst_lex.specs.Lexing.{IsToken, EndsMark, IsFault, line_of}
 use Rattle.pst_lex.proofs.Comparing.{and_true, or_left, or_right, other_test}
 use Rattle.pst_lex.proofs.Marks.{letter_low}
@@ -155,7 +155,6 @@ token_front (Number (pos n)) w rest (is, h, e) =
     inl (digit_front w rest (subst StartsWithDigit (sym is) p.0) (subst (λ y. list_all is_word y ≡ true) (sym is) p.1) e)
 token_front (Number (negsuc n)) w rest (is, h, e) = absurd h
 token_front (Fixed m) w rest (is, h, e) = subst (λ y. IsWordFront y rest ⊎ IsSymbolFront y rest) (sym is) (mark_front (mark_text m) rest (mark_sort m) e)
-token_front Unknown w rest (is, h, e) = absurd h
 
 symbol_first : (w u : List ℕ) → IsSymbolFront w u → (a : ℕ) × (x : List ℕ) × (w ≡ a ∷ x) × (is_word a ≡ false) × (gap_step false a ≡ None)
 symbol_first [] u p = absurd p
@@ -265,7 +264,6 @@ digit_token (Name x) w rest (is, h, e) d = absurd (starts_twice w (subst StartsW
 digit_token (Number (pos n)) w rest (is, h, e) d = (n, h, is)
 digit_token (Number (negsuc n)) w rest (is, h, e) d = absurd h
 digit_token (Fixed m) w rest (is, h, e) d = absurd (mark_no_digit m (subst StartsWithDigit is d))
-digit_token Unknown w rest (is, h, e) d = absurd h
 
 -- a token that begins with a letter has no more than 32 bytes
 letter_token : (t : Word) (w rest : List ℕ) → IsToken t w rest → StartsWithLetter w → length w ≤ 32
@@ -273,7 +271,6 @@ letter_token (Name x) w rest (is, h, e) s = let short = h.short in let same = ap
 letter_token (Number (pos n)) w rest (is, h, e) s = absurd (starts_twice w s (subst StartsWithDigit (sym is) (number_word n h).0))
 letter_token (Number (negsuc n)) w rest (is, h, e) s = absurd h
 letter_token (Fixed m) w rest (is, h, e) s = let short = mark_short m (subst StartsWithLetter is s) in let same = ap length is in omega arith
-letter_token Unknown w rest (is, h, e) s = absurd h
 
 byte_front : (l : ℕ) (bad w r : List ℕ) → bad ≡ w ++ r → IsFault (fault.Byte l) false bad → IsNoFront (w ++ r)
 byte_front l bad w r is h = subst IsNoFront is (go bad h)

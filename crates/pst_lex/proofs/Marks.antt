@@ -7,12 +7,12 @@ use Rattle.std.specs.List.{list_all}
 use Rattle.std.proofs.lemmas.List.Folds.{list_all_more}
 use Rattle.std.proofs.lemmas.List.{drop_all}
 use Rattle.std.proofs.lemmas.Bool.Decides.{nat_tests}
-use Rattle.pst_base.specs.Words as language
-use Rattle.pst_base.specs.Words.{IsKeywordNumber}
 use Rattle.pst_lex.specs.declared.words.Mark.{Mark}
-use Rattle.pst_lex.specs.declared.words.Mark.TheVariants.{Record, Val, Ptr, Root, Proc, Query, Var, New, Call, Print, If, Else, While, Return, Null, And, Or, Not, Int, OpenBrace, CloseBrace, OpenParen, CloseParen, Semicolon, Colon, Comma, Dot, Assign, Equal, NotEqual, Less, LessEqual, Greater, GreaterEqual, Plus, Minus, Star, Slash, Percent}
+use Rattle.pst_lex.specs.declared.words.Mark.TheVariants.{Record, Val, Ptr, Root, Proc, Query, Var, New, Call, Print, If, Else, While, Return, Null, And, Or}
+use Rattle.pst_lex.specs.declared.words.Mark.TheVariants.{Not, Int, OpenBrace, CloseBrace, OpenParen, CloseParen, Semicolon, Colon, Comma, Dot, Assign, Equal}
+use Rattle.pst_lex.specs.declared.words.Mark.TheVariants.{NotEqual, Less, LessEqual, Greater, GreaterEqual, Plus, Minus, Star, Slash, Percent}
 use Rattle.pst_lex.specs.Bytes.{is_word, is_letter, is_digit, is_pair, EndsWord, NoPair, StartsWithLetter, StartsWithDigit}
-use Rattle.pst_lex.specs.Words.{mark_text, keywords, keyword_of, fixed, Name}
+use Rattle.pst_lex.specs.Words.{mark_text, IsKeyword, Fixed, Name}
 use Rattle.pst_lex.specs.Lexing.{IsToken, EndsMark}
 use Rattle.pst_lex.proofs.Comparing.{and_true, or_false, or_left, le_true, lt_test, other_test}
 
@@ -66,31 +66,27 @@ keyword_ends [] rest h e = h
 keyword_ends (a ∷ []) rest h e = letter_no_pair a rest h
 keyword_ends (a ∷ b ∷ w) rest h e = rw (or_left (is_letter a) (is_digit a) h) e
 
--- the marks of the keywords are spelled as the language's own words
-keywords_spelled : map mark_text keywords ≡ language.keywords
-keywords_spelled = refl
-
 -- a word with letters that is none of the keywords is spelled as no keyword and as no symbol
-pub no_mark : (w : List ℕ) → StartsWithLetter w → IsKeywordNumber None w → (m : Mark) → w ≡ mark_text m → ⊥
-no_mark w s h Record e = h 0 [] (omega arith) e
-no_mark w s h Val e = h 1 [] (omega arith) e
-no_mark w s h Ptr e = h 2 [] (omega arith) e
-no_mark w s h Root e = h 3 [] (omega arith) e
-no_mark w s h Proc e = h 4 [] (omega arith) e
-no_mark w s h Query e = h 5 [] (omega arith) e
-no_mark w s h Var e = h 6 [] (omega arith) e
-no_mark w s h New e = h 7 [] (omega arith) e
-no_mark w s h Call e = h 8 [] (omega arith) e
-no_mark w s h Print e = h 9 [] (omega arith) e
-no_mark w s h If e = h 10 [] (omega arith) e
-no_mark w s h Else e = h 11 [] (omega arith) e
-no_mark w s h While e = h 12 [] (omega arith) e
-no_mark w s h Return e = h 13 [] (omega arith) e
-no_mark w s h Null e = h 14 [] (omega arith) e
-no_mark w s h And e = h 15 [] (omega arith) e
-no_mark w s h Or e = h 16 [] (omega arith) e
-no_mark w s h Not e = h 17 [] (omega arith) e
-no_mark w s h Int e = h 18 [] (omega arith) e
+pub no_mark : (w : List ℕ) → StartsWithLetter w → IsKeyword None w → (m : Mark) → w ≡ mark_text m → ⊥
+no_mark w s h Record e = h 0 Record (omega arith) e
+no_mark w s h Val e = h 1 Record (omega arith) e
+no_mark w s h Ptr e = h 2 Record (omega arith) e
+no_mark w s h Root e = h 3 Record (omega arith) e
+no_mark w s h Proc e = h 4 Record (omega arith) e
+no_mark w s h Query e = h 5 Record (omega arith) e
+no_mark w s h Var e = h 6 Record (omega arith) e
+no_mark w s h New e = h 7 Record (omega arith) e
+no_mark w s h Call e = h 8 Record (omega arith) e
+no_mark w s h Print e = h 9 Record (omega arith) e
+no_mark w s h If e = h 10 Record (omega arith) e
+no_mark w s h Else e = h 11 Record (omega arith) e
+no_mark w s h While e = h 12 Record (omega arith) e
+no_mark w s h Return e = h 13 Record (omega arith) e
+no_mark w s h Null e = h 14 Record (omega arith) e
+no_mark w s h And e = h 15 Record (omega arith) e
+no_mark w s h Or e = h 16 Record (omega arith) e
+no_mark w s h Not e = h 17 Record (omega arith) e
+no_mark w s h Int e = h 18 Record (omega arith) e
 no_mark w s h OpenBrace e = let bad = subst StartsWithLetter e s in absurd cc
 no_mark w s h CloseBrace e = let bad = subst StartsWithLetter e s in absurd cc
 no_mark w s h OpenParen e = let bad = subst StartsWithLetter e s in absurd cc
@@ -112,16 +108,12 @@ no_mark w s h Star e = let bad = subst StartsWithLetter e s in absurd cc
 no_mark w s h Slash e = let bad = subst StartsWithLetter e s in absurd cc
 no_mark w s h Percent e = let bad = subst StartsWithLetter e s in absurd cc
 
--- the word with letters is the keyword of that number
-pub keyword_token : (n : ℕ) (w rest : List ℕ) → StartsWithLetter w → EndsWord rest → IsKeywordNumber (Some n) w → IsToken (fixed (keyword_of n)) w rest
-keyword_token n w rest s e h = go (keyword_of n) (subst (λ o. IsSomeAnd o (λ keyword. w ≡ keyword)) (ap (λ l. slice_get l n) (sym keywords_spelled) ∙ slice_get-map mark_text keywords n) h)
-  where
-    go : (o : Option Mark) → IsSomeAnd (option_map mark_text o) (λ keyword. w ≡ keyword) → IsToken (fixed o) w rest
-    go None p = absurd p
-    go (Some m) p = (p, tt, subst (λ x. EndsMark x rest) p (keyword_ends w rest s e))
+-- the word with letters is that keyword
+pub keyword_token : (m : Mark) (w rest : List ℕ) → StartsWithLetter w → EndsWord rest → IsKeyword (Some m) w → IsToken (Fixed m) w rest
+keyword_token m w rest s e is = (is, tt, subst (λ x. EndsMark x rest) is (keyword_ends w rest s e))
 
 -- the word with letters is a name
-pub name_token : (w rest : List ℕ) → StartsWithLetter w → list_all is_word w ≡ true → length w ≤ 32 → EndsWord rest → IsKeywordNumber None w → IsToken (Name w) w rest
+pub name_token : (w rest : List ℕ) → StartsWithLetter w → list_all is_word w ≡ true → length w ≤ 32 → EndsWord rest → IsKeyword None w → IsToken (Name w) w rest
 name_token w rest s all short e h = (refl, record { starts = s; all = all; short = short; no_keyword = no_mark w s h }, e)
 
 pub ruleset words = (list_all_more, word_ends, all_ends)

@@ -9,9 +9,11 @@ use Rattle.std.proofs.lemmas.Option.{slice_get_within}
 use Rattle.pst_lex.specs.declared.types.TokenKind.{TokenKind}
 use Rattle.pst_lex.specs.declared.types.TokenKind.TheVariants as kind
 use Rattle.pst_lex.specs.declared.words.Mark.{Mark}
-use Rattle.pst_lex.specs.declared.words.Mark.TheVariants.{Record, Val, Ptr, Root, Proc, Query, Var, New, Call, Print, If, Else, While, Return, Null, And, Or, Not, Int, OpenBrace, CloseBrace, OpenParen, CloseParen, Semicolon, Colon, Comma, Dot, Assign, Equal, NotEqual, Less, LessEqual, Greater, GreaterEqual, Plus, Minus, Star, Slash, Percent}
+use Rattle.pst_lex.specs.declared.words.Mark.TheVariants.{Record, Val, Ptr, Root, Proc, Query, Var, New, Call, Print, If, Else, While, Return, Null, And, Or}
+use Rattle.pst_lex.specs.declared.words.Mark.TheVariants.{Not, Int, OpenBrace, CloseBrace, OpenParen, CloseParen, Semicolon, Colon, Comma, Dot, Assign, Equal}
+use Rattle.pst_lex.specs.declared.words.Mark.TheVariants.{NotEqual, Less, LessEqual, Greater, GreaterEqual, Plus, Minus, Star, Slash, Percent}
 use Rattle.pst_lex.specs.Bytes.{is_word, is_letter, is_digit, is_symbol, is_pair, gap_step, StartsWithLetter, StartsWithDigit}
-use Rattle.pst_lex.specs.Words.{mark_text, keywords, symbols, keyword_of, symbol_of, fixed, Word, Fixed, Name, Number, Unknown, spelling, word_of}
+use Rattle.pst_lex.specs.Words.{mark_text, keywords, Word, Fixed, Name, Number, spelling, word_of}
 use Rattle.pst_lex.specs.Lexing.{IsWord}
 use Rattle.pst_lex.proofs.Numbers.{own}
 use Rattle.pst_lex.proofs.Comparing.{and_true, or_right}
@@ -75,6 +77,11 @@ same [] (b ∷ w) = false
 same (a ∷ v) [] = false
 same (a ∷ v) (b ∷ w) = (a == b) && same v w
 
+-- the symbols
+abbrev symbols : List Mark
+symbols = OpenBrace ∷ CloseBrace ∷ OpenParen ∷ CloseParen ∷ Semicolon ∷ Colon ∷ Comma ∷ Dot ∷ Assign ∷ Equal ∷ NotEqual ∷ Less ∷ LessEqual ∷ Greater ∷
+    GreaterEqual ∷ Plus ∷ Minus ∷ Star ∷ Slash ∷ Percent ∷ []
+
 -- the keyword or symbol that is spelled so
 abbrev named : List ℕ → Option Mark
 named w = find (λ m. same w (mark_text m)) (keywords ++ symbols)
@@ -123,121 +130,17 @@ named_text Percent = refl
 pub mark_same : (m n : Mark) → mark_text m ≡ mark_text n → m ≡ n
 mark_same m n e = let h : Some m ≡ Some n = sym (named_text m) ∙ ap named e ∙ named_text n in cc
 
--- a keyword's position, and behind the keywords a symbol's
-abbrev place : Mark → ℕ
-place Record = 0
-place Val = 1
-place Ptr = 2
-place Root = 3
-place Proc = 4
-place Query = 5
-place Var = 6
-place New = 7
-place Call = 8
-place Print = 9
-place If = 10
-place Else = 11
-place While = 12
-place Return = 13
-place Null = 14
-place And = 15
-place Or = 16
-place Not = 17
-place Int = 18
-place OpenBrace = 19
-place CloseBrace = 20
-place OpenParen = 21
-place CloseParen = 22
-place Semicolon = 23
-place Colon = 24
-place Comma = 25
-place Dot = 26
-place Assign = 27
-place Equal = 28
-place NotEqual = 29
-place Less = 30
-place LessEqual = 31
-place Greater = 32
-place GreaterEqual = 33
-place Plus = 34
-place Minus = 35
-place Star = 36
-place Slash = 37
-place Percent = 38
-
-abbrev Placed : ℕ → List Mark → Type 0
-Placed k [] = Unit {0}
-Placed k (m ∷ ms) = (place m ≡ k) × Placed (k + 1) ms
-
-keywords_placed : Placed 0 keywords
-keywords_placed = (refl, (refl, (refl, (refl, (refl, (refl, (refl, (refl, (refl, (refl, (refl, (refl, (refl, (refl, (refl, (refl, (refl, (refl, (refl, tt)))))))))))))))))))
-
-symbols_placed : Placed 19 symbols
-symbols_placed = (refl, (refl, (refl, (refl, (refl, (refl, (refl, (refl, (refl, (refl, (refl, (refl, (refl, (refl, (refl, (refl, (refl, (refl, (refl, (refl, tt))))))))))))))))))))
-
-placed_at : (ms : List Mark) (k n : ℕ) (m : Mark) → Placed k ms → slice_get ms n ≡ Some m → place m ≡ k + n
-placed_at [] k n m p e = absurd cc
-placed_at (x ∷ ms) k zero m (p, q) e = let same : x ≡ m = cc in sym (ap place same) ∙ p ∙ omega arith
-placed_at (x ∷ ms) k (suc n) m (p, q) e = omega (arith, placed_at ms (k + 1) n m q e)
-
-keyword_place : (n : ℕ) (m : Mark) → keyword_of n ≡ Some m → (place m ≡ n) × (n < 19)
-keyword_place n m e = (placed_at keywords 0 n m keywords_placed e ∙ omega arith, slice_get_within keywords n m e)
-
-symbol_place : (n : ℕ) (m : Mark) → symbol_of n ≡ Some m → place m ≡ 19 + n
-symbol_place n m e = placed_at symbols 19 n m symbols_placed e
-
-fixed_is : (o : Option Mark) → IsWord (fixed o) → (m : Mark) × (o ≡ Some m) × (fixed o ≡ Fixed m)
-fixed_is None h = absurd h
-fixed_is (Some m) h = (m, refl, refl)
-
-fixed_no_name : (o : Option Mark) (x : List ℕ) → fixed o ≡ Name x → ⊥
-fixed_no_name None x e = cc
-fixed_no_name (Some m) x e = cc
-
-fixed_no_number : (o : Option Mark) (v : ℤ) → fixed o ≡ Number v → ⊥
-fixed_no_number None v e = cc
-fixed_no_number (Some m) v e = cc
-
-both_fixed : (o p : Option Mark) → IsWord (fixed o) → fixed o ≡ fixed p → (m : Mark) × (o ≡ Some m) × (p ≡ Some m)
-both_fixed o p h e =
-    let (m, is, f) = fixed_is o h in
-    let (n, is', f') = fixed_is p (subst IsWord e h) in
-    let both : Fixed m ≡ Fixed n = sym f ∙ e ∙ f' in
-    let one : m ≡ n = cc in
-    (m, is, is' ∙ ap Some (sym one))
-
 -- what a token is as a word tells its kind
-pub kind_same : (k l : TokenKind) → IsWord (word_of k) → word_of k ≡ word_of l → k ≡ l
-kind_same (kind.Name x) (kind.Name y) h e = let same : x ≡ y = cc in ap kind.Name same
-kind_same (kind.Name x) (kind.Number v) h e = absurd cc
-kind_same (kind.Name x) (kind.Keyword n) h e = absurd (fixed_no_name (keyword_of n) x (sym e))
-kind_same (kind.Name x) (kind.Symbol n) h e = absurd (fixed_no_name (symbol_of n) x (sym e))
-kind_same (kind.Number v) (kind.Name y) h e = absurd cc
-kind_same (kind.Number v) (kind.Number u) h e = let same : v ≡ u = cc in ap kind.Number same
-kind_same (kind.Number v) (kind.Keyword n) h e = absurd (fixed_no_number (keyword_of n) v (sym e))
-kind_same (kind.Number v) (kind.Symbol n) h e = absurd (fixed_no_number (symbol_of n) v (sym e))
-kind_same (kind.Keyword n) (kind.Name y) h e = absurd (fixed_no_name (keyword_of n) y e)
-kind_same (kind.Keyword n) (kind.Number u) h e = absurd (fixed_no_number (keyword_of n) u e)
-kind_same (kind.Keyword n) (kind.Keyword k) h e =
-    let (m, is, is') = both_fixed (keyword_of n) (keyword_of k) h e in
-    ap kind.Keyword (sym (keyword_place n m is).0 ∙ (keyword_place k m is').0)
-kind_same (kind.Keyword n) (kind.Symbol k) h e =
-    let (m, is, is') = both_fixed (keyword_of n) (symbol_of k) h e in
-    let p = keyword_place n m is in
-    let q = symbol_place k m is' in
-    absurd (omega arith)
-kind_same (kind.Symbol n) (kind.Name y) h e = absurd (fixed_no_name (symbol_of n) y e)
-kind_same (kind.Symbol n) (kind.Number u) h e = absurd (fixed_no_number (symbol_of n) u e)
-kind_same (kind.Symbol n) (kind.Keyword k) h e =
-    let (m, is, is') = both_fixed (symbol_of n) (keyword_of k) h e in
-    let p = keyword_place k m is' in
-    let q = symbol_place n m is in
-    absurd (omega arith)
-kind_same (kind.Symbol n) (kind.Symbol k) h e =
-    let (m, is, is') = both_fixed (symbol_of n) (symbol_of k) h e in
-    let p = symbol_place n m is in
-    let q = symbol_place k m is' in
-    ap kind.Symbol (omega arith)
+pub kind_same : (k l : TokenKind) → word_of k ≡ word_of l → k ≡ l
+kind_same (kind.Name x) (kind.Name y) e = let same : x ≡ y = cc in ap kind.Name same
+kind_same (kind.Name x) (kind.Number v) e = absurd cc
+kind_same (kind.Name x) (kind.Mark m) e = absurd cc
+kind_same (kind.Number v) (kind.Name y) e = absurd cc
+kind_same (kind.Number v) (kind.Number u) e = let same : v ≡ u = cc in ap kind.Number same
+kind_same (kind.Number v) (kind.Mark m) e = absurd cc
+kind_same (kind.Mark m) (kind.Name y) e = absurd cc
+kind_same (kind.Mark m) (kind.Number u) e = absurd cc
+kind_same (kind.Mark m) (kind.Mark n) e = let same : m ≡ n = cc in ap kind.Mark same
 
 -- a number's text begins with a digit, and has bytes of words alone
 pub number_word : (n : ℕ) → n < 2 ^ 63 → StartsWithDigit (decimal n) × (list_all is_word (decimal n) ≡ true)
@@ -293,16 +196,12 @@ word_same (Name x) (Name y) h g e = ap Name e
 word_same (Name x) (Number (pos n)) h g e = absurd (number_name n x g h.starts (sym e))
 word_same (Name x) (Number (negsuc n)) h g e = absurd g
 word_same (Name x) (Fixed m) h g e = absurd (h.no_keyword m e)
-word_same (Name x) Unknown h g e = absurd g
 word_same (Number (pos n)) (Name y) h g e = absurd (number_name n y h g.starts e)
 word_same (Number (pos n)) (Number (pos k)) h g e = ap (λ x. Number (pos x)) (decimal_injective n k (omega arith) (omega arith) e)
 word_same (Number (pos n)) (Number (negsuc k)) h g e = absurd g
 word_same (Number (pos n)) (Fixed m) h g e = absurd (number_mark n m h e)
-word_same (Number (pos n)) Unknown h g e = absurd g
 word_same (Number (negsuc n)) u h g e = absurd h
 word_same (Fixed m) (Name y) h g e = absurd (g.no_keyword m (sym e))
 word_same (Fixed m) (Number (pos k)) h g e = absurd (number_mark k m g (sym e))
 word_same (Fixed m) (Number (negsuc k)) h g e = absurd g
 word_same (Fixed m) (Fixed n) h g e = ap Fixed (mark_same m n e)
-word_same (Fixed m) Unknown h g e = absurd g
-word_same Unknown u h g e = absurd h

@@ -12,7 +12,8 @@ use Rattle.pst_lex.proofs.Rows.{lexed-append, lexed_ends, none_left, zero_test}
 use Rattle.pst_lex.proofs.Unique.{first_same, end_no_token, not_both_from}
 
 -- the same at a place that is the same
-left_at : (end : ℕ) (rest rest' : List ℕ) (at at' line line' : ℕ) (tokens : List Token) → rest ≡ rest' → at ≡ at' → line ≡ line' → LexedTo (EndsAt end) rest at line tokens → LexedTo (EndsAt end) rest' at' line' tokens
+left_at : (end : ℕ) (rest rest' : List ℕ) (at at' line line' : ℕ) (tokens : List Token) → rest ≡ rest' → at ≡ at' → line ≡ line'
+    → LexedTo (EndsAt end) rest at line tokens → LexedTo (EndsAt end) rest' at' line' tokens
 left_at end rest rest' at at' line line' tokens r a l h = rw (← r, ← a, ← l) h
 
 -- the token that is taken is the first of those that are left
@@ -45,7 +46,8 @@ ends_there answer lexer e done tokens end h = left_none lexer.rest.now lexer.at 
 -- ---- the whole of a text
 
 -- one more token was looked at
-pub looked_more : (text : List ℕ) (ts : List Token) (t : Token) (old new : Lexer) → Leaves text ts old.rest.now old.at old.line → Passes old (t ∷ []) new → Leaves text (ts ++ t ∷ []) new.rest.now new.at new.line
+pub looked_more : (text : List ℕ) (ts : List Token) (t : Token) (old new : Lexer) → Leaves text ts old.rest.now old.at old.line
+    → Passes old (t ∷ []) new → Leaves text (ts ++ t ∷ []) new.rest.now new.at new.line
 looked_more text ts t old new h p = lexed-append (λ r a l. (r ≡ new.rest.now) × (a ≡ new.at) × (l ≡ new.line)) text old.rest.now 0 1 old.at old.line ts (t ∷ []) h p
 
 -- all tokens were looked at

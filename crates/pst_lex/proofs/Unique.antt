@@ -38,7 +38,7 @@ first_same E F text at line t u ts us (blank, w, rest, is, gp, tok, f, o, l, mor
     let long : length blank ≡ length blank' = ap length front.1 in
     let long' : length w ≡ length w' = ap length one.1 in
     let lines : feeds blank ≡ feeds blank' = ap feeds front.1 in
-    let same : t ≡ u = fields_same t u (kind_same t.kind u.kind tok.1 one.0) (omega arith) (omega arith) (omega arith) in
+    let same : t ≡ u = fields_same t u (kind_same t.kind u.kind one.0) (omega arith) (omega arith) (omega arith) in
     let place : at + length blank' + length w' ≡ at + length blank + length w = omega arith in
     let line' : line + feeds blank' ≡ line + feeds blank = omega arith in
     let more'' : LexedTo F rest (at + length blank + length w) (line + feeds blank) us =

@@ -9,7 +9,7 @@ use Rattle.pst_lex.specs.declared.faults.LexFault.{LexFault}
 use Rattle.pst_lex.specs.declared.faults.LexFault.TheVariants as fault
 use Rattle.pst_lex.specs.declared.words.Mark.{Mark}
 use Rattle.pst_lex.specs.Bytes.{is_word, is_symbol, gap_step, gap, EndsWord, NoPair, StartsWithLetter, StartsWithDigit, feeds}
-use Rattle.pst_lex.specs.Words.{Word, Name, Number, Fixed, Unknown, word_of, mark_text, spelling}
+use Rattle.pst_lex.specs.Words.{Word, Name, Number, Fixed, word_of, mark_text, spelling}
 
 -- A name: a letter or `_`, then letters, digits and `_`, 32 bytes at most, and no keyword.
 pub record IsName (x : List ℕ) : Type 0 where
@@ -24,7 +24,6 @@ IsWord (Name x) = IsName x
 IsWord (Number (pos n)) = n < 2 ^ 63
 IsWord (Number (negsuc n)) = ⊥
 IsWord (Fixed m) = Unit {0}
-IsWord Unknown = ⊥
 
 -- a keyword or symbol that is spelled so can't go on: behind a keyword stands no more of a word, and a symbol of one byte makes no pair with the next
 abbrev pub EndsMark : List ℕ → List ℕ → Type 0
@@ -37,7 +36,6 @@ abbrev pub EndsToken : Word → List ℕ → Type 0
 EndsToken (Name x) rest = EndsWord rest
 EndsToken (Number v) rest = EndsWord rest
 EndsToken (Fixed m) rest = EndsMark (mark_text m) rest
-EndsToken Unknown rest = ⊥
 
 -- these bytes are the token, as long as it can be where the rest follows
 abbrev pub IsToken : Word → List ℕ → List ℕ → Type 0

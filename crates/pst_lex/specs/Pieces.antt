@@ -1,12 +1,13 @@
 -- What the parts of the lexer answer at the front of a text.
-use Rattle.std.specs.Prelude.{◌≡◌, ◌==◌, ℕ, ◌+◌, ◌^◌, ◌≤◌, ◌<◌, Bool, true, false, List, [], ◌∷◌, length, Option, Some, None, Result, Ok, Err, take, drop, slice_index, ◌⊎◌, IsSomeAnd}
+use Rattle.std.specs.Prelude.{◌≡◌, ◌==◌, ℕ, ◌+◌, ◌^◌, ◌≤◌, ◌<◌, Bool, true, false, List, [], ◌∷◌, length, Option, Some, None, Result, Ok, Err, take, drop, slice_index, ◌⊎◌}
 use Rattle.std.specs.Fmt.{decimal}
 use Rattle.pst_lex.specs.declared.types.TokenKind.{TokenKind}
+use Rattle.pst_lex.specs.declared.words.Mark.{Mark}
 use Rattle.pst_lex.specs.declared.faults.LexFault.{LexFault}
 use Rattle.pst_lex.specs.declared.faults.LexFault.TheVariants as fault
 use Rattle.pst_lex.specs.declared.types.Token.{Token}
 use Rattle.pst_lex.specs.Bytes.{is_symbol, NoPair, EndsWord, gap_step, gap, feeds}
-use Rattle.pst_lex.specs.Words.{word_of, symbol_of, mark_text}
+use Rattle.pst_lex.specs.Words.{word_of, mark_text}
 use Rattle.pst_lex.specs.Lexing.{LexedTo, IsToken, IsFault, line_of}
 
 -- the digits write this number
@@ -20,16 +21,16 @@ leading_zero [] = false
 leading_zero (b ∷ []) = false
 leading_zero (b ∷ c ∷ w) = b == 48
 
--- the position of the symbol that one byte is
-abbrev pub IsSingle : Option ℕ → ℕ → Type 0
-IsSingle (Some n) a = IsSomeAnd (symbol_of n) (λ m. mark_text m ≡ a ∷ [])
+-- the symbol that one byte is
+abbrev pub IsSingle : Option Mark → ℕ → Type 0
+IsSingle (Some m) a = mark_text m ≡ a ∷ []
 IsSingle None a = is_symbol a ≡ false
 
--- the position of the symbol of two bytes that stands in front
-abbrev pub IsPair : Option ℕ → List ℕ → Type 0
-IsPair (Some n) [] = ⊥
-IsPair (Some n) (a ∷ []) = ⊥
-IsPair (Some n) (a ∷ b ∷ rest) = IsSomeAnd (symbol_of n) (λ m. mark_text m ≡ a ∷ b ∷ [])
+-- the symbol of two bytes that stands in front
+abbrev pub IsPair : Option Mark → List ℕ → Type 0
+IsPair (Some m) [] = ⊥
+IsPair (Some m) (a ∷ []) = ⊥
+IsPair (Some m) (a ∷ b ∷ rest) = mark_text m ≡ a ∷ b ∷ []
 IsPair None [] = Unit {0}
 IsPair None (a ∷ rest) = NoPair a rest
 

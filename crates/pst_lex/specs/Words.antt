@@ -1,51 +1,26 @@
 -- What tokens are, and how they are spelled.
-use Rattle.std.specs.Prelude.{ℕ, ℤ, slice_get, List, [], ◌∷◌, Option, Some, None}
+use Rattle.std.specs.Prelude.{◌≡◌, ℕ, ℤ, List, [], ◌∷◌, map, All, Option, Some, None}
 use Rattle.std.specs.Fmt.{signed_decimal}
+use Rattle.pst_base.specs.Words as language
 use Rattle.pst_lex.specs.declared.types.TokenKind.{TokenKind}
 use Rattle.pst_lex.specs.declared.types.TokenKind.TheVariants as kind
 use Rattle.pst_lex.specs.declared.words.Mark.{Mark}
 use Rattle.pst_lex.specs.declared.words.Mark.TheVariants.{Record, Val, Ptr, Root, Proc, Query, Var, New, Call, Print, If, Else, While, Return, Null, And, Or, Not, Int, OpenBrace, CloseBrace, OpenParen, CloseParen, Semicolon, Colon, Comma, Dot, Assign, Equal, NotEqual, Less, LessEqual, Greater, GreaterEqual, Plus, Minus, Star, Slash, Percent}
 
--- A token, as readers and printers of programs speak of it: a name by its bytes, a number, or a keyword or symbol. No text has an unknown one.
+-- A token, as readers and printers of programs speak of it: a name by its bytes, a number, or a keyword or symbol.
 pub data Word : Type 0 where
   Name : List ℕ → Word
   Number : ℤ → Word
   Fixed : Mark → Word
-  Unknown : Word
 
 -- the keywords, in their order
 abbrev pub keywords : List Mark
 keywords = Record ∷ Val ∷ Ptr ∷ Root ∷ Proc ∷ Query ∷ Var ∷ New ∷ Call ∷ Print ∷ If ∷ Else ∷ While ∷ Return ∷ Null ∷ And ∷ Or ∷ Not ∷ Int ∷ []
 
--- the symbols, in their order
-abbrev pub symbols : List Mark
-symbols = OpenBrace ∷ CloseBrace ∷ OpenParen ∷ CloseParen ∷ Semicolon ∷ Colon ∷ Comma ∷ Dot ∷ Assign ∷ Equal ∷ NotEqual ∷ Less ∷ LessEqual ∷ Greater ∷ GreaterEqual ∷ Plus ∷ Minus ∷ Star ∷ Slash ∷ Percent ∷ []
-
--- the keyword at a position, from 0
-abbrev pub keyword_of : ℕ → Option Mark
-keyword_of n = slice_get keywords n
-
--- the symbol at a position, from 0
-abbrev pub symbol_of : ℕ → Option Mark
-symbol_of n = slice_get symbols n
-
--- the keyword or symbol that a token is, if it is one
-abbrev pub mark_of : TokenKind → Option Mark
-mark_of (kind.Name x) = None
-mark_of (kind.Number v) = None
-mark_of (kind.Keyword n) = keyword_of n
-mark_of (kind.Symbol n) = symbol_of n
-
--- a keyword or symbol that a position may give
-abbrev pub fixed : Option Mark → Word
-fixed None = Unknown
-fixed (Some m) = Fixed m
-
 abbrev pub word_of : TokenKind → Word
 word_of (kind.Name x) = Name x
 word_of (kind.Number v) = Number v
-word_of (kind.Keyword n) = fixed (keyword_of n)
-word_of (kind.Symbol n) = fixed (symbol_of n)
+word_of (kind.Mark m) = Fixed m
 
 -- how a keyword or symbol is spelled
 abbrev pub mark_text : Mark → List ℕ
@@ -94,4 +69,12 @@ abbrev pub spelling : Word → List ℕ
 spelling (Name x) = x
 spelling (Number v) = signed_decimal v
 spelling (Fixed m) = mark_text m
-spelling Unknown = []
+
+-- the keyword that is spelled so, if one is
+abbrev pub IsKeyword : Option Mark → List ℕ → Type 0
+IsKeyword (Some m) word = word ≡ mark_text m
+IsKeyword None word = All (λ m. word ≡ mark_text m → ⊥) keywords
+
+-- the keywords are spelled as the language's own words
+abbrev pub KeywordsAreThose : Type 0
+KeywordsAreThose = map mark_text keywords ≡ language.keywords

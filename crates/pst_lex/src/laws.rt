@@ -1,6 +1,12 @@
 //! Laws of the tokens of a text. No function here does anything: what it ensures is the law.
 
+ghost use Rattle.pst_lex.specs.Words.{KeywordsAreThose};
 ghost use Rattle.pst_lex.specs.Lexing.{HasOneLexing, HasOneFault, HasNotBoth, HasItsWords, HasNoFault, HasWords, HasTokensInPlace, HasFaultInPlace};
+
+/// The keywords among the tokens are spelled as the words that no name is.
+pub fn keywords_are_those_of_the_language()
+    ensures { KeywordsAreThose }
+{}
 
 /// A text has at most one list of tokens or one first fault.
 pub fn text_is_read_in_one_way(text: &[u8])

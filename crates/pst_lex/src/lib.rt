@@ -24,8 +24,9 @@ mod words;
 
 pub use faults::LexFault;
 pub use laws::{
-    text_is_read_in_one_way, tokens_and_faults_stand_in_place, words_are_those_of_the_text,
+    keywords_are_those_of_the_language, text_is_read_in_one_way, tokens_and_faults_stand_in_place,
+    words_are_those_of_the_text,
 };
 pub use lexer::{Lexer, find_fault};
 pub use types::{Name, Span, Token, TokenKind, TokenList, Tokens};
-pub use words::{Mark, mark_at};
+pub use words::Mark;

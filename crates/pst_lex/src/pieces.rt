@@ -9,7 +9,7 @@ ghost use Rattle.pst_lex.specs.Pieces.{IsNameKind, IsPair, IsSingle, leading_zer
 use crate::bytes::{is_digit, is_letter, is_word};
 use crate::faults::LexFault;
 use crate::types::{Name, TokenKind};
-use pst_base::keyword_number;
+use crate::words::{Mark, keyword};
 
 /// The greatest length of a name, in bytes.
 const LONGEST_NAME: usize = 32;
@@ -64,8 +64,8 @@ fn name_kind<'a>(word: &'a [u8]) -> TokenKind<'a>
     requires short { length word.now ≤ 32 }
     ensures { IsNameKind result word.now }
 {
-    match keyword_number(word) {
-        Some(position) => TokenKind::Keyword(position),
+    match keyword(word) {
+        Some(mark) => TokenKind::Mark(mark),
         None => TokenKind::Name(Name::new(word)),
     }
 }
@@ -94,40 +94,40 @@ fn numeral<'a>(text: &'a [u8], line: u32) -> Result<(TokenKind<'a>, usize), LexF
     }
 }
 
-/// The position of the symbol that a byte is where no second one makes a pair of them.
-fn single(a: u8) -> Option<u8>
+/// The symbol that a byte is where no second one makes a pair of them.
+fn single(a: u8) -> Option<Mark>
     ensures { IsSingle result a }
 {
     match a {
-        b'{' => Some(0),
-        b'}' => Some(1),
-        b'(' => Some(2),
-        b')' => Some(3),
-        b';' => Some(4),
-        b':' => Some(5),
-        b',' => Some(6),
-        b'.' => Some(7),
-        b'=' => Some(8),
-        b'<' => Some(11),
-        b'>' => Some(13),
-        b'+' => Some(15),
-        b'-' => Some(16),
-        b'*' => Some(17),
-        b'/' => Some(18),
-        b'%' => Some(19),
+        b'{' => Some(Mark::OpenBrace),
+        b'}' => Some(Mark::CloseBrace),
+        b'(' => Some(Mark::OpenParen),
+        b')' => Some(Mark::CloseParen),
+        b';' => Some(Mark::Semicolon),
+        b':' => Some(Mark::Colon),
+        b',' => Some(Mark::Comma),
+        b'.' => Some(Mark::Dot),
+        b'=' => Some(Mark::Assign),
+        b'<' => Some(Mark::Less),
+        b'>' => Some(Mark::Greater),
+        b'+' => Some(Mark::Plus),
+        b'-' => Some(Mark::Minus),
+        b'*' => Some(Mark::Star),
+        b'/' => Some(Mark::Slash),
+        b'%' => Some(Mark::Percent),
         _ => None,
     }
 }
 
-/// The position of the symbol of two bytes that stands at the front.
-fn pair(text: &[u8]) -> Option<u8>
+/// The symbol of two bytes that stands at the front.
+fn pair(text: &[u8]) -> Option<Mark>
     ensures { IsPair result text.now }
 {
     match text {
-        [b'=', b'=', ..] => Some(9),
-        [b'!', b'=', ..] => Some(10),
-        [b'<', b'=', ..] => Some(12),
-        [b'>', b'=', ..] => Some(14),
+        [b'=', b'=', ..] => Some(Mark::Equal),
+        [b'!', b'=', ..] => Some(Mark::NotEqual),
+        [b'<', b'=', ..] => Some(Mark::LessEqual),
+        [b'>', b'=', ..] => Some(Mark::GreaterEqual),
         _ => None,
     }
 }
@@ -139,11 +139,11 @@ fn symbol<'a>(text: &'a [u8], line: u32) -> Result<(TokenKind<'a>, usize), LexFa
     requires no_word { is_word_byte (slice_index text.now 0) ≡ false }
     ensures { Takes result text.now line }
 {
-    if let Some(position) = pair(text) {
-        return Ok((TokenKind::Symbol(position), 2));
+    if let Some(mark) = pair(text) {
+        return Ok((TokenKind::Mark(mark), 2));
     }
     match single(text[0]) {
-        Some(position) => Ok((TokenKind::Symbol(position), 1)),
+        Some(mark) => Ok((TokenKind::Mark(mark), 1)),
         None => Err(LexFault::Byte { line }),
     }
 }

@@ -1,5 +1,6 @@
 //! Tokens, where they stand, and the list of them.
 
+use crate::words::Mark;
 use pst_base::Items;
 use std::marker::Model;
 
@@ -49,10 +50,8 @@ pub enum TokenKind<'a> {
     Name(Name<'a>),
     /// A number: from 0 to 9,223,372,036,854,775,807.
     Number(i64),
-    /// A keyword: its position, from 0 to 18, in the list of the keywords.
-    Keyword(u8),
-    /// A symbol: its position, from 0 to 19, in the list of the symbols.
-    Symbol(u8),
+    /// A keyword or symbol.
+    Mark(Mark),
 }
 
 /// A token: what it is, its bytes, and its line, from 1.

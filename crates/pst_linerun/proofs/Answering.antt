@@ -38,7 +38,8 @@ budget-accepted : (m : Meaning) (h : History) (charges : ℕ) → refusal m h (c
 unfolding refusal
 budget-accepted m h charges = refl
 
-pub budget-stands : (m : Meaning) → IsLawful m → (budget next charges : ℕ) (s : State LinePlace NodeId) (stored : Stored) (h : History) → LineStands m budget next s stored h → in_range (command.Budget charges) ≡ true → LineStands m charges next s stored (record h { budget = charges })
+pub budget-stands : (m : Meaning) → IsLawful m → (budget next charges : ℕ) (s : State LinePlace NodeId) (stored : Stored) (h : History)
+    → LineStands m budget next s stored h → in_range (command.Budget charges) ≡ true → LineStands m charges next s stored (record h { budget = charges })
 budget-stands m law budget next charges s stored h stand range = record {
   sound = commands.budget-set m law h charges range stand.sound (budget-accepted m h charges);
   same_budget = refl;

@@ -37,7 +37,8 @@ single : (kinds : List ℕ → Option (List Kind)) (c : NamedCall) → IsTrue (f
 single kinds c fits zero d e = let P : NamedCall → Type 0 = λ x. IsTrue (fits_one (kinds x.procedure) x.arguments) in subst P (let same : c ≡ d = cc in same) fits
 single kinds c fits (suc i) d e = absurd (cc)
 
-module _ (m : Meaning) (law : IsLawful m) (budget : ℕ) (run : RunNo) (s : State LinePlace NodeId) (stored : Stored) (h : History) (stand : LineStands m budget run.0 s stored h) (means : Means s stored) (chain : IsChain s) (sound : IsSound s)
+module _ (m : Meaning) (law : IsLawful m) (budget : ℕ) (run : RunNo) (s : State LinePlace NodeId) (stored : Stored) (h : History)
+    (stand : LineStands m budget run.0 s stored h) (means : Means s stored) (chain : IsChain s) (sound : IsSound s)
     (call : Call) (accepted : line_refusal m h (command.Query call) ≡ None) where
   abbrev at : LinePlace
   at = record { stamp = record { 0 = call.version.0 } }
@@ -53,7 +54,14 @@ module _ (m : Meaning) (law : IsLawful m) (budget : ℕ) (run : RunNo) (s : Stat
       let there = is-accepted.there in
       let before = version-before m law budget run.0 s stored h stand means chain call.version.0 there in
       record {
-        free = record { sound = sound; shape = stand.shape; has = version-has m law budget run.0 s stored h stand means chain call.version.0 there; fresh = λ n same. name-free m law budget run.0 s stored h stand means chain n (ap (λ (r : RunNo). r.0) same) };
+        free = record {
+          sound = sound;
+          shape = stand.shape;
+          has =
+              version-has m law budget run.0 s stored h stand means chain call.version.0 there;
+          fresh =
+              λ n same. name-free m law budget run.0 s stored h stand means chain n (ap (λ (r : RunNo). r.0) same);
+        };
         ready = record { well_formed = before.well_formed; older = before.older; work = inr (single m.query (call_of call) is-accepted.fits) };
         writable = inl is-accepted.fits;
         few = few-counts m law budget run.0 s stored h stand means chain;
@@ -67,14 +75,19 @@ module _ (m : Meaning) (law : IsLawful m) (budget : ℕ) (run : RunNo) (s : Stat
       let work = one_call run budget (call_of call) in
       let theirs : Work = work_of (next_run h) (new_run h call.version (call_of call ∷ [])) in
       let works : work ≡ theirs = ap (λ (k : ℕ). record work { run = record { 0 = k } }) stand.same_next ∙ ap (λ (k : ℕ). record theirs { budget = k }) stand.same_budget in
-      ap (m.outcome work budget) (version-heap m law budget run.0 s stored h stand means chain call.version.0 is-accepted.there) ∙ ap (λ (w : Work). m.outcome w budget (heap_of m h call.version.0)) works ∙ ap (λ (k : ℕ). m.outcome theirs k (heap_of m h call.version.0)) stand.same_budget
+      ap (m.outcome work budget) (version-heap m law budget run.0 s stored h stand means chain call.version.0 is-accepted.there)
+      ∙ ap (λ (w : Work). m.outcome w budget (heap_of m h call.version.0)) works
+      ∙ ap (λ (k : ℕ). m.outcome theirs k (heap_of m h call.version.0)) stand.same_budget
 
-  pub ask-reply : (t : State LinePlace NodeId) (printed : List ℤ) (end : Ended) → CameTo m s at (one_call run budget (call_of call)) printed end t → queried printed end ≡ answered m h (command.Query call)
-  ask-reply t printed end came = ap (λ ns. queried ns end) came.printed_is ∙ ap (queried (m.outcome (one_call run budget (call_of call)) budget (s.heap at)).printed) came.end_is ∙ ap queried_as outcome-is
+  pub ask-reply : (t : State LinePlace NodeId) (printed : List ℤ) (end : Ended) → CameTo m s at (one_call run budget (call_of call)) printed end t
+      → queried printed end ≡ answered m h (command.Query call)
+  ask-reply t printed end came = ap (λ ns. queried ns end) came.printed_is
+      ∙ ap (queried (m.outcome (one_call run budget (call_of call)) budget (s.heap at)).printed) came.end_is ∙ ap queried_as outcome-is
 
 -- ---- what it leaves
 
-module _ (m : Meaning) (law : IsLawful m) (budget next : ℕ) (s : State LinePlace NodeId) (stored : Stored) (h : History) (stand : LineStands m budget next s stored h) (means : Means s stored) (chain : IsChain s)
+module _ (m : Meaning) (law : IsLawful m) (budget next : ℕ) (s : State LinePlace NodeId) (stored : Stored) (h : History)
+    (stand : LineStands m budget next s stored h) (means : Means s stored) (chain : IsChain s)
     (t : State LinePlace NodeId) (same : Unchanged s t) (stored_t : Stored) (means_t : Means t stored_t) where
   -- no run is open, since there is no further place
   still-closed : (o : Option ℕ) → stored_t.opened ≡ o → o ≡ None

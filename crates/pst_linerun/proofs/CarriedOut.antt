@@ -28,7 +28,9 @@ module _ {P R A : Type 0} (m : Meaning) (x : Runs P R A) (s : State P R) (at : P
   pub waiting : (b : A) → x.waits b s work 0 (s.heap at) no_counts → IsWaiting m x s b work 0 (s.heap at) no_counts
   waiting b waits = record { ready = may.ready; granted_within = omega arith; waits = waits }
 
-  pub came : (a b : A) (t : State P R) (end : Ended) → x.place a ≡ at → budget < 2 ^ 32 → RanOn m x s a work (min (0 + 4294967295) budget) (s.heap at) no_counts end t b → (printed : List ℤ) → printed ≡ x.printed b → CameTo m s at work printed end t
+  pub came : (a b : A) (t : State P R) (end : Ended) → x.place a ≡ at → budget < 2 ^ 32
+      → RanOn m x s a work (min (0 + 4294967295) budget) (s.heap at) no_counts end t b → (printed : List ℤ) → printed ≡ x.printed b
+      → CameTo m s at work printed end t
   came a b t end placed less adv printed is =
       let all : min (0 + 4294967295) budget ≡ budget = omega arith in
       let same : m.outcome work (min (0 + 4294967295) budget) (s.heap at) ≡ m.outcome work budget (s.heap at) = ap (λ k. m.outcome work k (s.heap at)) all in

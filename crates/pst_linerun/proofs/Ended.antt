@@ -9,7 +9,8 @@ use Rattle.pst_script.specs.declared.command.Command.TheVariants as command
 use Rattle.pst_history.specs.declared.history.NamedCall.{NamedCall}
 use Rattle.pst_history.specs.declared.history.Run.{Run}
 use Rattle.pst_history.specs.Meaning.{Meaning, IsLawful}
-use Rattle.pst_history.specs.History.{History, refusal, changed, opened, closed, closed_run, new_run, next_run, call_of, run_at, run_counts, counts_of, heap_of, outcome_of, work_of, made_by, version_count, with_version}
+use Rattle.pst_history.specs.History.{History, refusal, changed, opened, closed, closed_run, new_run, next_run, call_of, run_at, run_counts, counts_of, heap_of}
+use Rattle.pst_history.specs.History.{outcome_of, work_of, made_by, version_count, with_version}
 use Rattle.pst_history.specs.Accepted.{MayOpen}
 use Rattle.pst_history.specs.Sound.{IsSoundHistory}
 use Rattle.pst_history.proofs.After.{Extends, extends-trans, opened-extends, closed-extends, closing, closed-is, may_open-sound, run_at-new, run-opens}
@@ -69,7 +70,8 @@ module _ (m : Meaning) (law : IsLawful m) (h : History) (sound : IsSoundHistory 
   changed-is = closed-is m begun number run found ∙ ap (λ (o : Outcome). with_version shut number call.version o.end) same_outcome
 
   pub changed-extends : Extends m h (changed m h (command.Run call))
-  changed-extends = extends-trans m h begun (closed m begun number) (opened-extends m h call.version calls sound may.room may.there may.few may.fits) (closed-extends m law begun number run begun-sound found refl)
+  changed-extends = extends-trans m h begun (closed m begun number) (opened-extends m h call.version calls sound may.room may.there may.few may.fits)
+      (closed-extends m law begun number run begun-sound found refl)
 
   pub shut-next : next_run shut ≡ next_run h + 1
   shut-next =
@@ -86,7 +88,9 @@ module _ (m : Meaning) (law : IsLawful m) (h : History) (sound : IsSoundHistory 
       let same : run_counts m begun number run ≡ nothing = ap (λ y. (m.outcome (work_of number run) 0 y).counts) (heap_of-opened m h call.version calls call.version.0 sound) in
       let whole : run_counts m begun number (closed_run run) ≡ outcome.counts = ap (λ (o : Outcome). o.counts) same_outcome in
       more_counts (counts_of m h) (counts_of m shut) nothing outcome.counts
-      (ap (counts_plus (counts_of m shut)) (sym same) ∙ counts_of-restated m begun number run (closed_run run) begun-sound step ∙ ap (λ c. counts_plus c (run_counts m begun number (closed_run run))) (counts_of-opened m h call.version calls sound) ∙ ap (counts_plus (counts_plus (counts_of m h) nothing)) whole)
+      (ap (counts_plus (counts_of m shut)) (sym same) ∙ counts_of-restated m begun number run (closed_run run) begun-sound step
+      ∙ ap (λ c. counts_plus c (run_counts m begun number (closed_run run))) (counts_of-opened m h call.version calls sound)
+      ∙ ap (counts_plus (counts_plus (counts_of m h) nothing)) whole)
 
   abbrev pub grown : History
   grown = published shut number call.version
@@ -98,4 +102,6 @@ module _ (m : Meaning) (law : IsLawful m) (h : History) (sound : IsSoundHistory 
   pub grown-heap : heap_of m grown (version_count h) ≡ outcome.heap
   grown-heap =
       let there : run_at shut number ≡ Some (closed_run run) = numbered-same h.start.next_run (h.runs ++ run ∷ []) number run (closed_run run) found in
-      heap_of-new m shut (record { run = record { 0 = number }; parent = call.version }) ∙ ap (λ o. made_by m number o (heap_of m shut call.version.0)) there ∙ ap (λ y. (m.outcome (work_of number run) h.budget y).heap) (shut-heaps call.version.0)
+      heap_of-new m shut (record { run = record { 0 = number }; parent = call.version })
+      ∙ ap (λ o. made_by m number o (heap_of m shut call.version.0)) there
+      ∙ ap (λ y. (m.outcome (work_of number run) h.budget y).heap) (shut-heaps call.version.0)

@@ -40,7 +40,8 @@ closed-places : (stored : Stored) → stored.opened ≡ None → (p : LinePlace)
 closed-places stored none p (inl below) = below
 closed-places stored none p (inr run) = absurd (let is = run.opened in cc (none, is))
 
-module _ (m : Meaning) (law : IsLawful m) (budget next : ℕ) (s : State LinePlace NodeId) (stored : Stored) (h : History) (stand : LineStands m budget next s stored h) (means : Means s stored) (chain : IsChain s) where
+module _ (m : Meaning) (law : IsLawful m) (budget next : ℕ) (s : State LinePlace NodeId) (stored : Stored) (h : History)
+    (stand : LineStands m budget next s stored h) (means : Means s stored) (chain : IsChain s) where
   -- each place is a version's
   pub place-below : (p : LinePlace) → s.has p → p.stamp.0 < length s.versions
   place-below p has =

@@ -21,7 +21,8 @@ use Rattle.pst_linerun.specs.Standing.{LineStands}
 use Rattle.pst_linerun.specs.Carried.{line_refusal_by}
 use Rattle.pst_history.specs.declared.history.TheConstants.{RUNS}
 
-pub told : (m : Meaning) (budget next : ℕ) (s : State LinePlace NodeId) (stored : Stored) (h : History) → LineStands m budget next s stored h → (c : Command) → line_refusal_by m s next c ≡ line_refusal m h c
+pub told : (m : Meaning) (budget next : ℕ) (s : State LinePlace NodeId) (stored : Stored) (h : History) → LineStands m budget next s stored h
+    → (c : Command) → line_refusal_by m s next c ≡ line_refusal m h c
 told m budget next s stored h stand (command.Run call) =
     let kinds = kinds_refusal (m.proc call.procedure) call.arguments in
     ap (λ n. first (first kinds (when (nat_le n call.version.0) because.Version)) (first (when (not (nat_eq (call.version.0 + 1) n)) because.Old) (runs_by next))) stand.versions.many

@@ -45,7 +45,8 @@ use Rattle.pst_linerun.proofs.Refusing.{run-accepted, run-newest}
 newest-is : (h : History) (version : VersionNo) → old_refusal h version ≡ None → version.0 + 1 ≡ version_count h
 newest-is h version e = eqb-true (version.0 + 1) (version_count h) (not-false (nat_eq (version.0 + 1) (version_count h)) (when-none (not (nat_eq (version.0 + 1) (version_count h))) because.Old e))
 
-module _ (m : Meaning) (law : IsLawful m) (budget : ℕ) (run : RunNo) (s : State LinePlace NodeId) (stored : Stored) (h : History) (stand : LineStands m budget run.0 s stored h) (means : Means s stored) (chain : IsChain s)
+module _ (m : Meaning) (law : IsLawful m) (budget : ℕ) (run : RunNo) (s : State LinePlace NodeId) (stored : Stored) (h : History)
+    (stand : LineStands m budget run.0 s stored h) (means : Means s stored) (chain : IsChain s)
     (call : Call) (accepted : line_refusal m h (command.Run call) ≡ None) (s1 : State LinePlace NodeId) (at : LinePlace) (began : Began s s1 at) (sound1 : IsSound s1) where
   abbrev none : refusal m h (command.Run call) ≡ None
   none = run-accepted m h call accepted
@@ -71,7 +72,8 @@ module _ (m : Meaning) (law : IsLawful m) (budget : ℕ) (run : RunNo) (s : Stat
       let free = name-free m law budget run.0 s stored h stand means chain n (ap (λ (r : RunNo). r.0) same) in
       record {
         fresh = λ p has. elim (began.only p has) as (λ _. get (s1.heap p) n ≡ None) [
-          | inl e ↦ ap (λ (q : LinePlace). get (s1.heap q) n) e ∙ ap (λ y. get y n) at-heap ∙ free.fresh (record { stamp = record { 0 = call.version.0 } }) (version-has m law budget run.0 s stored h stand means chain call.version.0 below)
+          | inl e ↦ ap (λ (q : LinePlace). get (s1.heap q) n) e ∙ ap (λ y. get y n) at-heap
+              ∙ free.fresh (record { stamp = record { 0 = call.version.0 } }) (version-has m law budget run.0 s stored h stand means chain call.version.0 below)
           | inr was ↦ ap (λ y. get y n) (began.heaps p was) ∙ free.fresh p was
         ];
       }
@@ -133,7 +135,8 @@ module _ (m : Meaning) (law : IsLawful m) (budget : ℕ) (run : RunNo) (s : Stat
           heaps = λ k row q. same.heaps row.place (stays.has k row q) ∙ stays.heaps k row q;
         }
 
-    module _ (writes : WritesStay s1 t) (stored_t : Stored) (means_t : Means t stored_t) (printed : List ℤ) (end : Ended) (came : CameTo m s1 at (one_call run budget (call_of call)) printed end t) where
+    module _ (writes : WritesStay s1 t) (stored_t : Stored) (means_t : Means t stored_t) (printed : List ℤ) (end : Ended)
+        (came : CameTo m s1 at (one_call run budget (call_of call)) printed end t) where
       pub run-open : t.writable at
       run-open = writes.kept at began.writable
 
@@ -148,7 +151,8 @@ module _ (m : Meaning) (law : IsLawful m) (budget : ℕ) (run : RunNo) (s : Stat
       t-heap = came.heap ∙ ap (λ (x : Outcome). x.heap) outcome-is
 
       t-counts : t.counts ≡ counts_plus (counts_of m h) o.counts
-      t-counts = came.counts ∙ ap (λ c. counts_plus c (m.outcome (one_call run budget (call_of call)) budget (s1.heap at)).counts) (began.counts ∙ stand.counts) ∙ ap (λ (x : Outcome). counts_plus (counts_of m h) x.counts) outcome-is
+      t-counts = came.counts ∙ ap (λ c. counts_plus c (m.outcome (one_call run budget (call_of call)) budget (s1.heap at)).counts)
+          (began.counts ∙ stand.counts) ∙ ap (λ (x : Outcome). counts_plus (counts_of m h) x.counts) outcome-is
 
       t-shape : t.shape ≡ m.shape
       t-shape = kept.keeps.grows.shape ∙ began.shape ∙ stand.shape
@@ -214,7 +218,9 @@ module _ (m : Meaning) (law : IsLawful m) (budget : ℕ) (run : RunNo) (s : Stat
             let len_h : length (h.versions ++ new_descent ∷ []) ≡ length h.versions + 1 = length-append h.versions (new_descent ∷ []) in
             let len : length u.versions ≡ length (t.versions ++ new_row ∷ []) = ap (λ rows. length rows) d.versions in
             let base = stand.sound.start.same in
-            let old_row : (k : ℕ) (y : VersionRow LinePlace) → slice_get u.versions k ≡ Some y → (slice_get t.versions k ≡ Some y) ⊎ ((k ≡ length t.versions) × (y ≡ new_row)) = λ k y q. slice_get-of_append t.versions new_row y k (ap (λ rows. slice_get rows k) (sym d.versions) ∙ q) in
+            let old_row : (k : ℕ) (y : VersionRow LinePlace) → slice_get u.versions k ≡ Some y → (slice_get t.versions k ≡ Some y)
+            ⊎ ((k ≡ length t.versions) × (y ≡ new_row)) =
+            λ k y q. slice_get-of_append t.versions new_row y k (ap (λ rows. slice_get rows k) (sym d.versions) ∙ q) in
             let at_new : at ≡ record { stamp = record { 0 = length t.versions } } = ap (λ (k : ℕ). record { stamp = record { 0 = k } }) at-is in
             record {
               sound = sound;
@@ -272,7 +278,9 @@ module _ (m : Meaning) (law : IsLawful m) (budget : ℕ) (run : RunNo) (s : Stat
             let extends = changed-extends m law h stand.sound call none in
             let sound : IsSoundHistory m more = subst (λ y. IsSoundHistory m y) (changed-is m law h stand.sound call none ∙ ap (with_version closed_h (next_run h) call.version) is) extends.sound in
             let number : w.0.0 ≡ version_count h = w.1.number ∙ holds-t.many in
-            finish Done r is (published-stands w.0 w.1 sound) (w.2 ∙ ap (λ (v : ℕ). answer.Version printed (record { 0 = v })) number ∙ ap (λ ns. answer.Version ns (record { 0 = version_count h })) printed-is)
+            finish Done r is (published-stands w.0 w.1 sound)
+            (w.2 ∙ ap (λ (v : ℕ). answer.Version printed (record { 0 = v })) number
+            ∙ ap (λ ns. answer.Version ns (record { 0 = version_count h })) printed-is)
         by-end (Trapped trap) r is w = finish (Trapped trap) r is (undone-stands w.0) (w.1 ∙ ap (λ ns. answer.Trapped ns trap) printed-is)
         by-end Stopped r is w = finish Stopped r is (undone-stands w.0) (w.1 ∙ ap answer.Answer printed-is)
 

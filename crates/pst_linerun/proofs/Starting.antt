@@ -29,11 +29,13 @@ the-one : {X : Type 0} (x y : X) (k : ℕ) → slice_get (x ∷ []) k ≡ Some y
 the-one x y zero e = (refl, same_Some x y e)
 the-one x y (suc k) e = absurd (cc)
 
-pub started-stands : (m : Meaning) → IsLawful m → (s : State LinePlace NodeId) (stored : Stored) → Means s stored → IsChain s → IsStarted m.shape stored → LineStands m BUDGET 1 s stored (begun (opening m.shape))
+pub started-stands : (m : Meaning) → IsLawful m → (s : State LinePlace NodeId) (stored : Stored) → Means s stored → IsChain s
+    → IsStarted m.shape stored → LineStands m BUDGET 1 s stored (begun (opening m.shape))
 started-stands m law s stored means chain is =
     let row0 : VersionRow LinePlace = record { parent = record { 0 = 0 }; run = record { 0 = 0 }; place = record { stamp = record { 0 = 0 } } } in
     let rows : s.versions ≡ row0 ∷ [] = means.versions ∙ is.rows in
-    let first : s.heap (record { stamp = record { 0 = 0 } }) ≡ initial_heap m.shape = means.heap (record { stamp = record { 0 = 0 } }) ∙ ap (λ (shape : List TypeShape). heap_at shape stored.line 0) is.shape_is ∙ is.heap in
+    let first : s.heap (record { stamp = record { 0 = 0 } }) ≡ initial_heap m.shape = means.heap (record { stamp = record { 0 = 0 } })
+    ∙ ap (λ (shape : List TypeShape). heap_at shape stored.line 0) is.shape_is ∙ is.heap in
     record {
       sound = begun-sound m (opening m.shape) (opening-sound m law);
       same_budget = refl;

@@ -63,7 +63,8 @@ module _ {P R : Type 0} (parts : Parts) (valid : IsValidCode parts) (s t u : Sta
   far_comes : (step : Step) → Ran parts t b.standing step u d → (calls : List TaskCall) (first : World) → IsAt old.under_way parts calls first s old.standing (calls_of old.waiting)
       → ComesIn parts calls first (calls_of b.waiting) (move_of step (current_of parts u d) (waiting_of parts u d) (world_of u d))
   far_comes step ran calls first at =
-      in_on parts calls first (calls_of b.waiting) (current_of parts t b.standing) (waiting_of parts t b.standing) (world_of t b.standing) (move_of step (current_of parts u d) (waiting_of parts u d) (world_of u d))
+      in_on parts calls first (calls_of b.waiting) (current_of parts t b.standing) (waiting_of parts t b.standing) (world_of t b.standing)
+      (move_of step (current_of parts u d) (waiting_of parts u d) (world_of u d))
       (into.leads calls first (far.leads calls first at)) ran.reaches
 
   far_made : b.standing.made + spendable_of parts t b.standing ≤ old.standing.made + payable old.under_way parts s old.standing
@@ -99,7 +100,9 @@ module _ {P R : Type 0} (parts : Parts) (valid : IsValidCode parts) (s t u : Sta
   abbrev pub rest_stage : Stage P R
   rest_stage = record b { standing = d }
 
-  rests_in : (step : Step) → IsRest step → ((v : Option Reg) → step ≡ Ends v → ⊥) → Ran parts t b.standing step u d → (calls : List TaskCall) (first : World) → IsAt old.under_way parts calls first s old.standing (calls_of old.waiting) → RestsIn step parts calls first u rest_stage
+  rests_in : (step : Step) → IsRest step → ((v : Option Reg) → step ≡ Ends v → ⊥) → Ran parts t b.standing step u d
+      → (calls : List TaskCall) (first : World) → IsAt old.under_way parts calls first s old.standing (calls_of old.waiting)
+      → RestsIn step parts calls first u rest_stage
   rests_in Next rest apart ran calls first at = absurd rest
   rests_in Here rest apart ran calls first at = absurd rest
   rests_in Switched rest apart ran calls first at = absurd rest
@@ -107,7 +110,8 @@ module _ {P R : Type 0} (parts : Parts) (valid : IsValidCode parts) (s t u : Sta
   rests_in (Ends v) rest apart ran calls first at = absurd (apart v refl)
   rests_in (Trap kind) rest apart ran calls first at = far_comes (Trap kind) ran calls first at
 
-  ready_after : (step : Step) → IsRest step → ((v : Option Reg) → step ≡ Ends v → ⊥) → Ran parts t b.standing step u d → ReadyAfter step parts (old.standing.made + payable old.under_way parts s old.standing) u rest_stage
+  ready_after : (step : Step) → IsRest step → ((v : Option Reg) → step ≡ Ends v → ⊥) → Ran parts t b.standing step u d
+      → ReadyAfter step parts (old.standing.made + payable old.under_way parts s old.standing) u rest_stage
   ready_after Next rest apart ran = absurd rest
   ready_after Here rest apart ran = absurd rest
   ready_after Switched rest apart ran = absurd rest

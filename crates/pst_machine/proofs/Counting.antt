@@ -74,13 +74,15 @@ module _ (parts : Parts) (others : Counts) where
       let rest = leads_uncounted calls back.0 u (subst (λ (x : World). CallsLead parts calls x u) back.2 d.2) in
       (rest.0, (back.0, (d.1.0, subst (CallComes parts c w) back.1 one.1), rest.1), rest.2)
 
-  in_uncounted : (calls : List TaskCall) (first : World) (waiting : List TaskCall) (m : Move) → ComesIn parts calls (counted others first) waiting m → (n : Move) × ComesIn parts calls first waiting n × (m ≡ counted_move others n)
+  in_uncounted : (calls : List TaskCall) (first : World) (waiting : List TaskCall) (m : Move) → ComesIn parts calls (counted others first) waiting m
+      → (n : Move) × ComesIn parts calls first waiting n × (m ≡ counted_move others n)
   in_uncounted calls first waiting m d =
       let led = leads_uncounted d.done first d.before d.leads in
       let come = call_uncounted d.call led.0 m (subst (λ (x : World). CallComes parts d.call x m) led.2 d.comes) in
       (come.0, record { done = d.done; call = d.call; split = d.split; before = led.0; leads = led.1; comes = come.1 }, come.2)
 
-  between_uncounted : (calls : List TaskCall) (first : World) (waiting : List TaskCall) (u : World) → ComesBetween parts calls (counted others first) waiting u → (v : World) × ComesBetween parts calls first waiting v × (u ≡ counted others v)
+  between_uncounted : (calls : List TaskCall) (first : World) (waiting : List TaskCall) (u : World)
+      → ComesBetween parts calls (counted others first) waiting u → (v : World) × ComesBetween parts calls first waiting v × (u ≡ counted others v)
   between_uncounted calls first waiting u d =
       let led = leads_uncounted d.done first u d.leads in
       (led.0, record { done = d.done; split = d.split; leads = led.1 }, led.2)
@@ -91,19 +93,23 @@ module _ {P R : Type 0} (s : State P R) (parts : Parts) (others : Counts) (stage
   own_there : (v : World) → world_of s stage.standing ≡ counted others v → v ≡ world_of (with_counts s v.counts) stage.standing
   own_there v e = sym (ap (λ (w : World). record w { counts = v.counts }) e)
 
-  own_at : (calls : List TaskCall) (first : World) (waiting : List TaskCall) (u : Bool) → IsAt u parts calls (counted others first) s stage.standing waiting → (c : Counts) × (s.counts ≡ counts_plus c others) × IsAt u parts calls first (with_counts s c) stage.standing waiting
+  own_at : (calls : List TaskCall) (first : World) (waiting : List TaskCall) (u : Bool)
+      → IsAt u parts calls (counted others first) s stage.standing waiting → (c : Counts) × (s.counts ≡ counts_plus c others)
+      × IsAt u parts calls first (with_counts s c) stage.standing waiting
   own_at calls first waiting true at =
       let less = in_uncounted parts others calls first waiting (Goes (current_of parts s stage.standing) (waiting_of parts s stage.standing) (world_of s stage.standing)) at in
       let back = goes_uncounted others (current_of parts s stage.standing) (waiting_of parts s stage.standing) (world_of s stage.standing) less.0 less.2 in (
         back.0.counts,
         ap (λ (w : World). w.counts) back.2,
-        subst (λ (w : World). ComesIn parts calls first waiting (Goes (current_of parts s stage.standing) (waiting_of parts s stage.standing) w)) (own_there back.0 back.2) (subst (ComesIn parts calls first waiting) back.1 less.1),
+        subst (λ (w : World). ComesIn parts calls first waiting (Goes (current_of parts s stage.standing) (waiting_of parts s stage.standing) w))
+            (own_there back.0 back.2) (subst (ComesIn parts calls first waiting) back.1 less.1),
       )
   own_at calls first waiting false at =
       let less = between_uncounted parts others calls first waiting (world_of s stage.standing) at in
       (less.0.counts, ap (λ (w : World). w.counts) less.2, subst (ComesBetween parts calls first waiting) (own_there less.0 less.2) less.1)
 
-  own_where : (calls : List TaskCall) (first : World) (o : Option Trap) → StandsWhere o parts calls (counted others first) s stage → (c : Counts) × (s.counts ≡ counts_plus c others) × StandsWhere o parts calls first (with_counts s c) stage
+  own_where : (calls : List TaskCall) (first : World) (o : Option Trap) → StandsWhere o parts calls (counted others first) s stage → (c : Counts)
+      × (s.counts ≡ counts_plus c others) × StandsWhere o parts calls first (with_counts s c) stage
   own_where calls first None at = own_at calls first (calls_of stage.waiting) stage.under_way at
   own_where calls first (Some trap) d =
       let less = in_uncounted parts others calls first d.waiting d.move d.comes in
@@ -118,7 +124,8 @@ module _ {P R : Type 0} (s : State P R) (parts : Parts) (others : Counts) (stage
   whole_there : (c : Counts) → s.counts ≡ counts_plus c others → counted others (world_of (with_counts s c) stage.standing) ≡ world_of s stage.standing
   whole_there c e = λ i. record (world_of s stage.standing) { counts = sym e i }
 
-  whole_at : (calls : List TaskCall) (first : World) (waiting : List TaskCall) (c : Counts) (u : Bool) → s.counts ≡ counts_plus c others → IsAt u parts calls first (with_counts s c) stage.standing waiting → IsAt u parts calls (counted others first) s stage.standing waiting
+  whole_at : (calls : List TaskCall) (first : World) (waiting : List TaskCall) (c : Counts) (u : Bool) → s.counts ≡ counts_plus c others
+      → IsAt u parts calls first (with_counts s c) stage.standing waiting → IsAt u parts calls (counted others first) s stage.standing waiting
   whole_at calls first waiting c true e at =
       subst (λ (w : World). ComesIn parts calls (counted others first) waiting (Goes (current_of parts s stage.standing) (waiting_of parts s stage.standing) w)) (whole_there c e)
       (in_counted parts others calls first waiting (Goes (current_of parts s stage.standing) (waiting_of parts s stage.standing) (world_of (with_counts s c) stage.standing)) at)

@@ -19,7 +19,8 @@ use Rattle.pst_machine.specs.declared.stage.Stage.{Stage}
 use Rattle.pst_machine.specs.declared.stage.Progress.{Progress}
 use Rattle.pst_machine.specs.declared.stage.Progress.TheVariants.{Running, Done, Trapped as TrappedAt}
 use Rattle.pst_machine_frames.specs.Ready.{AreLive, IsRunning, world_of, current_of, waiting_of}
-use Rattle.pst_machine.specs.Advance.{AllMayCall, CanGoOn, ComesBetween, ComesIn, ComesToAnswer, ComesToTrap, HasOneMore, IsAddedWhere, IsAt, IsBare, IsBetween, IsOngoing, IsReady, MayCall, ReadyWhere, TrapsBy, calls_of, ended_by, payable, task_call, trap_of}
+use Rattle.pst_machine.specs.Advance.{AllMayCall, CanGoOn, ComesBetween, ComesIn, ComesToAnswer, ComesToTrap, HasOneMore, IsAddedWhere, IsAt, IsBare, IsBetween}
+use Rattle.pst_machine.specs.Advance.{IsOngoing, IsReady, MayCall, ReadyWhere, TrapsBy, calls_of, ended_by, payable, task_call, trap_of}
 use Rattle.pst_machine.specs.Laws.{AddedIsReady, BareIsReady, LeavesAlone, MayBegin, OthersStayReady, StaysReady}
 use Rattle.pst_machine.specs.Stands.{AddedStands, BareStands, NextStands, SlicesAddUp, Stands, StandsWhere, StillStands, begins_with}
 use Rattle.pst_machine_frames.proofs.Acting.{frame_kept, callers_kept, live_grows, waiting_grows}
@@ -90,7 +91,16 @@ module _ {P R : Type 0} (s : State P R) (parts : Parts) (c : ProcCall) (a b : St
   with_more = record a { waiting = b.waiting; ended = None }
 
   is_more : HasOneMore c a b → with_more ≡ b
-  is_more m = λ i. record { standing = sym m.standing i; waiting = b.waiting; under_way = sym m.under_way i; budget = sym m.budget i; granted = sym m.granted i; ended = sym m.ended i; failed = sym m.failed i }
+  is_more m = λ i. record {
+    standing = sym m.standing i;
+    waiting = b.waiting;
+    under_way = sym m.under_way i;
+    budget = sym m.budget i;
+    granted =
+        sym m.granted i;
+    ended = sym m.ended i;
+    failed = sym m.failed i;
+  }
 
   added_ready : IsOngoing parts s a → HasOneMore c a b → MayCall parts s a.standing.place c → IsReady parts s b
   added_ready r m may =
@@ -103,9 +113,12 @@ module _ {P R : Type 0} (s : State P R) (parts : Parts) (c : ProcCall) (a b : St
         budget = r.budget;
       }
 
-  added_at : (calls : List TaskCall) (first : World) (u : Bool) → IsAt u parts calls first s a.standing (calls_of a.waiting) → HasOneMore c a b → IsAt u parts (calls ++ task_call c ∷ []) first s a.standing (calls_of b.waiting)
+  added_at : (calls : List TaskCall) (first : World) (u : Bool) → IsAt u parts calls first s a.standing (calls_of a.waiting) → HasOneMore c a b
+      → IsAt u parts (calls ++ task_call c ∷ []) first s a.standing (calls_of b.waiting)
   added_at calls first true at m =
-      subst (λ (ws : List TaskCall). ComesIn parts (calls ++ task_call c ∷ []) first ws (Goes (current_of parts s a.standing) (waiting_of parts s a.standing) (world_of s a.standing))) (sym (ap calls_of m.waiting ∙ calls_added a.waiting c))
+      subst (λ (ws : List TaskCall). ComesIn parts (calls ++ task_call c ∷ []) first ws
+      (Goes (current_of parts s a.standing) (waiting_of parts s a.standing) (world_of s a.standing)))
+      (sym (ap calls_of m.waiting ∙ calls_added a.waiting c))
       (in_added parts calls first (calls_of a.waiting) (Goes (current_of parts s a.standing) (waiting_of parts s a.standing) (world_of s a.standing)) (task_call c) at)
   added_at calls first false at m =
       subst (λ (ws : List TaskCall). ComesBetween parts (calls ++ task_call c ∷ []) first ws (world_of s a.standing)) (sym (ap calls_of m.waiting ∙ calls_added a.waiting c))
@@ -121,11 +134,19 @@ added_is_ready s parts c a b r m may = on (trap_of a.ended) refl r m
 pub added_stands : {P R : Type 0} (s : State P R) → AddedStands s
 added_stands s parts calls heap others c a b stands m = on (trap_of a.ended) refl stands m
   where
-    on : (o : Option Trap) → trap_of a.ended ≡ o → StandsWhere o parts calls (begins_with others a.standing.run a.granted heap) s a → IsAddedWhere o c a b → Stands parts (calls ++ task_call c ∷ []) heap others s b
-    on None e at m = subst (Stands parts (calls ++ task_call c ∷ []) heap others s) (is_more s parts c a b m) (added_at s parts c a b calls (begins_with others a.standing.run a.granted heap) a.under_way at m)
+    on : (o : Option Trap) → trap_of a.ended ≡ o → StandsWhere o parts calls (begins_with others a.standing.run a.granted heap) s a
+        → IsAddedWhere o c a b → Stands parts (calls ++ task_call c ∷ []) heap others s b
+    on None e at m = subst (Stands parts (calls ++ task_call c ∷ []) heap others s) (is_more s parts c a b m)
+        (added_at s parts c a b calls (begins_with others a.standing.run a.granted heap) a.under_way at m)
     on (Some t) e trap m =
         let more : ComesToTrap parts (calls ++ task_call c ∷ []) (begins_with others a.standing.run a.granted heap) (nat_le a.budget a.granted) t (world_of s a.standing) =
-        record { waiting = trap.waiting ++ task_call c ∷ []; move = trap.move; comes = in_added parts calls (begins_with others a.standing.run a.granted heap) trap.waiting trap.move (task_call c) trap.comes; traps = trap.traps } in
+        record {
+          waiting = trap.waiting ++ task_call c ∷ [];
+          move = trap.move;
+          comes =
+              in_added parts calls (begins_with others a.standing.run a.granted heap) trap.waiting trap.move (task_call c) trap.comes;
+          traps = trap.traps;
+        } in
         subst (Stands parts (calls ++ task_call c ∷ []) heap others s) (sym m)
         (subst (λ (o : Option Trap). StandsWhere o parts (calls ++ task_call c ∷ []) (begins_with others a.standing.run a.granted heap) s a) (sym e) more)
 
@@ -135,12 +156,14 @@ granted_none : (w : World) → granted 0 w ≡ w
 granted_none w = let e : w.charges + 0 ≡ w.charges = omega arith in λ i. record w { charges = e i }
 
 -- where a run waits for a charge it goes on
-waits_goes : (parts : Parts) (calls : List TaskCall) (first : World) (ws : List TaskCall) (line : ℕ) (f : Frame) (cs : List Caller) (w : World) → ComesIn parts calls first ws (Waits line f cs w) → ComesIn parts calls first ws (Goes f cs w)
+waits_goes : (parts : Parts) (calls : List TaskCall) (first : World) (ws : List TaskCall) (line : ℕ) (f : Frame) (cs : List Caller) (w : World)
+    → ComesIn parts calls first ws (Waits line f cs w) → ComesIn parts calls first ws (Goes f cs w)
 waits_goes parts calls first ws line f cs w d =
     subst (λ (x : World). ComesIn parts calls first ws (Goes f cs x)) (granted_none w)
     (subst (λ (x : World). ComesIn parts calls x ws (Goes f cs (granted 0 w))) (granted_none first) (in_granted parts 0 calls first ws (Waits line f cs w) d))
 
-answer_stands : {P R : Type 0} (parts : Parts) (calls : List TaskCall) (first : World) (t : State P R) (b : Stage P R) (p : Progress) → ComesToAnswer p parts calls first t b → StandsWhere (trap_of (ended_by p)) parts calls first t b
+answer_stands : {P R : Type 0} (parts : Parts) (calls : List TaskCall) (first : World) (t : State P R) (b : Stage P R) (p : Progress)
+    → ComesToAnswer p parts calls first t b → StandsWhere (trap_of (ended_by p)) parts calls first t b
 answer_stands parts calls first t b Running d =
     subst (λ (u : Bool). IsAt u parts calls first t b.standing (calls_of b.waiting)) (sym d.0)
     (waits_goes parts calls first (calls_of b.waiting) d.2.0 (current_of parts t b.standing) (waiting_of parts t b.standing) (world_of t b.standing) d.2.1)
@@ -157,7 +180,8 @@ next_stands s t parts calls heap others charges a b p stands ongoing small adv =
     let first : granted (b.granted - a.granted) (begins_with others a.standing.run a.granted heap) ≡ begins_with others b.standing.run b.granted heap =
     (λ i. record { heap = heap; charges = sum i; printed = []; run = sym adv.run i; made = 0; counts = counts_plus no_counts others }) in
     let there : ComesToAnswer p parts calls (begins_with others b.standing.run b.granted heap) t b = subst (λ (w : World). ComesToAnswer p parts calls w t b) first come in (
-      subst (λ (e : Option Progress). StandsWhere (trap_of e) parts calls (begins_with others b.standing.run b.granted heap) t b) (sym adv.ended) (answer_stands parts calls (begins_with others b.standing.run b.granted heap) t b p there),
+      subst (λ (e : Option Progress). StandsWhere (trap_of e) parts calls (begins_with others b.standing.run b.granted heap) t b) (sym adv.ended)
+          (answer_stands parts calls (begins_with others b.standing.run b.granted heap) t b p there),
       there,
     )
 
@@ -213,7 +237,9 @@ module _ {P R : Type 0} (s t : State P R) (parts : Parts) (stage : Stage P R) (l
       record {
         shape = l.grows.shape ∙ r.shape;
         has = l.grows.has stage.standing.place r.has;
-        writable = λ e. l.writable (r.writable (ap (λ (f : Frame). (outermost f.procedure (waiting_of parts s stage.standing)).query) (sym (same_frame r.live)) ∙ ap (λ (c : List Caller). (outermost (current_of parts t stage.standing).procedure c).query) (sym (same_callers r.live)) ∙ e));
+        writable = λ e. l.writable (r.writable (ap (λ (f : Frame). (outermost f.procedure (waiting_of parts s stage.standing)).query)
+            (sym (same_frame r.live)) ∙ ap (λ (c : List Caller). (outermost (current_of parts t stage.standing).procedure c).query)
+            (sym (same_callers r.live)) ∙ e));
         sound = subst (λ (f : Frame). IsSoundRun parts f (waiting_of parts t stage.standing) (world_of t stage.standing)) (sym (same_frame r.live))
             (subst (λ (c : List Caller). IsSoundRun parts (current_of parts s stage.standing) c (world_of t stage.standing)) (sym (same_callers r.live)) second);
         live = still_live r.live;
@@ -274,11 +300,14 @@ module _ {P R : Type 0} (s t : State P R) (parts : Parts) (stage : Stage P R) (l
   still_world : counted more (world_of s stage.standing) ≡ world_of t stage.standing
   still_world = λ i. record (world_of s stage.standing) { heap = sym l.heap i; counts = sym counts i }
 
-  still_at : (calls : List TaskCall) (first : World) (u : Bool) → CanGoOn u parts s stage.standing → IsAt u parts calls first s stage.standing (calls_of stage.waiting) → IsAt u parts calls (counted more first) t stage.standing (calls_of stage.waiting)
+  still_at : (calls : List TaskCall) (first : World) (u : Bool) → CanGoOn u parts s stage.standing
+      → IsAt u parts calls first s stage.standing (calls_of stage.waiting) → IsAt u parts calls (counted more first) t stage.standing (calls_of stage.waiting)
   still_at calls first true r at =
       let on = in_counted parts more calls first (calls_of stage.waiting) (Goes (current_of parts s stage.standing) (waiting_of parts s stage.standing) (world_of s stage.standing)) at in
-      subst (λ (f : Frame). ComesIn parts calls (counted more first) (calls_of stage.waiting) (Goes f (waiting_of parts t stage.standing) (world_of t stage.standing))) (sym (same_frame s t parts stage l r.live))
-      (subst (λ (c : List Caller). ComesIn parts calls (counted more first) (calls_of stage.waiting) (Goes (current_of parts s stage.standing) c (world_of t stage.standing))) (sym (same_callers s t parts stage l r.live))
+      subst (λ (f : Frame). ComesIn parts calls (counted more first) (calls_of stage.waiting)
+      (Goes f (waiting_of parts t stage.standing) (world_of t stage.standing))) (sym (same_frame s t parts stage l r.live))
+      (subst (λ (c : List Caller). ComesIn parts calls (counted more first) (calls_of stage.waiting)
+      (Goes (current_of parts s stage.standing) c (world_of t stage.standing))) (sym (same_callers s t parts stage l r.live))
       (subst (λ (w : World). ComesIn parts calls (counted more first) (calls_of stage.waiting) (Goes (current_of parts s stage.standing) (waiting_of parts s stage.standing) w)) still_world on))
   still_at calls first false r at =
       subst (ComesBetween parts calls (counted more first) (calls_of stage.waiting)) still_world (between_counted parts more calls first (calls_of stage.waiting) (world_of s stage.standing) at)
@@ -292,7 +321,8 @@ module _ {P R : Type 0} (s t : State P R) (parts : Parts) (stage : Stage P R) (l
   still_traps whole trap (Goes f c w) d = absurd d
   still_traps whole trap Stuck d = absurd d
 
-  still_where : (calls : List TaskCall) (first : World) (o : Option Trap) → ReadyWhere o parts s stage → StandsWhere o parts calls first s stage → StandsWhere o parts calls (counted more first) t stage
+  still_where : (calls : List TaskCall) (first : World) (o : Option Trap) → ReadyWhere o parts s stage → StandsWhere o parts calls first s stage
+      → StandsWhere o parts calls (counted more first) t stage
   still_where calls first None ready at = still_at calls first stage.under_way ready.goes at
   still_where calls first (Some trap) ready d = record {
     waiting = d.waiting;

@@ -39,7 +39,9 @@ began parts shape e = record {
   shape = e;
   unused = λ n above. record {
     fresh = λ p h.
-        let first : get (heap_at (started shape).heaps p) n ≡ get (initial_heap shape) n = elim p.0 as (λ k. k < 1 → get (heap_at (started shape).heaps (record { 0 = k })) n ≡ get (initial_heap shape) n) [ zero ↦ λ h. refl | suc k ↦ λ h. absurd (omega (arith, h)) ] h in
+        let first : get (heap_at (started shape).heaps p) n ≡ get (initial_heap shape) n =
+        elim p.0 as (λ k. k < 1 → get (heap_at (started shape).heaps (record { 0 = k })) n ≡ get (initial_heap shape) n)
+        [ zero ↦ λ h. refl | suc k ↦ λ h. absurd (omega (arith, h)) ] h in
         let r = new_record shape root_type in
         let at : get (initial_heap shape) n ≡ cond (name_eq n root_name) (Some r) None = get-with_record empty root_name r n ∙ ap (cond (name_eq n root_name) (Some r)) (get-empty name_cmp n) in
         let other : cond (name_eq n root_name) (Some r) None ≡ None = elim (name_eq n root_name) as (λ b. name_eq n root_name ≡ b → cond b (Some r) None ≡ None) [
@@ -51,7 +53,8 @@ began parts shape e = record {
 }
 
 -- a run without a call can go on at a place that can be written
-pub bare_opened : {P R : Type 0} (parts : Parts) (s : State P R) (at : P) (run : RunNo) (budget : ℕ) (stage : Stage P R) → BareIsReady s → budget < 2 ^ 32 → IsBare at run budget stage → IsUntouched parts s → 0 < run.0 → s.has at × s.writable at → IsOpened parts s stage
+pub bare_opened : {P R : Type 0} (parts : Parts) (s : State P R) (at : P) (run : RunNo) (budget : ℕ) (stage : Stage P R) → BareIsReady s
+    → budget < 2 ^ 32 → IsBare at run budget stage → IsUntouched parts s → 0 < run.0 → s.has at × s.writable at → IsOpened parts s stage
 bare_opened parts s at run budget stage law small d u above place = record {
   ready = law parts at run budget stage small d (record { shape = u.shape; has = place.0; fresh = λ k. u.unused record { run = run; ordinal = k } above });
   working = d.failed;

@@ -1,5 +1,6 @@
 -- What each instruction does, in the machine's definition.
-use Rattle.std.proofs.Common.{◌≡◌, ℕ, suc, ◌+◌, ◌<◌, ◌≤◌, ◌^◌, ℤ, Bool, true, List, [], ◌∷◌, ◌++◌, length, map, drop, reverse, All, Option, Some, None, refl, ap, sym, ◌∙◌, subst, arith, slice_set, slice_index_or}
+use Rattle.std.proofs.Common.{◌≡◌, ℕ, suc, ◌+◌, ◌<◌, ◌≤◌, ◌^◌, ℤ, Bool, true, List, [], ◌∷◌, ◌++◌, length, map, drop, reverse, All, Option, Some, None, refl}
+use Rattle.std.proofs.Common.{ap, sym, ◌∙◌, subst, arith, slice_set, slice_index_or}
 use Rattle.std.specs.Prelude.{slice_get, unwrap_or}
 use Rattle.std.specs.Option.{option_map}
 use Rattle.std.specs.declared.vec.Vec.{Vec}
@@ -77,21 +78,25 @@ module _ {P R : Type 0} (s t : State P R) (at : P) (grows : Grows s t) where
   registers_kept (x ∷ xs) live = λ i. value_kept x (All-head (IsLive s at) x xs live) i ∷ registers_kept xs (All-tail (IsLive s at) x xs live) i
 
   pub frame_kept : (parts : Parts) (f : CallFrame R) → All (IsLive s at) f.registers.items → frame_of parts t.name f ≡ frame_of parts s.name f
-  frame_kept parts f live = ap (λ (vs : List Value). let g : Frame = record { procedure = procedure_of parts f.procedure; at = f.at; registers = vs; line = f.line } in g) (registers_kept f.registers.items live)
+  frame_kept parts f live = ap (λ (vs : List Value). let g : Frame =
+      record { procedure = procedure_of parts f.procedure; at = f.at; registers = vs; line = f.line } in g) (registers_kept f.registers.items live)
 
   waiting_kept : (parts : Parts) (ws : List (Waiting R)) → All (IsLiveWaiting s at) ws → map (caller_of parts t.name) ws ≡ map (caller_of parts s.name) ws
   waiting_kept parts [] live = refl
-  waiting_kept parts (w ∷ ws) live = λ i. record { frame = frame_kept parts w.frame (All-head (IsLiveWaiting s at) w ws live) i; into = w.into } ∷ waiting_kept parts ws (All-tail (IsLiveWaiting s at) w ws live) i
+  waiting_kept parts (w ∷ ws) live = λ i. record { frame = frame_kept parts w.frame (All-head (IsLiveWaiting s at) w ws live) i; into = w.into } ∷
+      waiting_kept parts ws (All-tail (IsLiveWaiting s at) w ws live) i
 
   pub callers_kept : (parts : Parts) (ws : List (Waiting R)) → All (IsLiveWaiting s at) ws → callers_of parts t.name ws ≡ callers_of parts s.name ws
   callers_kept parts ws live = map_reverse (caller_of parts t.name) ws ∙ ap reverse (waiting_kept parts ws live) ∙ sym (map_reverse (caller_of parts s.name) ws)
 
 -- what an instruction does, under another name of what it came to
-pub came_acted : {P R : Type 0} {parts : Parts} {s t : State P R} {a b : Standing P R} {instr : Instr} {x : Option Step} {step : Step} → x ≡ Some step → Acted parts s a instr step t b → CameTo parts s a instr x t b
+pub came_acted : {P R : Type 0} {parts : Parts} {s t : State P R} {a b : Standing P R} {instr : Instr} {x : Option Step} {step : Step} → x ≡ Some step
+    → Acted parts s a instr step t b → CameTo parts s a instr x t b
 came_acted {P} {R} {parts} {s} {t} {a} {b} {instr} e acted = subst (λ (x : Option Step). CameTo parts s a instr x t b) (sym e) acted
 
 -- a call or a return is left to be carried out
-pub came_due : {P R : Type 0} {x : Option Step} (parts : Parts) (s : State P R) (a : Standing P R) (instr : Instr) → x ≡ None → IsRunning parts s a → IsFunded parts s a → next_instr (current_of parts s a) ≡ Some instr → IsSwitch instr → CameTo parts s a instr x s a
+pub came_due : {P R : Type 0} {x : Option Step} (parts : Parts) (s : State P R) (a : Standing P R) (instr : Instr) → x ≡ None → IsRunning parts s a
+    → IsFunded parts s a → next_instr (current_of parts s a) ≡ Some instr → IsSwitch instr → CameTo parts s a instr x s a
 came_due {P} {R} {x} parts s a instr e running funded next switches =
     subst (λ (x : Option Step). CameTo parts s a instr x s a) (sym e) ((ran_none parts s a running funded, record { instr = instr; is = next; switches = switches }, refl), refl)
 
@@ -157,14 +162,17 @@ module _ {P R : Type 0} (parts : Parts) (s : State P R) (a : Standing P R) (live
   charged_acted line (Ends v) left f d = absurd d
   charged_acted line (Trap kind) left f d = absurd d
 
-  pub printed_acted : (r : Reg) (step : Step) (printed : Vec ℤ Global) → Printed a.printed.items (number_of (held (current_of parts s a).registers r)) step printed.items → Acted parts s a (Print r) step s (record a { printed = printed })
+  pub printed_acted : (r : Reg) (step : Step) (printed : Vec ℤ Global)
+      → Printed a.printed.items (number_of (held (current_of parts s a).registers r)) step printed.items
+      → Acted parts s a (Print r) step s (record a { printed = printed })
   printed_acted r Next printed d =
       let f = current_of parts s a in
       let c = waiting_of parts s a in
       let w = world_of s a in
       let n = number_of (held f.registers r) in
       record {
-        acts = ap (λ (b : Bool). after_effect (choose b (Normal f.registers (record w { printed = a.printed.items ++ n ∷ [] })) (Trapped Output f.line w)) f c) (lt-ltb (length a.printed.items) (2 ^ 16) d.0)
+        acts = ap (λ (b : Bool). after_effect (choose b (Normal f.registers (record w { printed = a.printed.items ++ n ∷ [] }))
+            (Trapped Output f.line w)) f c) (lt-ltb (length a.printed.items) (2 ^ 16) d.0)
             ∙ ap (λ (ps : List ℤ). Goes (behind f f.registers) c (record w { printed = ps })) (sym d.1);
         live = record { current = live.current; waiting = live.waiting; few = live.few };
         place = refl;
@@ -179,7 +187,8 @@ module _ {P R : Type 0} (parts : Parts) (s : State P R) (a : Standing P R) (live
       let w = world_of s a in
       let n = number_of (held f.registers r) in
       record {
-        acts = ap (λ (b : Bool). after_effect (choose b (Normal f.registers (record w { printed = a.printed.items ++ n ∷ [] })) (Trapped Output f.line w)) f c) (le-ltb (length a.printed.items) (2 ^ 16) d.1)
+        acts = ap (λ (b : Bool). after_effect (choose b (Normal f.registers (record w { printed = a.printed.items ++ n ∷ [] }))
+            (Trapped Output f.line w)) f c) (le-ltb (length a.printed.items) (2 ^ 16) d.1)
             ∙ (λ i. Over (Trapped (sym d.0 i) f.line (record w { printed = sym d.2 i })));
         live = record { current = live.current; waiting = live.waiting; few = live.few };
         place = refl;
@@ -221,7 +230,8 @@ module _ {P R : Type 0} (parts : Parts) (s : State P R) where
   pub same_tally : (a b : Standing P R) → SameTally a b → world_of s b ≡ world_of s a
   same_tally a b d = λ i. world_in s (d.place i) (d.left i) (d.printed i).items (d.run i) (d.made i)
 
-  entered_frame : (a b : Standing P R) (p : ProcNo) (into : Option Reg) (arguments : List Reg) (q : Procedure) → slice_get parts.procedures p.0 ≡ Some q → IsEntered a.current a.callers.items p into arguments q.kinds b.current b.callers.items
+  entered_frame : (a b : Standing P R) (p : ProcNo) (into : Option Reg) (arguments : List Reg) (q : Procedure)
+      → slice_get parts.procedures p.0 ≡ Some q → IsEntered a.current a.callers.items p into arguments q.kinds b.current b.callers.items
       → frame_of parts s.name b.current ≡ first_frame q (map (held (current_of parts s a).registers) arguments)
   entered_frame a b p into arguments q there d =
       let vs = map (held (current_of parts s a).registers) arguments in
@@ -234,14 +244,17 @@ module _ {P R : Type 0} (parts : Parts) (s : State P R) where
       let procedure : procedure_of parts b.current.procedure ≡ q = ap (procedure_of parts) d.procedure_is ∙ ap (λ (o : Option Procedure). unwrap_or o no_procedure) there in
       λ i. record { procedure = procedure i; at = d.at i; registers = values i; line = d.line i }
 
-  pub called_acted : (a b : Standing P R) (p : ProcNo) (into : Option Reg) (arguments : List Reg) (step : Step) (q : Procedure) → AreLive s a → slice_get parts.procedures p.0 ≡ Some q → Called a.current a.callers.items p into arguments q.kinds step b.current b.callers.items → SameTally a b → Acted parts s a (Call p into arguments) step s b
+  pub called_acted : (a b : Standing P R) (p : ProcNo) (into : Option Reg) (arguments : List Reg) (step : Step) (q : Procedure) → AreLive s a
+      → slice_get parts.procedures p.0 ≡ Some q → Called a.current a.callers.items p into arguments q.kinds step b.current b.callers.items
+      → SameTally a b → Acted parts s a (Call p into arguments) step s b
   called_acted a b p into arguments Switched q live there d same =
       let f = current_of parts s a in
       let c = waiting_of parts s a in
       let w = world_of s a in
       let vs = map (held f.registers) arguments in
       let room : length c + 1 < 256 = omega (arith, callers_length a.callers.items, d.few) in
-      let waits : waiting_of parts s b ≡ record { frame = behind f f.registers; into = into } ∷ c = ap (callers_of parts s.name) d.callers_are ∙ one_waits a.callers.items (record { frame = record a.current { at = a.current.at + 1 }; into = into }) in
+      let waits : waiting_of parts s b ≡ record { frame = behind f f.registers; into = into } ∷ c = ap (callers_of parts s.name) d.callers_are
+      ∙ one_waits a.callers.items (record { frame = record a.current { at = a.current.at + 1 }; into = into }) in
       record {
         acts = ap (λ (x : Bool). enter_where x (slice_get parts.procedures p.0) vs into f c w) (lt-ltb (length c + 1) 256 room)
             ∙ ap (λ (o : Option Procedure). enter_where true o vs into f c w) there
@@ -253,7 +266,8 @@ module _ {P R : Type 0} (parts : Parts) (s : State P R) where
               (All-map (IsLive s a.place) register_default (drop (length arguments) q.kinds) (λ k e lt. default_live a.place (slice_index_or (drop (length arguments) q.kinds) k e)))));
           waiting = subst (λ (at : P). All (IsLiveWaiting s at) b.callers.items) (sym same.place) (subst (All (IsLiveWaiting s a.place)) (sym d.callers_are)
               (All-push (IsLiveWaiting s a.place) a.callers.items (record { frame = record a.current { at = a.current.at + 1 }; into = into }) live.waiting live.current));
-          few = (let more : length b.callers.items ≡ length a.callers.items + 1 = ap length d.callers_are ∙ length_push a.callers.items (record { frame = record a.current { at = a.current.at + 1 }; into = into }) in omega (arith, d.few));
+          few = (let more : length b.callers.items ≡ length a.callers.items + 1 = ap length d.callers_are
+              ∙ length_push a.callers.items (record { frame = record a.current { at = a.current.at + 1 }; into = into }) in omega (arith, d.few));
         };
         place = same.place;
         run = same.run;
@@ -287,7 +301,8 @@ module _ {P R : Type 0} (parts : Parts) (s : State P R) where
   called_acted a b p into arguments (Ends v) q live there d same = absurd d
 
   -- a call leaves the frame, or the run is over
-  pub called_out : (f f' : CallFrame R) (callers callers' : List (Waiting R)) (p : ProcNo) (into : Option Reg) (arguments : List Reg) (kinds : List Kind) (step : Step) → Called f callers p into arguments kinds step f' callers' → IsOut step
+  pub called_out : (f f' : CallFrame R) (callers callers' : List (Waiting R)) (p : ProcNo) (into : Option Reg) (arguments : List Reg)
+      (kinds : List Kind) (step : Step) → Called f callers p into arguments kinds step f' callers' → IsOut step
   called_out f f' callers callers' p into arguments kinds Switched d = tt
   called_out f f' callers callers' p into arguments kinds (Trap kind) d = tt
   called_out f f' callers callers' p into arguments kinds Next d = absurd d
@@ -303,7 +318,8 @@ module _ {P R : Type 0} (parts : Parts) (s : State P R) where
   given_value f None = refl
   given_value f (Some r) = ap (λ (v : Value). Some v) (value_held s.name f.registers.items r.0)
 
-  result_registers : (into : Option Reg) (v : Option (Register R)) (f : CallFrame R) → map (value_of s.name) (with_register into v f.registers.items) ≡ (with_result into (option_map (value_of s.name) v) (frame_of parts s.name f)).registers
+  result_registers : (into : Option Reg) (v : Option (Register R)) (f : CallFrame R)
+      → map (value_of s.name) (with_register into v f.registers.items) ≡ (with_result into (option_map (value_of s.name) v) (frame_of parts s.name f)).registers
   result_registers None v f = refl
   result_registers (Some d) None f = refl
   result_registers (Some d) (Some v) f = values_set s.name f.registers.items d.0 v
@@ -313,7 +329,8 @@ module _ {P R : Type 0} (parts : Parts) (s : State P R) where
   result_frame (Some d) None f = refl
   result_frame (Some d) (Some v) f = refl
 
-  result_live : (at : P) (into : Option Reg) (v : Option (Register R)) (xs : List (Register R)) → ((r : Register R) → v ≡ Some r → IsLive s at r) → All (IsLive s at) xs → All (IsLive s at) (with_register into v xs)
+  result_live : (at : P) (into : Option Reg) (v : Option (Register R)) (xs : List (Register R)) → ((r : Register R) → v ≡ Some r → IsLive s at r)
+      → All (IsLive s at) xs → All (IsLive s at) (with_register into v xs)
   result_live at None v xs here live = live
   result_live at (Some d) None xs here live = live
   result_live at (Some d) (Some v) xs here live = live_set s at xs d.0 v (here v refl) live
@@ -322,7 +339,8 @@ module _ {P R : Type 0} (parts : Parts) (s : State P R) where
   given_live at f None live v e = absurd (cc)
   given_live at f (Some r) live v e = let same : held_in f r ≡ v = cc in subst (IsLive s at) same (live_held s at f.registers.items r.0 live)
 
-  pub left_acted : (a b : Standing P R) (r : Option Reg) (step : Step) → AreLive s a → Left a.current a.callers.items r step b.current b.callers.items → SameTally a b → Acted parts s a (Return r) step s b
+  pub left_acted : (a b : Standing P R) (r : Option Reg) (step : Step) → AreLive s a → Left a.current a.callers.items r step b.current b.callers.items
+      → SameTally a b → Acted parts s a (Return r) step s b
   left_acted a b r Switched live d same =
       let f = current_of parts s a in
       let c = waiting_of parts s a in
@@ -340,7 +358,9 @@ module _ {P R : Type 0} (parts : Parts) (s : State P R) where
         acts = returned f c w r ∙ ap (λ (c : List Caller). leave_to v c w) waits
             ∙ (λ i. Goes (sym frame i) (waiting_of parts s b) (sym (same_tally a b same) i));
         live = record {
-          current = subst (λ (at : P). All (IsLive s at) b.current.registers.items) (sym same.place) (subst (All (IsLive s a.place)) (sym d.registers) (result_live a.place x.into (given_back a.current r) x.frame.registers.items (given_live a.place a.current r live.current) both.1));
+          current = subst (λ (at : P). All (IsLive s at) b.current.registers.items) (sym same.place)
+              (subst (All (IsLive s a.place)) (sym d.registers)
+              (result_live a.place x.into (given_back a.current r) x.frame.registers.items (given_live a.place a.current r live.current) both.1));
           waiting = subst (λ (at : P). All (IsLiveWaiting s at) b.callers.items) (sym same.place) both.0;
           few = (let more : length a.callers.items ≡ length b.callers.items + 1 = ap length d.callers_are ∙ length_push b.callers.items x in omega (arith, live.few));
         };
@@ -390,11 +410,18 @@ module _ {P R : Type 0} (parts : Parts) (s t : State P R) (a : Standing P R) (li
   written_move (Some kind) f f' c c' w same_frame same_callers = λ i. Over (Trapped kind (sym same_frame i).line w)
 
   live_after : KeepsOthers a.place s t → AreLive t a
-  live_after kept = record { current = live_grows s t a.place kept.keeps.grows a.current.registers.items live.current; waiting = waiting_grows s t a.place kept.keeps.grows a.callers.items live.waiting; few = live.few }
+  live_after kept = record {
+    current = live_grows s t a.place kept.keeps.grows a.current.registers.items live.current;
+    waiting =
+        waiting_grows s t a.place kept.keeps.grows a.callers.items live.waiting;
+    few = live.few;
+  }
 
   -- a write of a field, once it is known which
   pub written_acted : (instr : Instr) (n : Name) (slot : ℕ) (r : Reg) (trap : Option TrapKind) → s.shape ≡ parts.shape
-      → act parts (Some instr) (current_of parts s a) (waiting_of parts s a) (world_of s a) ≡ after_effect (write parts.shape n slot (held (current_of parts s a).registers r) (current_of parts s a).line (current_of parts s a).registers (world_of s a)) (current_of parts s a) (waiting_of parts s a)
+      → act parts (Some instr) (current_of parts s a) (waiting_of parts s a) (world_of s a) ≡ after_effect
+      (write parts.shape n slot (held (current_of parts s a).registers r) (current_of parts s a).line (current_of parts s a).registers
+      (world_of s a)) (current_of parts s a) (waiting_of parts s a)
       → FieldWritten s a.place n slot (held_in a.current r) trap t → Acted parts s a instr (step_of trap) t a
   written_acted instr n slot r trap shape is d =
       let f = current_of parts s a in
@@ -403,7 +430,9 @@ module _ {P R : Type 0} (parts : Parts) (s t : State P R) (a : Standing P R) (li
       record {
         acts = is ∙ ap (λ (v : Value). after_effect (write parts.shape n slot v f.line f.registers w) f c) (sym (value_held s.name a.current.registers.items r.0))
             ∙ ap (λ (o : Ending). after_effect o f c) (d.acts parts.shape shape f.line f.registers a.left a.printed.items a.run a.made)
-            ∙ written_move trap f (current_of parts t a) c (waiting_of parts t a) (world_of t a) (frame_kept s t a.place d.kept.keeps.grows parts a.current live.current) (callers_kept s t a.place d.kept.keeps.grows parts a.callers.items live.waiting);
+            ∙ written_move trap f (current_of parts t a) c (waiting_of parts t a) (world_of t a)
+            (frame_kept s t a.place d.kept.keeps.grows parts a.current live.current)
+            (callers_kept s t a.place d.kept.keeps.grows parts a.callers.items live.waiting);
         live = live_after d.kept;
         place = refl;
         run = refl;
@@ -467,7 +496,8 @@ module _ {P R : Type 0} (parts : Parts) (s : State P R) (a : Standing P R) (live
       ∙ ap (λ (e : Ending). after_effect e f c) (object_null s.name (held_in a.current o) f.line w go (not_reference (held_in a.current o) plain)))
       live.current refl
 
-  pub stored_acted : (t : State P R) (o x : Reg) (slot : SlotNo) (trap : Option TrapKind) (v : Register R) → held_in a.current o ≡ v → s.shape ≡ parts.shape → Stored s a.place v slot.0 (held_in a.current x) trap t
+  pub stored_acted : (t : State P R) (o x : Reg) (slot : SlotNo) (trap : Option TrapKind) (v : Register R) → held_in a.current o ≡ v
+      → s.shape ≡ parts.shape → Stored s a.place v slot.0 (held_in a.current x) trap t
       → (IsPlainRegister v → Acted parts s a (Store o slot x) (Trap NullTrap) t a) → Acted parts s a (Store o slot x) (step_of trap) t a
   stored_acted t o x slot trap (Number n) is shape d null = subst (λ (trap : Option TrapKind). Acted parts s a (Store o slot x) (step_of trap) t a) (sym d) (null tt)
   stored_acted t o x slot trap Null is shape d null = subst (λ (trap : Option TrapKind). Acted parts s a (Store o slot x) (step_of trap) t a) (sym d) (null tt)
@@ -482,7 +512,8 @@ module _ {P R : Type 0} (parts : Parts) (s : State P R) (a : Standing P R) (live
 -- the write of an element, once it is known whether there is one
 module _ {P R : Type 0} (parts : Parts) (s t : State P R) (a : Standing P R) (live : AreLive s a) (o x i : Reg) (first : SlotNo) (elements : ℕ) (shape : s.shape ≡ parts.shape) where
   abbrev indexed_write : (index : Option ℕ) → Name → Ending
-  indexed_write index n = with_index index a.current.line (world_of s a) (λ k. write parts.shape n (first.0 + k) (held (current_of parts s a).registers x) a.current.line (current_of parts s a).registers (world_of s a))
+  indexed_write index n = with_index index a.current.line (world_of s a)
+      (λ k. write parts.shape n (first.0 + k) (held (current_of parts s a).registers x) a.current.line (current_of parts s a).registers (world_of s a))
 
   element_trapped : (kind : TrapKind) (v : Register R) (index : Option ℕ) → held_in a.current o ≡ v → index_of elements (number_of (held (current_of parts s a).registers i)) ≡ index
       → with_object (value_of s.name v) a.current.line (world_of s a) (indexed_write index) ≡ Trapped kind a.current.line (world_of s a) → Acted parts s a (Storex o first elements i x) (Trap kind) s a
@@ -490,7 +521,8 @@ module _ {P R : Type 0} (parts : Parts) (s t : State P R) (a : Standing P R) (li
       let f = current_of parts s a in
       let c = waiting_of parts s a in
       frame_acted parts s a live a.current (Storex o first elements i x) (Trap kind)
-      (ap (λ (v : Value). after_effect (with_object v f.line (world_of s a) (indexed_write (index_of elements (number_of (held f.registers i))))) f c) (sym (value_held s.name a.current.registers.items o.0) ∙ ap (value_of s.name) is)
+      (ap (λ (v : Value). after_effect (with_object v f.line (world_of s a) (indexed_write (index_of elements (number_of (held f.registers i))))) f c)
+      (sym (value_held s.name a.current.registers.items o.0) ∙ ap (value_of s.name) is)
       ∙ ap (λ (index : Option ℕ). after_effect (with_object (value_of s.name v) f.line (world_of s a) (indexed_write index)) f c) at
       ∙ ap (λ (e : Ending). after_effect e f c) trapped)
       live.current refl
@@ -499,18 +531,24 @@ module _ {P R : Type 0} (parts : Parts) (s t : State P R) (a : Standing P R) (li
       → StoredAt s a.place v (option_map (λ k. first.0 + k) index) (held_in a.current x) trap t
       → (RefusesElement v (option_map (λ k. first.0 + k) index) → (step : Step) → Acted parts s a (Storex o first elements i x) step s a → Acted parts s a (Storex o first elements i x) step t a)
       → Acted parts s a (Storex o first elements i x) (step_of trap) t a
-  element_by trap (Number n) index is at d kept = subst (λ (trap : Option TrapKind). Acted parts s a (Storex o first elements i x) (step_of trap) t a) (sym d) (kept tt (Trap NullTrap) (element_trapped NullTrap (Number n) index is at refl))
-  element_by trap Null index is at d kept = subst (λ (trap : Option TrapKind). Acted parts s a (Storex o first elements i x) (step_of trap) t a) (sym d) (kept tt (Trap NullTrap) (element_trapped NullTrap Null index is at refl))
-  element_by trap (Reference q) None is at d kept = subst (λ (trap : Option TrapKind). Acted parts s a (Storex o first elements i x) (step_of trap) t a) (sym d) (kept tt (Trap IndexTrap) (element_trapped IndexTrap (Reference q) None is at refl))
+  element_by trap (Number n) index is at d kept = subst (λ (trap : Option TrapKind). Acted parts s a (Storex o first elements i x) (step_of trap) t a)
+      (sym d) (kept tt (Trap NullTrap) (element_trapped NullTrap (Number n) index is at refl))
+  element_by trap Null index is at d kept = subst (λ (trap : Option TrapKind). Acted parts s a (Storex o first elements i x) (step_of trap) t a)
+      (sym d) (kept tt (Trap NullTrap) (element_trapped NullTrap Null index is at refl))
+  element_by trap (Reference q) None is at d kept = subst (λ (trap : Option TrapKind). Acted parts s a (Storex o first elements i x) (step_of trap) t
+      a) (sym d) (kept tt (Trap IndexTrap) (element_trapped IndexTrap (Reference q) None is at refl))
   element_by trap (Reference q) (Some k) is at d kept =
       let f = current_of parts s a in
       let c = waiting_of parts s a in
       written_acted parts s t a live (Storex o first elements i x) (s.name q) (first.0 + k) x trap shape
-      (ap (λ (v : Value). after_effect (with_object v f.line (world_of s a) (indexed_write (index_of elements (number_of (held f.registers i))))) f c) (sym (value_held s.name a.current.registers.items o.0) ∙ ap (value_of s.name) is)
+      (ap (λ (v : Value). after_effect (with_object v f.line (world_of s a) (indexed_write (index_of elements (number_of (held f.registers i))))) f c)
+      (sym (value_held s.name a.current.registers.items o.0) ∙ ap (value_of s.name) is)
       ∙ ap (λ (index : Option ℕ). after_effect (indexed_write index (s.name q)) f c) at) d
 
   pub element_acted : (trap : Option TrapKind) → StoredAt s a.place (held_in a.current o) (slot_at first.0 elements (number_of (value_of s.name (held_in a.current i)))) (held_in a.current x) trap t
-      → (RefusesElement (held_in a.current o) (slot_at first.0 elements (number_of (value_of s.name (held_in a.current i)))) → (step : Step) → Acted parts s a (Storex o first elements i x) step s a → Acted parts s a (Storex o first elements i x) step t a)
+      → (RefusesElement (held_in a.current o) (slot_at first.0 elements (number_of (value_of s.name (held_in a.current i)))) → (step : Step)
+      → Acted parts s a (Storex o first elements i x) step s a → Acted parts s a (Storex o first elements i x) step t a)
       → Acted parts s a (Storex o first elements i x) (step_of trap) t a
   element_acted trap d kept =
-      element_by trap (held_in a.current o) (index_of elements (number_of (value_of s.name (held_in a.current i)))) refl (ap (λ (v : Value). index_of elements (number_of v)) (sym (value_held s.name a.current.registers.items i.0))) d kept
+      element_by trap (held_in a.current o) (index_of elements (number_of (value_of s.name (held_in a.current i)))) refl
+      (ap (λ (v : Value). index_of elements (number_of v)) (sym (value_held s.name a.current.registers.items i.0))) d kept

@@ -66,7 +66,8 @@ pub record Callee (parts : Parts) (q : ProcNo) : Type 0 where
   pub procedure : Procedure
   pub there : slice_get parts.procedures q.0 ≡ Some procedure
 
-callee_of : (parts : Parts) (caller : Procedure) (into : Option Reg) (arguments : List Reg) (q : ProcNo) (o : Option Procedure) → slice_get parts.procedures q.0 ≡ o → IsCall caller into arguments o → Callee parts q
+callee_of : (parts : Parts) (caller : Procedure) (into : Option Reg) (arguments : List Reg) (q : ProcNo) (o : Option Procedure)
+    → slice_get parts.procedures q.0 ≡ o → IsCall caller into arguments o → Callee parts q
 callee_of parts caller into arguments q None e f = absurd f
 callee_of parts caller into arguments q (Some p) e f = record { procedure = p; there = e }
 
@@ -96,7 +97,8 @@ module _ {P R : Type 0} (parts : Parts) (s : State P R) (a : Standing P R) (vali
 
   -- there are as many registers as kinds
   as_many : length (current_of parts s a).procedure.kinds ≡ length a.current.registers.items
-  as_many = same_length (s.heap a.place) (current_of parts s a).procedure.kinds (map (value_of s.name) a.current.registers.items) r.sound.frame.registers ∙ length-map a.current.registers.items (value_of s.name)
+  as_many = same_length (s.heap a.place) (current_of parts s a).procedure.kinds (map (value_of s.name) a.current.registers.items)
+      r.sound.frame.registers ∙ length-map a.current.registers.items (value_of s.name)
 
   -- a register that is there has a kind
   pub has_kind : (x : Reg) → HasRegister a.current x → x.0 < length (current_of parts s a).procedure.kinds
@@ -179,12 +181,14 @@ module _ {P R : Type 0} (parts : Parts) (s : State P R) (a : Standing P R) (vali
       let f = fits_here (Jumpne x y to) e in
       (has_alike x (kind_of (current_of parts s a).procedure y) f, has_other y (kind_of (current_of parts s a).procedure x) f)
 
-  pub root_kind_here : (d : Reg) (slot : SlotNo) → next_instr (current_of parts s a) ≡ Some (Root d slot) → kind_in s.shape (s.heap a.place) root_name slot.0 ≡ kind_of (current_of parts s a).procedure d
+  pub root_kind_here : (d : Reg) (slot : SlotNo) → next_instr (current_of parts s a) ≡ Some (Root d slot)
+      → kind_in s.shape (s.heap a.place) root_name slot.0 ≡ kind_of (current_of parts s a).procedure d
   root_kind_here d slot e =
       let b = both_kinds (kind_of (current_of parts s a).procedure d) (root_kind parts.shape slot.0) (fits_here (Root d slot) e) in
       ap (λ sh. kind_in sh (s.heap a.place) root_name slot.0) r.shape ∙ ap (kind_from parts.shape slot.0) r.sound.world.well_formed.root ∙ b.second ∙ sym b.first
 
-  field_here : (o : Reg) (slot : ℕ) (kind : Kind) → slot_kind parts.shape (kind_of (current_of parts s a).procedure o) slot ≡ Some kind → (v : Register R) → held_in a.current o ≡ v → FieldIs s a.place (Some kind) slot v
+  field_here : (o : Reg) (slot : ℕ) (kind : Kind) → slot_kind parts.shape (kind_of (current_of parts s a).procedure o) slot ≡ Some kind
+      → (v : Register R) → held_in a.current o ≡ v → FieldIs s a.place (Some kind) slot v
   field_here o slot kind e (Number n) is = tt
   field_here o slot kind e Null is = tt
   field_here o slot kind e (Reference q) is =
@@ -192,7 +196,8 @@ module _ {P R : Type 0} (parts : Parts) (s : State P R) (a : Standing P R) (vali
       let typed : type_in (s.heap a.place) (s.name q) ≡ Some k.ty = subst (λ (v : Register R). IsOf (s.heap a.place) (Pointer k.ty) (value_of s.name v)) is (is_of o (Pointer k.ty) k.object_is) in
       ap (λ sh. kind_in sh (s.heap a.place) (s.name q) slot) r.shape ∙ ap (kind_from parts.shape slot) typed ∙ k.field
 
-  pub load_kind_here : (d o : Reg) (slot : SlotNo) → next_instr (current_of parts s a) ≡ Some (Load d o slot) → FieldIs s a.place (kind_of (current_of parts s a).procedure d) slot.0 (held_in a.current o)
+  pub load_kind_here : (d o : Reg) (slot : SlotNo) → next_instr (current_of parts s a) ≡ Some (Load d o slot)
+      → FieldIs s a.place (kind_of (current_of parts s a).procedure d) slot.0 (held_in a.current o)
   load_kind_here d o slot e =
       let b = both_kinds (kind_of (current_of parts s a).procedure d) (slot_kind parts.shape (kind_of (current_of parts s a).procedure o) slot.0) (fits_here (Load d o slot) e) in
       subst (λ (k : Option Kind). FieldIs s a.place k slot.0 (held_in a.current o)) (sym b.first) (field_here o slot.0 b.kind b.second (held_in a.current o) refl)
@@ -209,7 +214,8 @@ module _ {P R : Type 0} (parts : Parts) (s : State P R) (a : Standing P R) (vali
       let target : IsTarget parts.shape array.ty = all_at (IsKind parts.shape) (current_of parts s a).procedure.kinds o.0 (Pointer array.ty) kinds array.object_is in
       slots_numbered (type_at parts.shape array.ty) first elements kind array.has (valid.shape.elements array.ty target.0 target.1)
 
-  pub elements_here : (d o i : Reg) (slot : SlotNo) (n : ℕ) → next_instr (current_of parts s a) ≡ Some (Loadx d o slot n i) → ElementsAre s a.place (kind_of (current_of parts s a).procedure d) slot.0 n (held_in a.current o)
+  pub elements_here : (d o i : Reg) (slot : SlotNo) (n : ℕ) → next_instr (current_of parts s a) ≡ Some (Loadx d o slot n i)
+      → ElementsAre s a.place (kind_of (current_of parts s a).procedure d) slot.0 n (held_in a.current o)
   elements_here d o i slot n e =
       let b = both_kinds (kind_of (current_of parts s a).procedure d) (slots_kind parts.shape (kind_of (current_of parts s a).procedure o) slot.0 n) (fits_here (Loadx d o slot n i) e).0 in
       let array = slots_kind_of parts.shape (kind_of (current_of parts s a).procedure o) slot.0 n b.kind b.second in
@@ -235,7 +241,8 @@ module _ {P R : Type 0} (parts : Parts) (s : State P R) (a : Standing P R) (vali
 
   pub target_here : (d : Reg) (ty : TypeNo) → next_instr (current_of parts s a) ≡ Some (New d ty) → IsTarget parts.shape ty
   target_here d ty e =
-      all_at (IsKind parts.shape) (current_of parts s a).procedure.kinds d.0 (Pointer ty) (valid.procedures r.sound.frame.one.number (current_of parts s a).procedure r.sound.frame.one.is).kinds (fits_here (New d ty) e).2
+      all_at (IsKind parts.shape) (current_of parts s a).procedure.kinds d.0 (Pointer ty)
+      (valid.procedures r.sound.frame.one.number (current_of parts s a).procedure r.sound.frame.one.is).kinds (fits_here (New d ty) e).2
 
   pub new_type_here : (d : Reg) (ty : TypeNo) → next_instr (current_of parts s a) ≡ Some (New d ty) → IsNewType s ty
   new_type_here d ty e =
@@ -292,7 +299,8 @@ module _ {P R : Type 0} (parts : Parts) (s : State P R) (a : Standing P R) (vali
       let b = both_kinds (kind_of (current_of parts s a).procedure x) (slot_kind parts.shape (kind_of (current_of parts s a).procedure o) slot.0) f.1 in
       store_by o x slot.0 b.kind funded f.0 b.first b.second (held_in a.current o) refl
 
-  pub store_elements_here : (o i x : Reg) (slot : SlotNo) (n : ℕ) → IsFunded parts s a → next_instr (current_of parts s a) ≡ Some (Storex o slot n i x) → MayStoreElements s a.place (held_in a.current o) slot.0 n (held_in a.current x)
+  pub store_elements_here : (o i x : Reg) (slot : SlotNo) (n : ℕ) → IsFunded parts s a
+      → next_instr (current_of parts s a) ≡ Some (Storex o slot n i x) → MayStoreElements s a.place (held_in a.current o) slot.0 n (held_in a.current x)
   store_elements_here o i x slot n funded e =
       let f = fits_here (Storex o slot n i x) e in
       let b = both_kinds (kind_of (current_of parts s a).procedure x) (slots_kind parts.shape (kind_of (current_of parts s a).procedure o) slot.0 n) f.1 in

@@ -27,7 +27,8 @@ use Rattle.pst_machine_steps.specs.declared.standing.Step.{Step}
 use Rattle.pst_machine_steps.specs.declared.standing.Step.TheVariants.{Next, Here, Switched, Waits, Ends, Trap}
 use Rattle.pst_machine_steps.specs.Live.{IsRoot}
 use Rattle.pst_machine_steps.specs.View.{procedure_of, move_of, no_procedure}
-use Rattle.pst_machine_frames.specs.Ready.{AreLive, world_of, current_of, waiting_of, IsRunning, IsFunded, spendable_of, Acted, CameTo, IfNotOver, IfCarriesOn, IsOff, IsOut, IsRest, Leaves, LeavesBy, total_of, Ran}
+use Rattle.pst_machine_frames.specs.Ready.{AreLive, world_of, current_of, waiting_of, IsRunning, IsFunded, spendable_of, Acted, CameTo, IfNotOver, IfCarriesOn}
+use Rattle.pst_machine_frames.specs.Ready.{IsOff, IsOut, IsRest, Leaves, LeavesBy, total_of, Ran}
 use Rattle.pst_machine_steps.specs.Fields.{KeepsOthers}
 
 -- ---- reaching
@@ -96,8 +97,10 @@ module _ {P R : Type 0} (parts : Parts) (valid : IsValidCode parts) (s t : State
     subst (MovePays (current_of parts s a) (waiting_of parts s a) (world_of s a)) e (moves_pay parts valid (current_of parts s a) (waiting_of parts s a) (world_of s a) r.sound),
   )
 
-  pub ran_over : (step : Step) → act parts (next_instr (current_of parts s a)) (current_of parts s a) (waiting_of parts s a) (world_of s a) ≡ move_of step (current_of parts t b) (waiting_of parts t b) (world_of t b)
-      → IfNotOver step (IsRunning parts t b) → IfNotOver step (IsFunded parts t b) → IfCarriesOn step (total_of parts t b ≤ total_of parts s a) → AreLive t b → b.place ≡ a.place → b.run ≡ a.run → KeepsOthers a.place s t → WritesStay s t → Ran parts s a step t b
+  pub ran_over : (step : Step) → act parts (next_instr (current_of parts s a)) (current_of parts s a) (waiting_of parts s a) (world_of s a) ≡ move_of
+      step (current_of parts t b) (waiting_of parts t b) (world_of t b)
+      → IfNotOver step (IsRunning parts t b) → IfNotOver step (IsFunded parts t b) → IfCarriesOn step (total_of parts t b ≤ total_of parts s a)
+      → AreLive t b → b.place ≡ a.place → b.run ≡ a.run → KeepsOthers a.place s t → WritesStay s t → Ran parts s a step t b
   ran_over step e running funded less live place run kept writes = record {
     reaches = subst (Reaches parts (current_of parts s a) (waiting_of parts s a) (world_of s a)) e (reach_one parts (current_of parts s a) (waiting_of parts s a) (world_of s a));
     running = running;
@@ -111,18 +114,22 @@ module _ {P R : Type 0} (parts : Parts) (valid : IsValidCode parts) (s t : State
   }
 
   -- one instruction that leads on, or to a charge that is due, or to the end
-  pub ran_one : (step : Step) → step ≢ Next → act parts (next_instr (current_of parts s a)) (current_of parts s a) (waiting_of parts s a) (world_of s a) ≡ move_of step (current_of parts t b) (waiting_of parts t b) (world_of t b)
-      → IsFunded parts s a → AreLive t b → b.place ≡ a.place → b.run ≡ a.run → KeepsOthers a.place s t → WritesStay s t → Ran parts s a step t b × IfCarriesOn step (total_of parts t b < total_of parts s a)
+  pub ran_one : (step : Step) → step ≢ Next → act parts (next_instr (current_of parts s a)) (current_of parts s a) (waiting_of parts s a)
+      (world_of s a) ≡ move_of step (current_of parts t b) (waiting_of parts t b) (world_of t b)
+      → IsFunded parts s a → AreLive t b → b.place ≡ a.place → b.run ≡ a.run → KeepsOthers a.place s t → WritesStay s t → Ran parts s a step t b
+      × IfCarriesOn step (total_of parts t b < total_of parts s a)
   ran_one Next other e funded live place run kept writes = absurd (other refl)
   ran_one Here other e funded live place run kept writes =
       let by = moved_by (Goes (current_of parts t b) (waiting_of parts t b) (world_of t b)) e in
       let m : Moved parts s t a b = record { leads = by.0; pays = by.1 } in
-      let less : total_of parts t b < total_of parts s a = moves_lower_the_total parts valid (current_of parts s a) (current_of parts t b) (waiting_of parts s a) (waiting_of parts t b) (world_of s a) (world_of t b) r.sound e in
+      let less : total_of parts t b < total_of parts s a = moves_lower_the_total parts valid (current_of parts s a) (current_of parts t b)
+      (waiting_of parts s a) (waiting_of parts t b) (world_of s a) (world_of t b) r.sound e in
       (ran_over Here e (runs_on parts s t a b m r kept writes live place run) (funds_on parts s t a b m funded) (omega (arith, less)) live place run kept writes, less)
   ran_one Switched other e funded live place run kept writes =
       let by = moved_by (Goes (current_of parts t b) (waiting_of parts t b) (world_of t b)) e in
       let m : Moved parts s t a b = record { leads = by.0; pays = by.1 } in
-      let less : total_of parts t b < total_of parts s a = moves_lower_the_total parts valid (current_of parts s a) (current_of parts t b) (waiting_of parts s a) (waiting_of parts t b) (world_of s a) (world_of t b) r.sound e in
+      let less : total_of parts t b < total_of parts s a = moves_lower_the_total parts valid (current_of parts s a) (current_of parts t b)
+      (waiting_of parts s a) (waiting_of parts t b) (world_of s a) (world_of t b) r.sound e in
       (ran_over Switched e (runs_on parts s t a b m r kept writes live place run) (funds_on parts s t a b m funded) (omega (arith, less)) live place run kept writes, less)
   ran_one (Waits line) other e funded live place run kept writes =
       let by = moved_by (WaitsFor line (current_of parts t b) (waiting_of parts t b) (world_of t b)) e in
@@ -167,19 +174,22 @@ not_next (Ends v) out = λ e. absurd (cc)
 not_next (Trap kind) out = λ e. absurd (cc)
 
 -- the instruction that is due is there
-pub bound : {P R : Type 0} (parts : Parts) (s : State P R) (a : Standing P R) (p : Procedure) (instrs : List Instr) → IsRunning parts s a → procedure_of parts a.current.procedure ≡ p → instrs ≡ p.instructions → a.current.at < length instrs
+pub bound : {P R : Type 0} (parts : Parts) (s : State P R) (a : Standing P R) (p : Procedure) (instrs : List Instr) → IsRunning parts s a
+    → procedure_of parts a.current.procedure ≡ p → instrs ≡ p.instructions → a.current.at < length instrs
 bound parts s a p instrs r is same =
     let e : length instrs ≡ length (procedure_of parts a.current.procedure).instructions = ap length (same ∙ ap (λ (p : Procedure). p.instructions) (sym is)) in
     omega (arith, r.sound.frame.stands)
 
-pub due : {P R : Type 0} (parts : Parts) (s : State P R) (a : Standing P R) (instr : Instr) (p : Procedure) (instrs : List Instr) → procedure_of parts a.current.procedure ≡ p → instrs ≡ p.instructions → a.current.at < length instrs → instr ≡ slice_index_or instrs a.current.at instr
+pub due : {P R : Type 0} (parts : Parts) (s : State P R) (a : Standing P R) (instr : Instr) (p : Procedure) (instrs : List Instr)
+    → procedure_of parts a.current.procedure ≡ p → instrs ≡ p.instructions → a.current.at < length instrs → instr ≡ slice_index_or instrs a.current.at instr
     → next_instr (current_of parts s a) ≡ Some instr
 due parts s a instr p instrs is same lt at =
     ap (λ (p : Procedure). slice_get p.instructions a.current.at) is ∙ ap (λ (xs : List Instr). slice_get xs a.current.at) (sym same)
     ∙ slice_get_read instrs (length instrs) a.current.at instr refl lt at
 
 -- the same where the instruction is the first of the rest of the code
-pub at_rest : {P R : Type 0} (parts : Parts) (s : State P R) (a : Standing P R) (instr : Instr) (p : Procedure) (rest : List Instr) → IsRunning parts s a → procedure_of parts a.current.procedure ≡ p → rest ≡ drop a.current.at p.instructions → instr ≡ slice_index_or rest 0 instr
+pub at_rest : {P R : Type 0} (parts : Parts) (s : State P R) (a : Standing P R) (instr : Instr) (p : Procedure) (rest : List Instr)
+    → IsRunning parts s a → procedure_of parts a.current.procedure ≡ p → rest ≡ drop a.current.at p.instructions → instr ≡ slice_index_or rest 0 instr
     → next_instr (current_of parts s a) ≡ Some instr
 at_rest parts s a instr p rest r is same at =
     let zero : a.current.at + 0 ≡ a.current.at = omega arith in
@@ -187,7 +197,8 @@ at_rest parts s a instr p rest r is same at =
     (at ∙ ap (λ (xs : List Instr). slice_index_or xs 0 instr) same ∙ get_or-drop a.current.at p.instructions 0 instr ∙ ap (λ (i : ℕ). slice_index_or p.instructions i instr) zero)
 
 -- the procedure of a frame that stands at an instruction is one of the code's
-pub procedure_there : (parts : Parts) (heap : Heap) (p : ℕ) → p < length parts.procedures ⊎ (slice_get parts.procedures p ≡ None) → (f : Frame) → f.procedure ≡ unwrap_or (slice_get parts.procedures p) no_procedure → IsSoundFrame parts heap f → p < length parts.procedures
+pub procedure_there : (parts : Parts) (heap : Heap) (p : ℕ) → p < length parts.procedures ⊎ (slice_get parts.procedures p ≡ None) → (f : Frame)
+    → f.procedure ≡ unwrap_or (slice_get parts.procedures p) no_procedure → IsSoundFrame parts heap f → p < length parts.procedures
 procedure_there parts heap p (inl lt) f is sound = lt
 procedure_there parts heap p (inr none) f is sound =
     let empty : length f.procedure.instructions ≡ 0 = ap (λ (q : Procedure). length q.instructions) (is ∙ ap (λ (o : Option Procedure). unwrap_or o no_procedure) none) in
@@ -198,14 +209,16 @@ module _ {P R : Type 0} (parts : Parts) where
   abbrev pub bumped : Standing P R → Standing P R
   bumped b = record b { current = record b.current { at = b.current.at + 1 } }
 
-  pub acted_on : (s t : State P R) (a b : Standing P R) (instr : Instr) → IsValidCode parts → IsRunning parts s a → IsFunded parts s a → next_instr (current_of parts s a) ≡ Some instr → Acted parts s a instr Next t b
+  pub acted_on : (s t : State P R) (a b : Standing P R) (instr : Instr) → IsValidCode parts → IsRunning parts s a → IsFunded parts s a
+      → next_instr (current_of parts s a) ≡ Some instr → Acted parts s a instr Next t b
       → Ran parts s a Here t (bumped b) × (total_of parts t (bumped b) < total_of parts s a)
   acted_on s t a b instr valid r funded next acted =
       let same = ap (λ (i : Option Instr). act parts i (current_of parts s a) (waiting_of parts s a) (world_of s a)) next ∙ acted.acts in
       let live : AreLive t (bumped b) = record { current = acted.live.current; waiting = acted.live.waiting; few = acted.live.few } in
       ran_one parts valid s t a (bumped b) r Here (λ e. absurd (cc)) same funded live acted.place acted.run acted.kept acted.writes
 
-  pub acted_other : (s t : State P R) (a b : Standing P R) (instr : Instr) (step : Step) → IsValidCode parts → IsRunning parts s a → IsFunded parts s a → next_instr (current_of parts s a) ≡ Some instr → step ≢ Next → Acted parts s a instr step t b
+  pub acted_other : (s t : State P R) (a b : Standing P R) (instr : Instr) (step : Step) → IsValidCode parts → IsRunning parts s a
+      → IsFunded parts s a → next_instr (current_of parts s a) ≡ Some instr → step ≢ Next → Acted parts s a instr step t b
       → Ran parts s a step t b × IfCarriesOn step (total_of parts t b < total_of parts s a)
   acted_other s t a b instr step valid r funded next other acted =
       let same = ap (λ (i : Option Instr). act parts i (current_of parts s a) (waiting_of parts s a) (world_of s a)) next ∙ acted.acts in
@@ -235,7 +248,8 @@ module _ {P R : Type 0} (parts : Parts) where
 
   pub ran_on : (s t u : State P R) (a b d : Standing P R) (step : Step) → Ran parts s a Switched t b → Ran parts t b step u d → Ran parts s a step u d
   ran_on s t u a b d step f g = record {
-    reaches = reach_on parts (current_of parts s a) (current_of parts t b) (waiting_of parts s a) (waiting_of parts t b) (world_of s a) (world_of t b) (move_of step (current_of parts u d) (waiting_of parts u d) (world_of u d)) f.reaches g.reaches;
+    reaches = reach_on parts (current_of parts s a) (current_of parts t b) (waiting_of parts s a) (waiting_of parts t b) (world_of s a) (world_of t b)
+        (move_of step (current_of parts u d) (waiting_of parts u d) (world_of u d)) f.reaches g.reaches;
     running = g.running;
     funded = g.funded;
     less = less_on step (total_of parts u d) (total_of parts t b) (total_of parts s a) f.less g.less;
@@ -254,12 +268,14 @@ module _ {P R : Type 0} (parts : Parts) where
   }
 
   -- a part of a run before one that leaves the frame
-  pub leaves_on : (s t u : State P R) (a b d : Standing P R) (out : Option Step) → Ran parts s a Switched t b → procedure_of parts b.current.procedure ≡ procedure_of parts a.current.procedure → Leaves parts t b out u d → Leaves parts s a out u d
+  pub leaves_on : (s t u : State P R) (a b d : Standing P R) (out : Option Step) → Ran parts s a Switched t b
+      → procedure_of parts b.current.procedure ≡ procedure_of parts a.current.procedure → Leaves parts t b out u d → Leaves parts s a out u d
   leaves_on s t u a b d None f same g = (ran_on s t u a b d Switched f g.0, g.1, g.2 ∙ same)
   leaves_on s t u a b d (Some step) f same g = (ran_on s t u a b d step f g.0, below_on step (total_of parts u d) (total_of parts t b) (total_of parts s a) f.less g.1, g.2)
 
   -- what an instruction does that leaves the frame, or a call or a return that is left to be carried out
-  pub left_by : (s t : State P R) (a b : Standing P R) (instr : Instr) (out : Option Step) → IsValidCode parts → IsRunning parts s a → IsFunded parts s a → next_instr (current_of parts s a) ≡ Some instr → IsOff out → CameTo parts s a instr out t b → LeavesBy parts s a out t b
+  pub left_by : (s t : State P R) (a b : Standing P R) (instr : Instr) (out : Option Step) → IsValidCode parts → IsRunning parts s a
+      → IsFunded parts s a → next_instr (current_of parts s a) ≡ Some instr → IsOff out → CameTo parts s a instr out t b → LeavesBy parts s a out t b
   left_by s t a b instr None valid r funded next off came = came
   left_by s t a b instr (Some step) valid r funded next off came =
       let ran = acted_other s t a b instr step valid r funded next (not_next step off) came in

@@ -38,12 +38,14 @@ module _ {P R : Type 0} where
   unchanged_trans s t u f g = record { keeps = Keeps_trans s t u f.keeps g.keeps; heaps = λ p has. g.heaps p (f.keeps.grows.has p has) ∙ f.heaps p has; counts = g.counts ∙ f.counts }
 
 module _ {P R : Type 0} (parts : Parts) (valid : IsValidCode parts) (s t : State P R) (a b : Standing P R) (r : IsRunning parts s a) where
-  pub ran_sound : (step : Step) → Ran parts s a step t b → MoveIsSound parts (current_of parts s a) (waiting_of parts s a) (world_of s a) (move_of step (current_of parts t b) (waiting_of parts t b) (world_of t b))
+  pub ran_sound : (step : Step) → Ran parts s a step t b → MoveIsSound parts (current_of parts s a) (waiting_of parts s a) (world_of s a)
+      (move_of step (current_of parts t b) (waiting_of parts t b) (world_of t b))
   ran_sound step ran =
       subst (MoveIsSound parts (current_of parts s a) (waiting_of parts s a) (world_of s a)) ran.reaches.comes
       (steps_sound parts valid ran.reaches.within (current_of parts s a) (waiting_of parts s a) (world_of s a) r.sound)
 
-  pub ran_pays : (step : Step) → Ran parts s a step t b → MovePays (current_of parts s a) (waiting_of parts s a) (world_of s a) (move_of step (current_of parts t b) (waiting_of parts t b) (world_of t b))
+  pub ran_pays : (step : Step) → Ran parts s a step t b → MovePays (current_of parts s a) (waiting_of parts s a) (world_of s a)
+      (move_of step (current_of parts t b) (waiting_of parts t b) (world_of t b))
   ran_pays step ran =
       subst (MovePays (current_of parts s a) (waiting_of parts s a) (world_of s a)) ran.reaches.comes
       (steps_pay parts valid ran.reaches.within (current_of parts s a) (waiting_of parts s a) (world_of s a) r.sound)
@@ -59,7 +61,8 @@ module _ {P R : Type 0} (parts : Parts) (valid : IsValidCode parts) (s t : State
   -- at a place that it can't write a run changes nothing
   pub ran_reads : (step : Step) → Ran parts s a step t b → ¬ (s.writable a.place) → Unchanged s t
   ran_reads step ran closed =
-      let query : IsTrue (outermost (current_of parts s a).procedure (waiting_of parts s a)).query = is_query (outermost (current_of parts s a).procedure (waiting_of parts s a)).query (λ e. closed (r.writable e)) in
+      let query : IsTrue (outermost (current_of parts s a).procedure (waiting_of parts s a)).query =
+      is_query (outermost (current_of parts s a).procedure (waiting_of parts s a)).query (λ e. closed (r.writable e)) in
       let same : Unwritten (world_of s a) (world_of t b) = (ran_keeps step ran).reads query in
       let here : t.heap a.place ≡ s.heap a.place = ap t.heap (sym ran.place) ∙ same.heap in
       record {

@@ -24,7 +24,8 @@ pub values_set : {R : Type 0} (name : R → Name) (xs : List (Register R)) (i : 
 values_set name xs i v = map-set (value_of name) xs i v
 
 -- what is not a reference is no record
-pub object_null : {R : Type 0} (name : R → Name) (v : Register R) (line : ℕ) (w : World) (go : Name → Ending) → ((r : R) → v ≡ Reference r → ⊥) → with_object (value_of name v) line w go ≡ Trapped NullTrap line w
+pub object_null : {R : Type 0} (name : R → Name) (v : Register R) (line : ℕ) (w : World) (go : Name → Ending) → ((r : R) → v ≡ Reference r → ⊥)
+    → with_object (value_of name v) line w go ≡ Trapped NullTrap line w
 object_null name (Number n) line w go none = refl
 object_null name Null line w go none = refl
 object_null name (Reference r) line w go none = absurd (none r refl)
@@ -45,7 +46,8 @@ kept_set before i v plain = All-set (λ v. IsPlainRegister v ⊎ Contains before
 
 pub kept_copy : {R : Type 0} (before : List (Register R)) (i s : ℕ) → KeptFrom before (slice_set before i (slice_index_or before s Null))
 kept_copy before i s =
-    All-set (λ v. IsPlainRegister v ⊎ Contains before v) before i (slice_index_or before s Null) (all_held (λ v. IsPlainRegister v ⊎ Contains before v) before s (inl tt) (kept_same before)) (kept_same before)
+    All-set (λ v. IsPlainRegister v ⊎ Contains before v) before i (slice_index_or before s Null)
+    (all_held (λ v. IsPlainRegister v ⊎ Contains before v) before s (inl tt) (kept_same before)) (kept_same before)
 
 module _ {P R : Type 0} where
   plain_live : (s : State P R) (at : P) (v : Register R) → IsPlainRegister v → IsLive s at v

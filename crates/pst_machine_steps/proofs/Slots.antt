@@ -1,5 +1,6 @@
 -- The slots of the elements of arrays.
-use Rattle.std.proofs.Common.{◌≡◌, ℕ, ◌+◌, ◌-◌, ◌<◌, ◌≤◌, ◌^◌, ℤ, pos, negsuc, true, false, cond, ltb, ltb-true, ltb-false, nat_lt, nat_le, List, length, map, Option, Some, None, refl, sym, ap, ◌∙◌, arith, slice_get, slice_index_or}
+use Rattle.std.proofs.Common.{◌≡◌, ℕ, ◌+◌, ◌-◌, ◌<◌, ◌≤◌, ◌^◌, ℤ, pos, negsuc, true, false, cond, ltb, ltb-true, ltb-false, nat_lt, nat_le, List, length, map}
+use Rattle.std.proofs.Common.{Option, Some, None, refl, sym, ap, ◌∙◌, arith, slice_get, slice_index_or}
 use Rattle.std.specs.Option.{option_map}
 use Rattle.std.proofs.lemmas.Option.{slice_get_within, same_Some}
 use Rattle.pst_base.specs.declared.names.Kind.{Kind}
@@ -23,15 +24,16 @@ use Rattle.pst_machine_steps.proofs.Kept.{value_held}
 
 -- a slot that holds something is one of the elements
 slot_below : (t : TypeShape) (slot : ℕ) (kind : Kind) → field_kind t slot ≡ Some kind → slot < t.values + length t.targets
-slot_below t slot kind e = elim (nat_lt slot t.values) as (λ b. nat_lt slot t.values ≡ b → cond b (Some Int) (option_map Pointer (slice_get t.targets (slot - t.values))) ≡ Some kind → slot < t.values + length t.targets) [
-  | true ↦ λ x u. let below : slot < t.values = ltb-true slot t.values x in omega arith
-  | false ↦ λ x u.
-      let from : t.values ≤ slot = ltb-false slot t.values x in
-      elim (slice_get t.targets (slot - t.values)) as (λ (o : Option TypeNo). slice_get t.targets (slot - t.values) ≡ o → option_map Pointer o ≡ Some kind → slot < t.values + length t.targets) [
-        | None ↦ λ is v. absurd (cc)
-        | Some ty ↦ λ is v. let within : slot - t.values < length t.targets = slice_get_within t.targets (slot - t.values) ty is in omega arith
-      ] refl u
-] refl e
+slot_below t slot kind e = elim (nat_lt slot t.values) as (λ b. nat_lt slot t.values ≡ b
+    → cond b (Some Int) (option_map Pointer (slice_get t.targets (slot - t.values))) ≡ Some kind → slot < t.values + length t.targets) [
+      | true ↦ λ x u. let below : slot < t.values = ltb-true slot t.values x in omega arith
+      | false ↦ λ x u.
+          let from : t.values ≤ slot = ltb-false slot t.values x in
+          elim (slice_get t.targets (slot - t.values)) as (λ (o : Option TypeNo). slice_get t.targets (slot - t.values) ≡ o → option_map Pointer o ≡ Some kind → slot < t.values + length t.targets) [
+            | None ↦ λ is v. absurd (cc)
+            | Some ty ↦ λ is v. let within : slot - t.values < length t.targets = slice_get_within t.targets (slot - t.values) ty is in omega arith
+          ] refl u
+    ] refl e
 
 -- so the slots of an array have numbers of 16 bits
 pub slots_numbered : (t : TypeShape) (first elements : ℕ) (kind : Kind) → HasElements t first elements kind → element_count t ≤ MOST_ELEMENTS → first + elements ≤ 2 ^ 16
@@ -60,14 +62,17 @@ abbrev pub load_slot : List TypeShape → Heap → Option ℕ → Value → Answ
 load_slot shape heap None v = Traps IndexTrap
 load_slot shape heap (Some slot) v = load shape heap slot v
 
-pub load_by_slot : (shape : List TypeShape) (heap : Heap) (first : ℕ) (index : Option ℕ) (v : Value) → load_element shape heap first index v ≡ load_slot shape heap (option_map (λ k. first + k) index) v
+pub load_by_slot : (shape : List TypeShape) (heap : Heap) (first : ℕ) (index : Option ℕ) (v : Value)
+    → load_element shape heap first index v ≡ load_slot shape heap (option_map (λ k. first + k) index) v
 load_by_slot shape heap first None v = refl
 load_by_slot shape heap first (Some k) v = refl
 
 -- what an indexed read of a record gives
 pub element_read : {R : Type 0} (shape : List TypeShape) (heap : Heap) (name : R → Name) (rs : List (Register R)) (o i : ℕ) (r : R) (first elements : ℕ) (slot : Option ℕ)
     → slice_index_or rs o Null ≡ Reference r → slot ≡ slot_at first elements (number_of (value_of name (slice_index_or rs i Null)))
-    → and_then (object_of (slice_index_or (map (value_of name) rs) o ANull)) (load_element shape heap first (index_of elements (number_of (slice_index_or (map (value_of name) rs) i ANull)))) ≡ load_slot shape heap slot (ARecord (name r))
+    → and_then (object_of (slice_index_or (map (value_of name) rs) o ANull))
+    (load_element shape heap first (index_of elements (number_of (slice_index_or (map (value_of name) rs) i ANull)))) ≡ load_slot shape heap slot
+    (ARecord (name r))
 element_read shape heap name rs o i r first elements slot is at =
     let index : Option ℕ = index_of elements (number_of (value_of name (slice_index_or rs i Null))) in
     ap (λ (v : Value). and_then (object_of (slice_index_or (map (value_of name) rs) o ANull)) (load_element shape heap first (index_of elements (number_of v)))) (sym (value_held name rs i))

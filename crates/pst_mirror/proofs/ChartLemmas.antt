@@ -1,4 +1,5 @@
-use Rattle.std.proofs.Common.{◌≡◌, ◌≢◌, ℕ, zero, suc, ◌+◌, ◌-◌, ◌<◌, ◌≤◌, true, false, ◌||◌, ◌&&◌, cond, Option, Some, None, is_some, eqb, ltb, leb, List, [], ◌∷◌, length, get_or, set, refl, sym, ap, ap₂, ◌∙◌, ◌⊎◌, inl, inr, ⊎_elim, arith}
+use Rattle.std.proofs.Common.{◌≡◌, ◌≢◌, ℕ, zero, suc, ◌+◌, ◌-◌, ◌<◌, ◌≤◌, true, false, ◌||◌, ◌&&◌, cond, Option, Some, None, is_some, eqb, ltb, leb, List, []}
+use Rattle.std.proofs.Common.{◌∷◌, length, get_or, set, refl, sym, ap, ap₂, ◌∙◌, ◌⊎◌, inl, inr, ⊎_elim, arith}
 use Rattle.std.proofs.lemmas.Bool.{cases_eq, cases_lt, cases_Bool, eq-eqb, ne_eqb, le-leb, lt-leb, lt-ltb, le-ltb, leb-true, ltb-true, and_parts, and_from, and_left, and_right, or_parts, false≢true}
 use Rattle.std.proofs.Math.Bool.{and-false}
 use Rattle.pst_rows.specs.declared.content.Content.{Content}
@@ -14,14 +15,17 @@ pub alive : (r : ℕ → ℕ) (row : RowValue) (m : ℕ) → r row.lo.0 ≤ m �
 alive r row m l k = and_from (leb (r row.lo.0) m) (ltb m (r row.hi.0)) (le-leb (r row.lo.0) m l) (lt-ltb m (r row.hi.0) k)
 
 pub alive_is : (r : ℕ → ℕ) (row : RowValue) (m : ℕ) → is_alive r row m ≡ true → (r row.lo.0 ≤ m) × (m < r row.hi.0)
-alive_is r row m h = let p : (leb (r row.lo.0) m ≡ true) × (ltb m (r row.hi.0) ≡ true) = and_parts (leb (r row.lo.0) m) (ltb m (r row.hi.0)) h in (leb-true (r row.lo.0) m p.0, ltb-true m (r row.hi.0) p.1)
+alive_is r row m h = let p : (leb (r row.lo.0) m ≡ true) × (ltb m (r row.hi.0) ≡ true) = and_parts (leb (r row.lo.0) m) (ltb m (r row.hi.0)) h in
+    (leb-true (r row.lo.0) m p.0, ltb-true m (r row.hi.0) p.1)
 
 pub dead : (r : ℕ → ℕ) (row : RowValue) (m : ℕ) → (m < r row.lo.0) ⊎ (r row.hi.0 ≤ m) → is_alive r row m ≡ false
-dead r row m o = ⊎_elim (λ (l : m < r row.lo.0). and_left (leb (r row.lo.0) m) (ltb m (r row.hi.0)) (lt-leb (r row.lo.0) m l)) (λ (l : r row.hi.0 ≤ m). and_right (leb (r row.lo.0) m) (ltb m (r row.hi.0)) (le-ltb m (r row.hi.0) l)) o
+dead r row m o = ⊎_elim (λ (l : m < r row.lo.0). and_left (leb (r row.lo.0) m) (ltb m (r row.hi.0)) (lt-leb (r row.lo.0) m l))
+    (λ (l : r row.hi.0 ≤ m). and_right (leb (r row.lo.0) m) (ltb m (r row.hi.0)) (le-ltb m (r row.hi.0) l)) o
 
 pub row_steady : (r : ℕ → ℕ) (places : ℕ) (row : RowValue) → IsValue r places row → (g n : ℕ) → edge_in r row g (suc n) ≡ false → row_holds r row g (suc n) ≡ row_holds r row g n
 row_steady r places row h g n e =
-    let p : ((eqb (suc n) (r row.lo.0) || eqb (suc n) (r row.hi.0)) ≡ false) × (is_some (stamps_in r row g (suc n)) ≡ false) = or_parts (eqb (suc n) (r row.lo.0) || eqb (suc n) (r row.hi.0)) (is_some (stamps_in r row g (suc n))) e in
+    let p : ((eqb (suc n) (r row.lo.0) || eqb (suc n) (r row.hi.0)) ≡ false) × (is_some (stamps_in r row g (suc n)) ≡ false) =
+    or_parts (eqb (suc n) (r row.lo.0) || eqb (suc n) (r row.hi.0)) (is_some (stamps_in r row g (suc n))) e in
     let q : (eqb (suc n) (r row.lo.0) ≡ false) × (eqb (suc n) (r row.hi.0) ≡ false) = or_parts (eqb (suc n) (r row.lo.0)) (eqb (suc n) (r row.hi.0)) p.0 in
     let nl : suc n ≢ r row.lo.0 = λ u. false≢true (sym q.0 ∙ eq-eqb (suc n) (r row.lo.0) u) in
     let nh : suc n ≢ r row.hi.0 = λ u. false≢true (sym q.1 ∙ eq-eqb (suc n) (r row.hi.0) u) in
@@ -39,7 +43,8 @@ charts_steady r places (row ∷ rows) h zero f n e = row_steady r places row h.0
 charts_steady r places (row ∷ rows) h (suc x) f n e = charts_steady r places rows h.1 x f n e
 
 -- one row of the list is replaced
-pub rows_hold-set : (r : ℕ → ℕ) (rows : List RowValue) (x : ℕ) (new : RowValue) → x < length rows → (i g m : ℕ) → rows_hold r (set rows x new) i g m ≡ cond (eqb i x) (row_holds r new g m) (rows_hold r rows i g m)
+pub rows_hold-set : (r : ℕ → ℕ) (rows : List RowValue) (x : ℕ) (new : RowValue) → x < length rows → (i g m : ℕ)
+    → rows_hold r (set rows x new) i g m ≡ cond (eqb i x) (row_holds r new g m) (rows_hold r rows i g m)
 rows_hold-set r [] x new l i g m = absurd (omega arith)
 rows_hold-set r (row ∷ rows) zero new l zero g m = refl
 rows_hold-set r (row ∷ rows) zero new l (suc i) g m = let ne : suc i ≡ 0 → ⊥ = λ e. omega arith in rw (ne_eqb (suc i) 0 ne) refl
@@ -50,7 +55,8 @@ rows_hold-set r (row ∷ rows) (suc x) new l (suc i) g m =
     (λ (ne : i ≡ x → ⊥). let ne' : suc i ≡ suc x → ⊥ = λ q. ne (omega arith) in ih ∙ (rw (ne_eqb i x ne, ne_eqb (suc i) (suc x) ne') refl))
     (cases_eq i x)
 
-pub rows_edge-set : (r : ℕ → ℕ) (rows : List RowValue) (x : ℕ) (new : RowValue) → x < length rows → (i g m : ℕ) → rows_edge r (set rows x new) i g m ≡ cond (eqb i x) (edge_in r new g m) (rows_edge r rows i g m)
+pub rows_edge-set : (r : ℕ → ℕ) (rows : List RowValue) (x : ℕ) (new : RowValue) → x < length rows → (i g m : ℕ)
+    → rows_edge r (set rows x new) i g m ≡ cond (eqb i x) (edge_in r new g m) (rows_edge r rows i g m)
 rows_edge-set r [] x new l i g m = absurd (omega arith)
 rows_edge-set r (row ∷ rows) zero new l zero g m = refl
 rows_edge-set r (row ∷ rows) zero new l (suc i) g m = let ne : suc i ≡ 0 → ⊥ = λ e. omega arith in rw (ne_eqb (suc i) 0 ne) refl
@@ -85,7 +91,8 @@ module _ (r : ℕ → ℕ) (old new : RowValue) (f b : ℕ) (c : Content) (h : I
       (λ (e : g ≡ f). ⊎_elim
       (λ (a : is_alive r old m ≡ true).
       let p : (r old.lo.0 ≤ m) × (m < r old.hi.0) = alive_is r old m a in
-      let q : content_in r new f m ≡ cond (eqb m b) c (content_in r old f m) = set_over_reads (stamps_in r old f) (stamps_in r new f) (base_in old f) (base_in new f) (r old.lo.0) (r old.hi.0) b c h.slot m p.0 p.1 in
+      let q : content_in r new f m ≡ cond (eqb m b) c (content_in r old f m) =
+      set_over_reads (stamps_in r old f) (stamps_in r new f) (base_in old f) (base_in new f) (r old.lo.0) (r old.hi.0) b c h.slot m p.0 p.1 in
       rw (a, e, eq-eqb f f refl) q)
       (λ (a : is_alive r old m ≡ false).
       let ne : m ≡ b → ⊥ = λ q. false≢true (sym a ∙ ap (is_alive r old) q ∙ alive r old b h.slot.low h.slot.high) in
@@ -163,7 +170,8 @@ edge_at_start st lo hi zero = edge_here st lo hi lo (inl refl)
 edge_at_start st lo hi (suc n) =
     ⊎_elim
     (λ (e : st (suc n) ≡ None). rw e (edge_at_start st lo hi n))
-    (λ (w : (v : Content) × (st (suc n) ≡ Some v)). let is : start_of st lo (suc n) ≡ suc n = rw w.1 refl in ap (is_edge st lo hi) is ∙ edge_here st lo hi (suc n) (inr (inr (some_is (st (suc n)) w.0 w.1))))
+    (λ (w : (v : Content) × (st (suc n) ≡ Some v)). let is : start_of st lo (suc n) ≡ suc n = rw w.1 refl in ap (is_edge st lo hi) is
+    ∙ edge_here st lo hi (suc n) (inr (inr (some_is (st (suc n)) w.0 w.1))))
     (option_cases (st (suc n)))
 
 -- each position of the life lies in a segment
@@ -201,7 +209,8 @@ charts_tiled r places (row ∷ rows) h zero f n e =
     ⊎_elim
     (λ (a : is_alive r row n ≡ true).
     let p : (r row.lo.0 ≤ n) × (n < r row.hi.0) = alive_is r row n a in
-    let t : (a : ℕ) × (c : ℕ) × (a ≤ n) × (n < c) × (edge_in r row f a ≡ true) × (edge_in r row f c ≡ true) × ((m : ℕ) → a < m → m < c → edge_in r row f m ≡ false) = row_tiled r places row h.0 f n p.0 p.1 in
+    let t : (a : ℕ) × (c : ℕ) × (a ≤ n) × (n < c) × (edge_in r row f a ≡ true) × (edge_in r row f c ≡ true)
+    × ((m : ℕ) → a < m → m < c → edge_in r row f m ≡ false) = row_tiled r places row h.0 f n p.0 p.1 in
     (t.0, t.1, t.2, t.3, record { begins = t.4; ends = t.5; some = omega (arith, t.2, t.3); whole = t.6 }))
     (λ (a : is_alive r row n ≡ false). absurd (e (rw a refl)))
     (cases_Bool (is_alive r row n))

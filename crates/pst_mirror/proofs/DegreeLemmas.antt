@@ -22,7 +22,8 @@ is_from_true x f (Number n) e = cc
 is_from_true x f Null e = cc
 is_from_true x f (TargetOf z) e = cc
 is_from_true x f Free e = cc
-is_from_true x f (FromOf znode gslot) e = let z : ℕ = znode.0 in let g : ℕ = gslot.0 in let p : (eqb z x ≡ true) × (eqb g f ≡ true) = and_parts (eqb z x) (eqb g f) e in ap (λ (k : ℕ). From k g) (eqb-true z x p.0) ∙ ap (From x) (eqb-true g f p.1)
+is_from_true x f (FromOf znode gslot) e = let z : ℕ = znode.0 in let g : ℕ = gslot.0 in let p : (eqb z x ≡ true) × (eqb g f ≡ true) =
+    and_parts (eqb z x) (eqb g f) e in ap (λ (k : ℕ). From k g) (eqb-true z x p.0) ∙ ap (From x) (eqb-true g f p.1)
 
 from_is : (x f : ℕ) (c : Content) → c ≡ From x f → is_from x f c ≡ true
 from_is x f c e = rw e (rw (eq-eqb x x refl, eq-eqb f f refl) refl)
@@ -90,7 +91,9 @@ degree_law = degree
 -- ---- entries of other fields
 
 pub other_from : (x f z g : ℕ) → (z ≡ x → g ≡ f → ⊥) → is_other_entry x f (From z g) ≡ true
-other_from x f z g off = let none : eqb z x && eqb g f ≡ false = false_from_ne_true (eqb z x && eqb g f) (λ e. let p : (eqb z x ≡ true) × (eqb g f ≡ true) = and_parts (eqb z x) (eqb g f) e in off (eqb-true z x p.0) (eqb-true g f p.1)) in rw none refl
+other_from x f z g off = let none : eqb z x && eqb g f ≡ false =
+    false_from_ne_true (eqb z x && eqb g f) (λ e. let p : (eqb z x ≡ true) × (eqb g f ≡ true) = and_parts (eqb z x) (eqb g f) e in
+    off (eqb-true z x p.0) (eqb-true g f p.1)) in rw none refl
 
 pub not_other : (x f : ℕ) → is_other_entry x f (From x f) ≡ false
 not_other x f = rw (eq-eqb x x refl, eq-eqb f f refl) refl

@@ -1,4 +1,5 @@
-use Rattle.std.proofs.Common.{◌≡◌, ◌≢◌, ℕ, zero, suc, ◌-◌, ◌<◌, ◌≤◌, true, false, not, ◌||◌, ◌&&◌, cond, Option, Some, None, is_some, eqb, ltb, leb, List, [], ◌∷◌, ◌++◌, length, take, drop, refl, sym, ap, ap₂, ◌∙◌, ◌⊎◌, inl, inr, ⊎_elim, arith}
+use Rattle.std.proofs.Common.{◌≡◌, ◌≢◌, ℕ, zero, suc, ◌-◌, ◌<◌, ◌≤◌, true, false, not, ◌||◌, ◌&&◌, cond, Option, Some, None, is_some, eqb, ltb, leb, List, []}
+use Rattle.std.proofs.Common.{◌∷◌, ◌++◌, length, take, drop, refl, sym, ap, ap₂, ◌∙◌, ◌⊎◌, inl, inr, ⊎_elim, arith}
 use Rattle.std.proofs.lemmas.Bool.{cases_eq, cases_lt, cases_Bool, eq-eqb, ne_eqb, eqb-true, le-leb, lt-leb, lt-ltb, leb-true, ltb-true, and_right}
 use Rattle.std.proofs.Math.Bool.{and-false}
 use Rattle.pst_rows.specs.declared.content.Content.TheVariants.{Null}
@@ -53,7 +54,8 @@ shift_ltb k n m =
     (λ e. let q : back k m < n = ltb-true (back k m) n e in lt-ltb m (shift k n) (omega (arith, shift_cases k n, back_cases k m)))
 
 -- a timeline with one position more
-pub in_force_back : {C : Type 0} (st st' : ℕ → Option C) (base : C) (k : ℕ) → ((m : ℕ) → m ≢ suc k → st' m ≡ st (back k m)) → st' (suc k) ≡ None → (m : ℕ) → in_force st' base m ≡ in_force st base (back k m)
+pub in_force_back : {C : Type 0} (st st' : ℕ → Option C) (base : C) (k : ℕ) → ((m : ℕ) → m ≢ suc k → st' m ≡ st (back k m)) → st' (suc k) ≡ None
+    → (m : ℕ) → in_force st' base m ≡ in_force st base (back k m)
 in_force_back st st' base k h none zero =
     let ne : 0 ≡ suc k → ⊥ = λ e. omega arith in
     rw (h 0 ne, back_low k 0 (omega arith)) refl
@@ -90,16 +92,34 @@ module _ (r r' : ℕ → ℕ) (k z : ℕ) (ins : IsInsertedAfter r r' k z) where
   row_back row l h a g m =
       ap₂ (λ u v. cond (leb u m && ltb m v) (content_in r' row g m) Null) (ins.old row.lo.0 l) (ins.old row.hi.0 h)
       ∙ ap₂ (λ u v. cond (u && v) (content_in r' row g m) Null) (shift_leb k (r row.lo.0) m) (shift_ltb k (r row.hi.0) m)
-      ∙ ap (λ v. cond (is_alive r row (back k m)) v Null) (in_force_back (stamps_in r row g) (stamps_in r' row g) (base_in row g) k (λ n ne. stamp_back row.stamps a g n ne) (stamp_none row.stamps a g) m)
+      ∙ ap (λ v. cond (is_alive r row (back k m)) v Null) (in_force_back (stamps_in r row g) (stamps_in r' row g) (base_in row g) k
+      (λ n ne. stamp_back row.stamps a g n ne) (stamp_none row.stamps a g) m)
 
   row_back_edge : (row : RowValue) → row.lo.0 ≢ z → row.hi.0 ≢ z → Apart z row.stamps → (g m : ℕ) → edge_in r' row g m ≡ (not (eqb m (suc k)) && edge_in r row g (back k m))
   row_back_edge row l h a g m =
       ap₂ (λ u v. (eqb m u || eqb m v) || is_some (stamps_in r' row g m)) (ins.old row.lo.0 l) (ins.old row.hi.0 h)
       ∙ ⊎_elim
       (λ (e : m ≡ suc k).
-      rw (e, eq-eqb (suc k) (suc k) refl, eqb_sym (suc k) (shift k (r row.lo.0)), eqb_sym (suc k) (shift k (r row.hi.0)), shift_not k (r row.lo.0), shift_not k (r row.hi.0), stamp_none row.stamps a g) refl)
+      rw (
+        e,
+        eq-eqb (suc k) (suc k) refl,
+        eqb_sym (suc k) (shift k (r row.lo.0)),
+        eqb_sym (suc k) (shift k (r row.hi.0)),
+        shift_not k (r row.lo.0),
+        shift_not k (r row.hi.0),
+        stamp_none row.stamps a g,
+      ) refl)
       (λ (ne : m ≡ suc k → ⊥).
-      rw (ne_eqb m (suc k) ne, eqb_sym m (shift k (r row.lo.0)), eqb_sym m (shift k (r row.hi.0)), shift_is k (r row.lo.0) m ne, shift_is k (r row.hi.0) m ne, stamp_back row.stamps a g m ne, eqb_sym (r row.lo.0) (back k m), eqb_sym (r row.hi.0) (back k m)) refl)
+      rw (
+        ne_eqb m (suc k) ne,
+        eqb_sym m (shift k (r row.lo.0)),
+        eqb_sym m (shift k (r row.hi.0)),
+        shift_is k (r row.lo.0) m ne,
+        shift_is k (r row.hi.0) m ne,
+        stamp_back row.stamps a g m ne,
+        eqb_sym (r row.lo.0) (back k m),
+        eqb_sym (r row.hi.0) (back k m),
+      ) refl)
       (cases_eq m (suc k))
     where
       eqb_sym : (a b : ℕ) → eqb a b ≡ eqb b a

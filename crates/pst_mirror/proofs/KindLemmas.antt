@@ -13,14 +13,16 @@ use Rattle.pst_mirror.specs.Mirror.{moved, renamed}
 use Rattle.pst_mirror.specs.Kinds.{HasKind}
 
 pub pointer_field : (t : TypeShape) (g : ℕ) (u : TypeNo) → field_kind t g ≡ Some (Pointer u) → (t.values ≤ g) × (g < element_count t)
-pointer_field t g u e = elim (nat_lt g t.values) as (λ b. nat_lt g t.values ≡ b → cond b (Some Int) (option_map Pointer (slice_get t.targets (g - t.values))) ≡ Some (Pointer u) → (t.values ≤ g) × (g < element_count t)) [
-  | true ↦ λ x h. absurd (cc)
-  | false ↦ λ x h. let low : t.values ≤ g = ltb-false g t.values x in
-      elim (slice_get t.targets (g - t.values)) as (λ (o : Option TypeNo). slice_get t.targets (g - t.values) ≡ o → option_map Pointer o ≡ Some (Pointer u) → (t.values ≤ g) × (g < element_count t)) [
-        | None ↦ λ y k. absurd (cc)
-        | Some v ↦ λ y k. let w : g - t.values < length t.targets = slice_get_within t.targets (g - t.values) v y in (low, omega arith)
-      ] refl h
-] refl e
+pointer_field t g u e = elim (nat_lt g t.values) as (λ b. nat_lt g t.values ≡ b
+    → cond b (Some Int) (option_map Pointer (slice_get t.targets (g - t.values))) ≡ Some (Pointer u) → (t.values ≤ g) × (g < element_count t)) [
+      | true ↦ λ x h. absurd (cc)
+      | false ↦ λ x h. let low : t.values ≤ g = ltb-false g t.values x in
+          elim (slice_get t.targets (g - t.values)) as (λ (o : Option TypeNo).
+          slice_get t.targets (g - t.values) ≡ o → option_map Pointer o ≡ Some (Pointer u) → (t.values ≤ g) × (g < element_count t)) [
+            | None ↦ λ y k. absurd (cc)
+            | Some v ↦ λ y k. let w : g - t.values < length t.targets = slice_get_within t.targets (g - t.values) v y in (low, omega arith)
+          ] refl h
+    ] refl e
 
 -- a content keeps its kind where nodes are renamed, and each stands for one of the same type
 pub kind-renamed : (t : TypeShape) (ty ty' : ℕ → TypeNo) (x z g : ℕ) (c : Content) → ((y : ℕ) → c ≡ Target y → ty' (moved x z y) ≡ ty y) → HasKind t ty g c → HasKind t ty' g (renamed x z c)

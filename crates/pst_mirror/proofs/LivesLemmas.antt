@@ -40,7 +40,8 @@ module _ (old new : Lives) (x s : ℕ) (h : IsSplitLife old new x s) where
   node_cases i l = ⊎_elim (λ (p : i < old.count). inr p) (λ (p : old.count ≤ i). inl (omega (arith, h.count))) (cases_lt i old.count)
 
   hi_le : (i : ℕ) → i < old.count → new.hi i ≤ old.hi i
-  hi_le i l = ⊎_elim (λ (e : i ≡ x). let k : new.hi i ≡ s = ap new.hi e ∙ h.hi_x in let k' : old.hi i ≡ old.hi x = ap old.hi e in omega (arith, h.high)) (λ (ne : i ≡ x → ⊥). omega (arith, h.hi i l ne)) (cases_eq i x)
+  hi_le i l = ⊎_elim (λ (e : i ≡ x). let k : new.hi i ≡ s = ap new.hi e ∙ h.hi_x in let k' : old.hi i ≡ old.hi x = ap old.hi e in
+      omega (arith, h.high)) (λ (ne : i ≡ x → ⊥). omega (arith, h.hi i l ne)) (cases_eq i x)
 
   module _ (c : AreChained old) where
     chained : AreChained new
@@ -133,12 +134,46 @@ module _ (old new : Lives) (x s : ℕ) (h : IsSplitLife old new x s) where
       ⊎_elim
       (λ (e : l.covering.0 ≡ x). ⊎_elim
       (λ (k : n < s).
-      record { there = at; begun = begun; covering = (l.covering.0, record { there = omega (arith, h.count); low = omega (arith, h.lo l.covering.0 p); high = let a : new.hi l.covering.0 ≡ s = ap new.hi e ∙ h.hi_x in omega arith }, h.name l.covering.0 p ∙ l.covering.2 ∙ sym (h.name i l.there)) })
+      record {
+        there = at;
+        begun = begun;
+        covering = (
+          l.covering.0,
+          record {
+            there = omega (arith, h.count);
+            low = omega (arith, h.lo l.covering.0 p);
+            high = let a : new.hi l.covering.0 ≡ s = ap new.hi e
+                ∙ h.hi_x in omega arith;
+          },
+          h.name l.covering.0 p ∙ l.covering.2 ∙ sym (h.name i l.there),
+        );
+      })
       (λ (k : s ≤ n).
-      record { there = at; begun = begun; covering = (old.count, record { there = omega (arith, h.count); low = omega (arith, h.lo_z); high = let a : old.hi l.covering.0 ≡ old.hi x = ap old.hi e in omega (arith, h.hi_z) }, h.name_z ∙ sym (ap old.name e) ∙ l.covering.2 ∙ sym (h.name i l.there)) })
+      record {
+        there = at;
+        begun = begun;
+        covering = (
+          old.count,
+          record {
+            there = omega (arith, h.count);
+            low = omega (arith, h.lo_z);
+            high = let a : old.hi l.covering.0 ≡ old.hi x = ap old.hi e in
+                omega (arith, h.hi_z);
+          },
+          h.name_z ∙ sym (ap old.name e) ∙ l.covering.2 ∙ sym (h.name i l.there),
+        );
+      })
       (cases_lt n s))
       (λ (ne : l.covering.0 ≡ x → ⊥).
-      record { there = at; begun = begun; covering = (l.covering.0, record { there = omega (arith, h.count); low = omega (arith, h.lo l.covering.0 p); high = omega (arith, h.hi l.covering.0 p ne) }, h.name l.covering.0 p ∙ l.covering.2 ∙ sym (h.name i l.there)) })
+      record {
+        there = at;
+        begun = begun;
+        covering = (
+          l.covering.0,
+          record { there = omega (arith, h.count); low = omega (arith, h.lo l.covering.0 p); high = omega (arith, h.hi l.covering.0 p ne) },
+          h.name l.covering.0 p ∙ l.covering.2 ∙ sym (h.name i l.there),
+        );
+      })
       (cases_eq l.covering.0 x)
 
 pub split_life_law : SplitLifeLaw

@@ -3,6 +3,7 @@
 use Rattle.std.specs.Prelude.{◌≡◌, ℕ, ◌+◌, ◌*◌, ◌-◌, ◌<◌, ◌≤◌, List, [], ◌∷◌, ◌++◌, length, set, get_or, sum_by, ⊤}
 use Rattle.pst_base.specs.declared.names.TypeNo.{TypeNo}
 use Rattle.pst_base.specs.declared.shape.TypeShape.{TypeShape}
+use Rattle.pst_base.specs.declared.shape.TheConstants.{MOST_SLOTS}
 use Rattle.pst_base.specs.Shape.{type_at, IsValid}
 
 -- half the capacity of a type: its pointer fields and its limit
@@ -13,10 +14,10 @@ half t = length t.targets + t.limit
 abbrev pub capacity : TypeShape → ℕ
 capacity t = 2 * half t
 
--- the capacity is 2 at least, for the root record with no pointer, and 160 at most, for 64 pointers and a limit of 16
+-- the capacity is 2 at least, for the root record with no pointer, and twice the most slots of a node at most: 160
 abbrev pub CapacityIsFew : Type 0
 CapacityIsFew = (shape : List TypeShape) (ty : TypeNo) → IsValid shape → ty.0 < length shape →
-    (2 ≤ capacity (type_at shape ty)) × (capacity (type_at shape ty) ≤ 160)
+    (2 ≤ capacity (type_at shape ty)) × (capacity (type_at shape ty) ≤ 2 * MOST_SLOTS)
 
 -- what a node weighs: how many values are stamped in it, and half its capacity
 pub record Load : Type 0 where

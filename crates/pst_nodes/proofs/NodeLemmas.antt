@@ -7,13 +7,14 @@ use Rattle.pst_rows.specs.declared.row.Row.{Row}
 use Rattle.pst_rows.specs.declared.content.Content.{Content}
 use Rattle.pst_order.specs.Places.{rank}
 use Rattle.pst_rows.specs.Values.{RowValue, edge_in, content_in, IsValue, IsValueSet, IsValueCut, IsValueReplaced, IsValueSplit}
-use Rattle.pst_rows.specs.Rows.{IsRow, content_at, row_edge, shown, width_of, stamped_count}
+use Rattle.pst_rows.specs.Rows.{IsRow, content_at, row_edge, shown, width_of, stamped_count, HasSplitRoom}
 use Rattle.pst_rows.specs.Changes.{slot_count, IsRowCut, IsRowSet, IsRowReplaced, IsRowSplit, IsSameRow, HasMore, missing, needed, IsSegmentAround}
 use Rattle.pst_mirror.specs.Mirror.{Chart, is_there}
 use Rattle.pst_mirror.proofs.MirrorLemmas.{there_is}
 use Rattle.pst_mirror.specs.Charts.{AllRows, IsSlotSet, HasOneEdgeMore, chart_of, row_holds, IsMovedApart}
 use Rattle.pst_mirror.specs.Segments.{IsSegmentOf}
-use Rattle.pst_nodes.specs.Arena.{HasRoom, IsTyped, type_of, rows_of, values_of, no_frame, row_at, Frame, frame_of, frame_at, link_at, lo_at, hi_at, AreRows, chart, lives, IsAlive, IsSlot, IsSegmentAt}
+use Rattle.pst_nodes.specs.Arena.{HasRoom, IsTyped, type_of, rows_of, values_of, no_frame, row_at, Frame, frame_of, frame_at, link_at, lo_at, hi_at, AreRows}
+use Rattle.pst_nodes.specs.Arena.{chart, lives, IsAlive, IsSlot, IsSegmentAt}
 use Rattle.pst_mirror.proofs.ChartLemmas.{row_set_law, rows_hold-at, rows_edge-at, alive}
 use Rattle.pst_mirror.proofs.ChartSplit.{row_cut_law, row_split_law}
 use Rattle.pst_mirror.proofs.ChartReplace.{row_replace_law}
@@ -107,8 +108,10 @@ module _ (ns : List Node) (x : ℕ) (node : Node) (there : x < length ns) (read 
     pub charts_set : (qs : List ℕ) (P : List RowValue → Type 0) → P (set (values_of ns) x (shown new.row)) → P (values_of (set ns x new))
     charts_set qs P h = subst P (sym (map-set (λ (n : Node). shown n.row) ns x new)) h
 
-    pub touched : (k : ℕ) → frame_of new ≡ frame_of node → new.header.link ≡ node.header.link → new.row.lo.0 ≡ node.row.lo.0 → new.row.hi.0 ≡ node.row.hi.0 → width_of new.row ≡ width_of node.row → stamped_count new.row ≤ stamped_count node.row + k →
-        ((j : ℕ) → HasRoom node.row (j + k) → HasRoom new.row j) → ((j t : ℕ) → stamped_count new.row ≡ stamped_count node.row + t → HasRoom node.row (j + t) → HasRoom new.row j) → IsTouched k ns (set ns x new) x
+    pub touched : (k : ℕ) → frame_of new ≡ frame_of node → new.header.link ≡ node.header.link → new.row.lo.0 ≡ node.row.lo.0
+        → new.row.hi.0 ≡ node.row.hi.0 → width_of new.row ≡ width_of node.row → stamped_count new.row ≤ stamped_count node.row + k →
+        ((j : ℕ) → HasRoom node.row (j + k) → HasRoom new.row j)
+        → ((j t : ℕ) → stamped_count new.row ≡ stamped_count node.row + t → HasRoom node.row (j + t) → HasRoom new.row j) → IsTouched k ns (set ns x new) x
     touched k frame link lo hi width stamped room spare = record {
       count = length-set ns x new;
       frames = same_map frame_of ns x node new there read frame;
@@ -125,7 +128,8 @@ module _ (ns : List Node) (x : ℕ) (node : Node) (there : x < length ns) (read 
       spare = λ d j t e h. rw (new_row d) (spare j t (rw (new_row d, the_row d) at e) (rw (the_row d) at h));
     }
 
-    pub same_nodes : frame_of new ≡ frame_of node → new.header.link ≡ node.header.link → shown new.row ≡ shown node.row → ((k : ℕ) → HasRoom node.row k → HasRoom new.row k) → AreSameNodes ns (set ns x new)
+    pub same_nodes : frame_of new ≡ frame_of node → new.header.link ≡ node.header.link → shown new.row ≡ shown node.row
+        → ((k : ℕ) → HasRoom node.row k → HasRoom new.row k) → AreSameNodes ns (set ns x new)
     same_nodes frame link row room = record {
       count = length-set ns x new;
       frames = same_map frame_of ns x node new there read frame;
@@ -170,14 +174,21 @@ module _ (qs : List ℕ) (ns : List Node) (x slot n : ℕ) (d : Row) (all : AreR
   slot_row = subst (IsValue (rank qs) (length qs)) value (AllRows-at (rank qs) (length qs) (values_of ns) x (shown d) l all)
 
   pub read_is : content_at (rank qs) (row_at ns x d) slot n ≡ (chart qs ns).holds x slot n
-  read_is = sym (rows_hold-at (rank qs) (values_of ns) x (shown d) l slot n ∙ ap (λ w. row_holds (rank qs) w slot n) value ∙ (rw (alive (rank qs) (shown (row_at ns x d)) n (is.alive.low d) (is.alive.high d)) refl))
+  read_is = sym (rows_hold-at (rank qs) (values_of ns) x (shown d) l slot n ∙ ap (λ w. row_holds (rank qs) w slot n) value
+      ∙ (rw (alive (rank qs) (shown (row_at ns x d)) n (is.alive.low d) (is.alive.high d)) refl))
 
   pub edge_is : (m : ℕ) → row_edge (rank qs) (row_at ns x d) slot m ≡ (chart qs ns).edge x slot m
   edge_is m = sym (rows_edge-at (rank qs) (values_of ns) x (shown d) l slot m ∙ ap (λ w. edge_in (rank qs) w slot m) value)
 
   pub segment_is : (a c : ℕ) → IsSegmentAround (rank qs) (row_at ns x d) slot n (rank qs a) (rank qs c) → IsSegmentAt qs ns x slot n a c
   segment_is a c s = record {
-    segment = record { begins = sym (edge_is (rank qs a)) ∙ s.segment.begins; ends = sym (edge_is (rank qs c)) ∙ s.segment.ends; some = omega (arith, s.begun, s.ended); whole = λ m u v. sym (edge_is m) ∙ s.segment.whole m u v };
+    segment = record {
+      begins = sym (edge_is (rank qs a)) ∙ s.segment.begins;
+      ends = sym (edge_is (rank qs c)) ∙ s.segment.ends;
+      some =
+          omega (arith, s.begun, s.ended);
+      whole = λ m u v. sym (edge_is m) ∙ s.segment.whole m u v;
+    };
     begun = s.begun;
     not_over = s.ended;
     low = λ d'. subst (λ (w : Row). rank qs w.lo.0 ≤ rank qs a) (get_or_default (rows_of ns) x d d' (omega (arith, length-rows ns, is.alive.there))) s.segment.within;
@@ -188,19 +199,30 @@ module _ (qs : List ℕ) (ns : List Node) (x : ℕ) (node : Node) (there : x < l
   pub slot_set : IsRowSet (rank qs) node.row new.row slot n c → IsSlotSet (chart qs ns) (chart qs (set ns x new)) x slot n c
   slot_set h =
       charts_set ns x node there read new qs (λ rows. IsSlotSet (chart qs ns) (chart_of (rank qs) rows) x slot n c)
-      (row_set_law (rank qs) (values_of ns) x (shown node.row) (shown new.row) slot n c (in_values ns x node there read) (subst (λ (w : RowValue). IsValueSet (rank qs) w (shown new.row) slot n c) (sym (the_value ns x node there read (shown node.row))) h))
+      (row_set_law (rank qs) (values_of ns) x (shown node.row) (shown new.row) slot n c (in_values ns x node there read)
+      (subst (λ (w : RowValue). IsValueSet (rank qs) w (shown new.row) slot n c) (sym (the_value ns x node there read (shown node.row))) h))
 
   pub slot_cut : IsRowCut (rank qs) node.row new.row slot n c → c ≡ content_at (rank qs) node.row slot n → HasOneEdgeMore (chart qs ns) (chart qs (set ns x new)) x slot n
   slot_cut h e =
       charts_set ns x node there read new qs (λ rows. HasOneEdgeMore (chart qs ns) (chart_of (rank qs) rows) x slot n)
-      (row_cut_law (rank qs) (values_of ns) x (shown node.row) (shown new.row) slot n c (in_values ns x node there read) (subst (λ (w : RowValue). IsValueCut (rank qs) w (shown new.row) slot n c) (sym (the_value ns x node there read (shown node.row))) h)
+      (row_cut_law (rank qs) (values_of ns) x (shown node.row) (shown new.row) slot n c (in_values ns x node there read)
+      (subst (λ (w : RowValue). IsValueCut (rank qs) w (shown new.row) slot n c) (sym (the_value ns x node there read (shown node.row))) h)
       (e ∙ ap (λ (w : RowValue). content_in (rank qs) w slot n) (sym (the_value ns x node there read (shown node.row)))))
 
   pub slot_replaced : IsRowReplaced (rank qs) node.row new.row slot n c → IsSegmentReplaced qs ns (set ns x new) x slot n c
   slot_replaced h =
       let w : IsAround (rank qs) (shown node.row) (shown new.row) slot n c = around (rank qs) (shown node.row) (shown new.row) slot n c h in
-      let edge : (m : ℕ) → (chart qs ns).edge x slot m ≡ edge_in (rank qs) (shown node.row) slot m = λ m. rows_edge-at (rank qs) (values_of ns) x (shown node.row) (in_values ns x node there read) slot m ∙ ap (λ v. edge_in (rank qs) v slot m) (the_value ns x node there read (shown node.row)) in
-      let seg : IsSegmentOf (chart qs ns) x slot w.low w.high = record { begins = edge w.low ∙ w.begins; ends = edge w.high ∙ w.ends; some = omega (arith, w.begun, w.not_over); whole = λ m p q. edge m ∙ w.whole m p q } in
+      let edge : (m : ℕ) → (chart qs ns).edge x slot m ≡ edge_in (rank qs) (shown node.row) slot m =
+      λ m. rows_edge-at (rank qs) (values_of ns) x (shown node.row) (in_values ns x node there read) slot m
+      ∙ ap (λ v. edge_in (rank qs) v slot m) (the_value ns x node there read (shown node.row)) in
+      let seg : IsSegmentOf (chart qs ns) x slot w.low w.high =
+      record {
+        begins = edge w.low ∙ w.begins;
+        ends = edge w.high ∙ w.ends;
+        some = omega (arith, w.begun, w.not_over);
+        whole = λ m p q. edge m
+            ∙ w.whole m p q;
+      } in
       record {
         low = w.low;
         high = w.high;
@@ -208,7 +230,9 @@ module _ (qs : List ℕ) (ns : List Node) (x : ℕ) (node : Node) (there : x < l
         begun = w.begun;
         not_over = w.not_over;
         replaced = charts_set ns x node there read new qs (λ rows. IsReplacedOver (chart qs ns) (chart_of (rank qs) rows) x slot w.low w.high c)
-            (let v = row_replace_law (rank qs) (values_of ns) x (shown node.row) (shown new.row) slot w.low w.high c (in_values ns x node there read) (subst (λ (w' : RowValue). IsValueReplaced (rank qs) w' (shown new.row) slot w.low c) (sym (the_value ns x node there read (shown node.row))) w.replaced) seg in
+            (let v = row_replace_law (rank qs) (values_of ns) x (shown node.row) (shown new.row) slot w.low w.high c (in_values ns x node there read)
+            (subst (λ (w' : RowValue). IsValueReplaced (rank qs) w' (shown new.row) slot w.low c)
+            (sym (the_value ns x node there read (shown node.row))) w.replaced) seg in
             record { holds = v.0; edges = v.1 });
       }
 
@@ -251,20 +275,36 @@ module _ {A : Type 0} (f : Node → A) (ns : List Node) (x : ℕ) (node left rig
       (λ (ne : i ≡ x → ⊥). at_others i ne nz)
       (cases_eq i x)
 
+-- the room of the halves of a row, in the list
+pub split_room : (ns : List Node) (x z : ℕ) (node left right : Node) → x < length ns → node ≡ get_or ns x node → z ≡ length ns
+    → (ys : List Node) → ys ≡ set ns x left ++ right ∷ [] → HasSplitRoom node.row left.row right.row
+    → (d : Row) → HasSplitRoom (row_at ns x d) (row_at ys x d) (row_at ys z d)
+split_room ns x z node left right l read last ys are h d =
+    subst (λ (w : Row). HasSplitRoom w (row_at ys x d) (row_at ys z d)) (sym (the_row ns x node l read d))
+    (subst (λ (zs : List Node). HasSplitRoom node.row (row_at zs x d) (row_at zs z d)) (sym are)
+    (subst (λ (w : Row). HasSplitRoom node.row w (row_at (set ns x left ++ right ∷ []) z d)) (sym (at_left (λ (n : Node). n.row) ns x node left right l d))
+    (subst (λ (k : ℕ). HasSplitRoom node.row left.row (row_at (set ns x left ++ right ∷ []) k d)) (sym last)
+    (subst (λ (w : Row). HasSplitRoom node.row left.row w) (sym (at_right (λ (n : Node). n.row) ns x node left right l d)) h))))
+
 module _ (qs : List ℕ) (ns : List Node) (x : ℕ) (node left right : Node) (there : x < length ns) (read : node ≡ get_or ns x node) (s : Pos) (h : IsRowSplit (rank qs) node.row left.row right.row s)
-    (left_name : left.header.name ≡ node.header.name) (left_ty : left.header.ty ≡ node.header.ty) (left_later : option_map (λ i. i.0) left.header.later ≡ Some (length ns)) (left_link : left.header.link ≡ node.header.link)
-    (right_name : right.header.name ≡ node.header.name) (right_ty : right.header.ty ≡ node.header.ty) (right_later : right.header.later ≡ node.header.later) (right_link : right.header.link ≡ Out) where
+    (left_name : left.header.name ≡ node.header.name) (left_ty : left.header.ty ≡ node.header.ty)
+    (left_later : option_map (λ i. i.0) left.header.later ≡ Some (length ns)) (left_link : left.header.link ≡ node.header.link)
+    (right_name : right.header.name ≡ node.header.name) (right_ty : right.header.ty ≡ node.header.ty)
+    (right_later : right.header.later ≡ node.header.later) (right_link : right.header.link ≡ Out) where
   rows_are : values_of (set ns x left ++ right ∷ []) ≡ set (values_of ns) x (shown left.row) ++ shown right.row ∷ []
   rows_are = map-push (λ (n : Node). shown n.row) (set ns x left) right ∙ ap (λ ys. ys ++ shown right.row ∷ []) (map-set (λ (n : Node). shown n.row) ns x left)
 
   pub parts_rows : IsRow (rank qs) (length qs) left.row → IsRow (rank qs) (length qs) right.row → AreRows qs ns → AreRows qs (set ns x left ++ right ∷ [])
-  parts_rows l r all = subst (AllRows (rank qs) (length qs)) (sym rows_are) (AllRows-push (rank qs) (length qs) (set (values_of ns) x (shown left.row)) (shown right.row) r (AllRows-set (rank qs) (length qs) (values_of ns) x (shown left.row) l all))
+  parts_rows l r all = subst (AllRows (rank qs) (length qs)) (sym rows_are)
+      (AllRows-push (rank qs) (length qs) (set (values_of ns) x (shown left.row)) (shown right.row) r
+      (AllRows-set (rank qs) (length qs) (values_of ns) x (shown left.row) l all))
 
   parts_apart : IsMovedApart (chart qs ns) (chart qs (set ns x left ++ right ∷ [])) x (length ns) (rank qs s.0)
   parts_apart =
       subst (λ (rows : List RowValue). IsMovedApart (chart qs ns) (chart_of (rank qs) rows) x (length ns) (rank qs s.0)) (sym rows_are)
       (subst (λ (k : ℕ). IsMovedApart (chart qs ns) (chart_of (rank qs) (set (values_of ns) x (shown left.row) ++ shown right.row ∷ [])) x k (rank qs s.0)) (length-values ns)
-      (row_split_law (rank qs) (values_of ns) x (shown node.row) (shown left.row) (shown right.row) s (in_values ns x node there read) (subst (λ (w : RowValue). IsValueSplit (rank qs) w (shown left.row) (shown right.row) s) (sym (the_value ns x node there read (shown node.row))) h)))
+      (row_split_law (rank qs) (values_of ns) x (shown node.row) (shown left.row) (shown right.row) s (in_values ns x node there read)
+      (subst (λ (w : RowValue). IsValueSplit (rank qs) w (shown left.row) (shown right.row) s) (sym (the_value ns x node there read (shown node.row))) h)))
 
   node_lo : lo_at ns x ≡ node.row.lo.0
   node_lo = at_map (λ (n : Node). n.row.lo.0) ns x node 0 there read
@@ -276,7 +316,8 @@ module _ (qs : List ℕ) (ns : List Node) (x : ℕ) (node left right : Node) (th
   at_frame p e i nz =
       let none : Frame = no_frame in
       ⊎_elim
-      (λ (q : i ≡ x). ap (λ (k : ℕ). p (frame_at (set ns x left ++ right ∷ []) k)) q ∙ ap p (at_left frame_of ns x node left right there none) ∙ e ∙ sym (ap p (at_map frame_of ns x node none there read)) ∙ ap (λ (k : ℕ). p (frame_at ns k)) (sym q))
+      (λ (q : i ≡ x). ap (λ (k : ℕ). p (frame_at (set ns x left ++ right ∷ []) k)) q ∙ ap p (at_left frame_of ns x node left right there none) ∙ e
+      ∙ sym (ap p (at_map frame_of ns x node none there read)) ∙ ap (λ (k : ℕ). p (frame_at ns k)) (sym q))
       (λ (ne : i ≡ x → ⊥). ap p (at_others frame_of ns x node left right there none i ne nz))
       (cases_eq i x)
 
@@ -295,7 +336,8 @@ module _ (qs : List ℕ) (ns : List Node) (x : ℕ) (node left right : Node) (th
     lo_z = ap (rank qs) (at_right (λ (n : Node). n.row.lo.0) ns x node left right there 0 ∙ ap (λ p. p.0) h.right_lo);
     hi_z = ap (rank qs) (at_right (λ (n : Node). n.row.hi.0) ns x node left right there 0 ∙ ap (λ p. p.0) h.right_hi ∙ sym node_hi);
     name_z = ap (λ (f : Frame). f.name) (at_right frame_of ns x node left right there no_frame) ∙ right_name ∙ sym (ap (λ (f : Frame). f.name) (at_map frame_of ns x node no_frame there read));
-    later_z = ap (λ (f : Frame). f.later) (at_right frame_of ns x node left right there no_frame) ∙ ap (option_map (λ i. i.0)) right_later ∙ sym (ap (λ (f : Frame). f.later) (at_map frame_of ns x node no_frame there read));
+    later_z = ap (λ (f : Frame). f.later) (at_right frame_of ns x node left right there no_frame) ∙ ap (option_map (λ i. i.0)) right_later
+        ∙ sym (ap (λ (f : Frame). f.later) (at_map frame_of ns x node no_frame there read));
   }
 
   pub cut_in_two : IsCutInTwo qs ns (set ns x left ++ right ∷ []) x (length ns) s.0
@@ -308,9 +350,12 @@ module _ (qs : List ℕ) (ns : List Node) (x : ℕ) (node left right : Node) (th
         apart = parts_apart;
         life = parts_life;
         types = λ i l. at_frame (λ (f : Frame). f.ty) (ap (λ t. t.0) left_ty) i (λ e. omega arith);
-        new_type = ap (λ (f : Frame). f.ty) (at_right frame_of ns x node left right there no_frame) ∙ ap (λ t. t.0) right_ty ∙ sym (ap (λ (f : Frame). f.ty) (at_map frame_of ns x node no_frame there read));
+        new_type = ap (λ (f : Frame). f.ty) (at_right frame_of ns x node left right there no_frame) ∙ ap (λ t. t.0) right_ty
+            ∙ sym (ap (λ (f : Frame). f.ty) (at_map frame_of ns x node no_frame there read));
         links = λ i. ⊎_elim
-            (λ (e : i ≡ length ns). ap (link_at (set ns x left ++ right ∷ [])) e ∙ at_right (λ (n : Node). n.header.link) ns x node left right there Out ∙ right_link ∙ sym (get_or_past (map (λ (n : Node). n.header.link) ns) i Out (omega (arith, length-map ns (λ (n : Node). n.header.link)))))
+            (λ (e : i ≡ length ns). ap (link_at (set ns x left ++ right ∷ [])) e
+            ∙ at_right (λ (n : Node). n.header.link) ns x node left right there Out ∙ right_link
+            ∙ sym (get_or_past (map (λ (n : Node). n.header.link) ns) i Out (omega (arith, length-map ns (λ (n : Node). n.header.link)))))
             (λ (ne : i ≡ length ns → ⊥). at_same (λ (n : Node). n.header.link) ns x node left right there Out read left_link i ne)
             (cases_eq i (length ns));
         left = λ d. rw (at_left (λ (n : Node). n.row) ns x node left right there d, old d) h.left_count;
@@ -320,8 +365,10 @@ module _ (qs : List ℕ) (ns : List Node) (x : ℕ) (node left right : Node) (th
         others = λ i d ne nz. at_others (λ (n : Node). n.row) ns x node left right there d i ne nz;
       }
 
-pub cut_in_two_at : (qs : List ℕ) (ns : List Node) (x : ℕ) (z : NodeId) (node left right : Node) (there : x < length ns) (read : node ≡ get_or ns x node) (s : Pos) → z.0 ≡ length ns → IsRowSplit (rank qs) node.row left.row right.row s →
-    left.header ≡ record { name = node.header.name; ty = node.header.ty; later = Some z; link = node.header.link } → right.header ≡ record { name = node.header.name; ty = node.header.ty; later = node.header.later; link = Out } →
+pub cut_in_two_at : (qs : List ℕ) (ns : List Node) (x : ℕ) (z : NodeId) (node left right : Node) (there : x < length ns)
+    (read : node ≡ get_or ns x node) (s : Pos) → z.0 ≡ length ns → IsRowSplit (rank qs) node.row left.row right.row s →
+    left.header ≡ record { name = node.header.name; ty = node.header.ty; later = Some z; link = node.header.link }
+    → right.header ≡ record { name = node.header.name; ty = node.header.ty; later = node.header.later; link = Out } →
     IsRow (rank qs) (length qs) left.row → IsRow (rank qs) (length qs) right.row → AreRows qs ns →
     IsCutInTwo qs ns (set ns x left ++ right ∷ []) x z.0 s.0 × AreRows qs (set ns x left ++ right ∷ [])
 cut_in_two_at qs ns x z node left right there read s is_z h l r o p all =
@@ -330,20 +377,26 @@ cut_in_two_at qs ns x z node left right there read s is_z h l r o p all =
     let link : (k : HeaderValue) → Link = λ k. k.link in
     let later : (k : HeaderValue) → Option NodeId = λ k. k.later in
     let behind : option_map (λ i. i.0) left.header.later ≡ Some (length ns) = ap (λ k. option_map (λ i. i.0) (later k)) l ∙ ap Some is_z in (
-      subst (λ (y : ℕ). IsCutInTwo qs ns (set ns x left ++ right ∷ []) x y s.0) (sym is_z) (cut_in_two qs ns x node left right there read s h (ap name l) (ap ty l) behind (ap link l) (ap name r) (ap ty r) (ap later r) (ap link r)),
+      subst (λ (y : ℕ). IsCutInTwo qs ns (set ns x left ++ right ∷ []) x y s.0) (sym is_z)
+          (cut_in_two qs ns x node left right there read s h (ap name l) (ap ty l) behind (ap link l) (ap name r) (ap ty r) (ap later r) (ap link r)),
       parts_rows qs ns x node left right there read s h (ap name l) (ap ty l) behind (ap link l) (ap name r) (ap ty r) (ap later r) (ap link r) o p all,
     )
 
 -- an edge of the row of a node is one of the chart
-pub node_edge : (qs : List ℕ) (ns : List Node) (x : ℕ) (node : Node) (there : x < length ns) (read : node ≡ get_or ns x node) (slot n : ℕ) → AreRows qs ns → IsSlot qs ns x slot n → (m : ℕ) → row_edge (rank qs) node.row slot m ≡ (chart qs ns).edge x slot m
-node_edge qs ns x node there read slot n all is m = subst (λ (w : Row). row_edge (rank qs) w slot m ≡ (chart qs ns).edge x slot m) (the_row ns x node there read node.row) (edge_is qs ns x slot n node.row all is m)
+pub node_edge : (qs : List ℕ) (ns : List Node) (x : ℕ) (node : Node) (there : x < length ns) (read : node ≡ get_or ns x node) (slot n : ℕ)
+    → AreRows qs ns → IsSlot qs ns x slot n → (m : ℕ) → row_edge (rank qs) node.row slot m ≡ (chart qs ns).edge x slot m
+node_edge qs ns x node there read slot n all is m = subst (λ (w : Row). row_edge (rank qs) w slot m ≡ (chart qs ns).edge x slot m)
+    (the_row ns x node there read node.row) (edge_is qs ns x slot n node.row all is m)
 
 pub missing_few : (b : Bool) → missing b ≤ 1
 missing_few b = elim b as (λ b. missing b ≤ 1) [ true ↦ omega arith | false ↦ omega arith ]
 
 -- a segment that is to begin at a position, where one begins or not
-module _ (qs : List ℕ) (ns : List Node) (x : ℕ) (node : Node) (there : x < length ns) (read : node ≡ get_or ns x node) (slot n : ℕ) (all : AreRows qs ns) (is : IsSlot qs ns x slot n) (new : Row) (begun : Bool)
-    (free : begun ≡ not (row_edge (rank qs) node.row slot n)) (cut : begun ≡ true → IsRowCut (rank qs) node.row new slot n (content_at (rank qs) node.row slot n)) (same : begun ≡ false → new ≡ node.row) (more : HasMore (missing (row_edge (rank qs) node.row slot n)) node.row new) where
+module _ (qs : List ℕ) (ns : List Node) (x : ℕ) (node : Node) (there : x < length ns) (read : node ≡ get_or ns x node) (slot n : ℕ)
+    (all : AreRows qs ns) (is : IsSlot qs ns x slot n) (new : Row) (begun : Bool)
+    (free : begun ≡ not (row_edge (rank qs) node.row slot n))
+    (cut : begun ≡ true → IsRowCut (rank qs) node.row new slot n (content_at (rank qs) node.row slot n)) (same : begun ≡ false → new ≡ node.row)
+    (more : HasMore (missing (row_edge (rank qs) node.row slot n)) node.row new) where
   abbrev after : List Node
   after = set ns x (record { header = node.header; row = new })
 
@@ -357,7 +410,8 @@ module _ (qs : List ℕ) (ns : List Node) (x : ℕ) (node : Node) (there : x < l
   begun_cut =
       ⊎_elim
       (λ (e : begun ≡ true). slot_cut qs ns x node there read (record { header = node.header; row = new }) slot n (content_at (rank qs) node.row slot n) (cut e) refl)
-      (λ (e : begun ≡ false). subst (λ (ms : List Node). HasOneEdgeMore (chart qs ns) (chart qs ms) x slot n) (sym (begun_same e)) (edge_there (chart qs ns) x slot n (not_false ((chart qs ns).edge x slot n) (sym begun_edge ∙ e))))
+      (λ (e : begun ≡ false). subst (λ (ms : List Node). HasOneEdgeMore (chart qs ns) (chart qs ms) x slot n) (sym (begun_same e))
+      (edge_there (chart qs ns) x slot n (not_false ((chart qs ns).edge x slot n) (sym begun_edge ∙ e))))
       (cases_Bool begun)
     where
       not_false : (b : Bool) → not b ≡ false → b ≡ true
@@ -384,7 +438,8 @@ module _ (qs : List ℕ) (ns : List Node) (x : ℕ) (node : Node) (there : x < l
   pub begun_touched : IsTouched 1 ns after x
   begun_touched =
       let few : missing (row_edge (rank qs) node.row slot n) ≤ 1 = missing_few (row_edge (rank qs) node.row slot n) in
-      touched ns x node there read (record { header = node.header; row = new }) 1 refl refl frame_kept.0 frame_kept.1 frame_kept.2 (omega (arith, more.count, few)) (λ j h. omega (arith, h, more.spare, few)) (λ j t e h. omega (arith, e, h, more.count, more.spare))
+      touched ns x node there read (record { header = node.header; row = new }) 1 refl refl frame_kept.0 frame_kept.1 frame_kept.2
+      (omega (arith, more.count, few)) (λ j h. omega (arith, h, more.spare, few)) (λ j t e h. omega (arith, e, h, more.count, more.spare))
 
   pub begun_stamped : begun ≡ true → (d : Row) → stamped_count (row_at after x d) ≡ stamped_count (row_at ns x d) + 1
   begun_stamped e d =
@@ -412,7 +467,9 @@ some_row (n ∷ ns) x l = n.row
 pub hi_in : (qs : List ℕ) (ns : List Node) (x : ℕ) → x < length ns → AreRows qs ns → rank qs (hi_at ns x) < length qs
 hi_in qs ns x l all =
     let w : RowValue = shown (some_row ns x l) in
-    let h : IsRow (rank qs) (length qs) (row_at ns x (some_row ns x l)) = subst (IsValue (rank qs) (length qs)) (value_at ns x (some_row ns x l) w l) (AllRows-at (rank qs) (length qs) (values_of ns) x w (omega (arith, length-values ns)) all) in
+    let h : IsRow (rank qs) (length qs) (row_at ns x (some_row ns x l)) =
+    subst (IsValue (rank qs) (length qs)) (value_at ns x (some_row ns x l) w l)
+    (AllRows-at (rank qs) (length qs) (values_of ns) x w (omega (arith, length-values ns)) all) in
     subst (λ (p : ℕ). rank qs p < length qs) (hi_is ns x (some_row ns x l) l) h.there
 
 pub live_in : (qs : List ℕ) (ns : List Node) (x n : ℕ) → AreRows qs ns → IsLive (lives qs ns) x n → n < length qs
@@ -425,7 +482,8 @@ typed_slot types qs ns x n s typed is l = record { alive = is; slot_there = λ d
 pub narrow_slot : (qs : List ℕ) (ns : List Node) (x n s : ℕ) (d : Row) → AreRows qs ns → IsSlot qs ns x s n → s < 65536
 narrow_slot qs ns x n s d all is = let w = slot_row qs ns x s n d all is in omega (arith, w.narrow, is.slot_there d)
 
-pub inverse_slot : (types : List TypeShape) (qs : List ℕ) (ns : List Node) (x n s : ℕ) → AreRows qs ns → IsTyped types ns x → IsAlive qs ns x n → s < slot_count (type_of types ns x) → IsSlot qs ns x s n × (s < 65536)
+pub inverse_slot : (types : List TypeShape) (qs : List ℕ) (ns : List Node) (x n s : ℕ) → AreRows qs ns → IsTyped types ns x → IsAlive qs ns x n
+    → s < slot_count (type_of types ns x) → IsSlot qs ns x s n × (s < 65536)
 inverse_slot types qs ns x n s all typed is l =
     let slot : IsSlot qs ns x s n = typed_slot types qs ns x n s typed is l in
     (slot, narrow_slot qs ns x n s (some_row ns x is.there) all slot)

@@ -26,11 +26,13 @@ held_slot qs ns x f n c all e ne =
     let rows = values_of ns in
     let l : x < length rows = ⊎_elim (λ (p : x < length rows). p) (λ (p : length rows ≤ x). absurd (ne (sym e ∙ rows_hold-past (rank qs) rows x f n p))) (cases_lt x (length rows)) in
     let there : x < length ns = omega (arith, length-values ns) in
-    let here : (d : Row) → c ≡ row_holds (rank qs) (shown (row_at ns x d)) f n = λ d. sym e ∙ rows_hold-at (rank qs) rows x (shown d) l f n ∙ ap (λ w. row_holds (rank qs) w f n) (value_at ns x d (shown d) there) in
+    let here : (d : Row) → c ≡ row_holds (rank qs) (shown (row_at ns x d)) f n = λ d. sym e ∙ rows_hold-at (rank qs) rows x (shown d) l f n
+    ∙ ap (λ w. row_holds (rank qs) w f n) (value_at ns x d (shown d) there) in
     let alive : (d : Row) → is_alive (rank qs) (shown (row_at ns x d)) n ≡ true = λ d. ⊎_elim (λ (p : is_alive (rank qs) (shown (row_at ns x d)) n ≡ true). p)
     (λ (p : is_alive (rank qs) (shown (row_at ns x d)) n ≡ false). absurd (ne (here d ∙ (rw p refl))))
     (cases_Bool (is_alive (rank qs) (shown (row_at ns x d)) n)) in
-    let is_row : (d : Row) → IsValue (rank qs) (length qs) (shown (row_at ns x d)) = λ d. subst (IsValue (rank qs) (length qs)) (value_at ns x d (shown d) there) (AllRows-at (rank qs) (length qs) rows x (shown d) l all) in
+    let is_row : (d : Row) → IsValue (rank qs) (length qs) (shown (row_at ns x d)) =
+    λ d. subst (IsValue (rank qs) (length qs)) (value_at ns x d (shown d) there) (AllRows-at (rank qs) (length qs) rows x (shown d) l all) in
     record {
       alive = record {
         there = there;
@@ -104,7 +106,8 @@ slot_below qs ns i s n row all is e l =
     let slot : IsSlot qs ns i s n = record { alive = is; slot_there = λ d. subst (λ (w : Row). s < width_of w) (e d) l } in
     (slot, narrow_slot qs ns i n s (some_row ns i is.there) all slot)
 
-pub linked : (old mid new : Chart) (x f y s b : ℕ) → old.holds x f b ≡ Null → old.holds y s b ≡ Free → IsSlotSet old mid x f b (Target y) → IsSlotSet mid new y s b (From x f) → IsLinked old new x f y s b
+pub linked : (old mid new : Chart) (x f y s b : ℕ) → old.holds x f b ≡ Null → old.holds y s b ≡ Free → IsSlotSet old mid x f b (Target y)
+    → IsSlotSet mid new y s b (From x f) → IsLinked old new x f y s b
 linked old mid new x f y s b null free one two =
     let apart : x ≡ y → f ≡ s → ⊥ = λ u v. let e : Null ≡ Free = sym null ∙ ap (λ (k : ℕ). old.holds k f b) u ∙ ap (λ (k : ℕ). old.holds y k b) v ∙ free in cc in
     let t = two_sets_law old mid new x f y s b (Target y) (From x f) apart one two in

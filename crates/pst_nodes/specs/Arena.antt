@@ -1,13 +1,12 @@
 -- What a list of nodes is, at the places of an order's list.
-use Rattle.std.specs.Prelude.{◌≡◌, ℕ, ◌-◌, ◌<◌, ◌≤◌, vec_capacity, List, length, get_or, map, Option, None, ◌⊎◌, true, false}
-use Rattle.pst_rows.specs.declared.content.Content.TheVariants.{Free}
+use Rattle.std.specs.Prelude.{◌≡◌, ℕ, ◌-◌, ◌<◌, ◌≤◌, vec_capacity, List, length, get_or, map, Option, None, true, false}
 use Rattle.pst_rows.specs.declared.row.Row.{Row}
 use Rattle.pst_order.specs.Places.{rank}
 use Rattle.pst_mirror.specs.Mirror.{Chart, renamed}
 use Rattle.pst_mirror.specs.Contents.{From}
 use Rattle.pst_mirror.specs.Charts.{chart_of, AllRows}
 use Rattle.pst_mirror.specs.Lives.{Lives, IsLive}
-use Rattle.pst_mirror.specs.Degree.{is_entry, is_other_entry}
+use Rattle.pst_mirror.specs.Degree.{is_other_entry}
 use Rattle.pst_mirror.specs.Kinds.{IsInverse}
 use Rattle.pst_base.specs.declared.names.TypeNo.{TypeNo}
 use Rattle.pst_mirror.specs.Segments.{IsSegmentOf}
@@ -135,19 +134,6 @@ pub record IsTyped (types : List TypeShape) (ns : List Node) (x : ℕ) : Type 0 
   pub width : (d : Row) → width_of (row_at ns x d) ≡ slot_count (type_of types ns x)
 
 -- ---- inverse slots of a node at a position
-
--- each of them is free or holds an entry
-abbrev pub AreInverse : List TypeShape → List ℕ → List Node → ℕ → ℕ → Type 0
-AreInverse types qs ns x n = (s : ℕ) → IsInverse (type_of types ns x) s → ((chart qs ns).holds x s n ≡ Free) ⊎ (is_entry ((chart qs ns).holds x s n) ≡ true)
-
--- one of them that is free
-pub record IsFreeSlot (types : List TypeShape) (qs : List ℕ) (ns : List Node) (x n s : ℕ) : Type 0 where
-  pub inverse : IsInverse (type_of types ns x) s
-  pub free : (chart qs ns).holds x s n ≡ Free
-
--- each of them holds an entry
-abbrev pub AreFull : List TypeShape → List ℕ → List Node → ℕ → ℕ → Type 0
-AreFull types qs ns x n = (s : ℕ) → IsInverse (type_of types ns x) s → is_entry ((chart qs ns).holds x s n) ≡ true
 
 -- one of them that holds no entry of another field than the field f of node i
 pub record IsOpenSlot (types : List TypeShape) (qs : List ℕ) (ns : List Node) (x n i f s : ℕ) : Type 0 where

@@ -5,7 +5,7 @@ ghost use Rattle.std.proofs.Common.{rules};
 ghost use Rattle.pst_rows.specs.declared.row.Row.{Row};
 ghost use Rattle.pst_order.specs.Places.{rank};
 ghost use Rattle.pst_mirror.specs.Lives.{AreChained, IsLive, IsIn};
-ghost use Rattle.pst_rows.specs.Rows.{stamped_count};
+ghost use Rattle.pst_rows.specs.Rows.{stamped_count, HasMadeRoom, HasSplitRoom};
 ghost use Rattle.std.specs.Option.{option_map};
 ghost use Rattle.pst_nodes.specs.Arena.{spare_nodes, HasRoom, new_node, rows_of, row_at, frame_at, frames_of, link_at, AreRows, chart, lives, IsAlive, IsSlot, IsSegmentAt, IsTyped, LeadsTo};
 ghost use Rattle.pst_nodes.specs.Changes.{HasStampedOver, HasSlotSet, IsSegmentBegun, IsSegmentReplaced, IsTouched, AreSameNodes, IsCutInTwo};
@@ -180,6 +180,7 @@ impl Nodes {
         requires { id.0 < length self.old.list.items }
         ensures same { AreSameNodes self.old.list.items self.new.list.items }
         ensures room { OnOk result ((d : Row) → HasRoom (row_at self.new.list.items id.0 d) n) }
+        ensures most { (d : Row) → HasMadeRoom (row_at self.old.list.items id.0 d) (row_at self.new.list.items id.0 d) n }
         ensures spare { spare_nodes self.new ≡ spare_nodes self.old }
         ensures err { OnErr result (self.new.list.items ≡ self.old.list.items) }
     {
@@ -261,6 +262,7 @@ impl Nodes {
         requires room { 1 ≤ spare_nodes self.old }
         ensures split { IfOk result (λ z. IsCutInTwo (O.places order.now) self.old.list.items self.new.list.items id.0 z.0 at.0) }
         ensures rows { AreRows (O.places order.now) self.new.list.items }
+        ensures most { IfOk result (λ z. (d : Row) → HasSplitRoom (row_at self.old.list.items id.0 d) (row_at self.new.list.items id.0 d) (row_at self.new.list.items z.0 d)) }
         ensures err { OnErr result (self.new.list.items ≡ self.old.list.items) }
     {
         let right = NodeId(self.list.len() as u64);

@@ -131,7 +131,7 @@ impl Header {
 
     /// Sets the next node of the record.
     #[inline(always)]
-    pub fn set_later(&mut self, later: Option<NodeId>)
+    pub(crate) fn set_later(&mut self, later: Option<NodeId>)
         ensures { self.new ≡ record { name = self.old.name; ty = self.old.ty; later = later; link = self.old.link } }
     {
         let (has_later, later) = node_parts(later);
@@ -141,7 +141,7 @@ impl Header {
 
     /// Sets the link of the queue.
     #[inline(always)]
-    pub fn set_link(&mut self, link: Link)
+    pub(crate) fn set_link(&mut self, link: Link)
         ensures { self.new ≡ record { name = self.old.name; ty = self.old.ty; later = self.old.later; link = link } }
     {
         let (wait, next) = link_parts(link);

@@ -19,5 +19,3 @@ pub mod node;
 pub mod pairs;
 pub mod queue;
 pub mod slots;
-#[cfg(test)]
-mod tests;

@@ -1,11 +1,11 @@
-//! Inverse slots: finding one that is free.
+//! Inverse slots: finding one that a field can take.
 
 ghost use Rattle.std.specs.Prelude.{◌≡◌, ◌<◌, length, IfSome, IfNone, ◌↔◌, IsTrue};
 ghost use Rattle.pst_order.specs.Places.{rank};
 ghost use Rattle.pst_base.specs.Shape.{type_at, element_count};
 ghost use Rattle.pst_rows.specs.Changes.{slot_count};
 ghost use Rattle.pst_mirror.specs.Degree.{is_other_entry};
-ghost use Rattle.pst_nodes.specs.Arena.{AreRows, IsAlive, type_of, IsTyped, AreInverse, IsFreeSlot, AreFull, IsOpenSlot, AreFullApart};
+ghost use Rattle.pst_nodes.specs.Arena.{AreRows, IsAlive, type_of, IsTyped, IsOpenSlot, AreFullApart};
 
 use crate::node::Nodes;
 use pst_base::{NodeId, Shape, SlotNo, TypeNo, TypeShape};
@@ -13,31 +13,6 @@ use pst_order::{Order, Pos};
 use pst_rows::Content;
 
 impl Nodes {
-    /// An inverse slot of a node that is free at a place. There is none where each one holds an entry there.
-    pub fn free_slot<O: Order>(
-        &self,
-        order: &O,
-        shape: &Shape,
-        id: NodeId,
-        at: Pos,
-    ) -> Option<SlotNo>
-        requires rows { AreRows (O.places order.now) self.now.list.items }
-        requires alive { IsAlive (O.places order.now) self.now.list.items id.0 (rank (O.places order.now) at.0) }
-        requires typed { IsTyped shape.now self.now.list.items id.0 }
-        requires inverse { AreInverse shape.now (O.places order.now) self.now.list.items id.0 (rank (O.places order.now) at.0) }
-        ensures some { IfSome result (λ s. IsFreeSlot shape.now (O.places order.now) self.now.list.items id.0 (rank (O.places order.now) at.0) s.0) }
-        ensures none { IfNone result (AreFull shape.now (O.places order.now) self.now.list.items id.0 (rank (O.places order.now) at.0)) }
-    {
-        let (first, end) = self.inverse_slots(shape, id);
-        for index in first..end {
-            let slot = SlotNo(index as u16);
-            if self.read(order, id, slot, at) == Content::Free {
-                return Some(slot);
-            }
-        }
-        None
-    }
-
     /// An inverse slot of a node that a field of node `x` can take at a place: it is free there, or holds the entry of this
     /// very field. There is none where each one holds the entry of another field.
     pub fn open_slot<O: Order>(

@@ -1,6 +1,7 @@
 -- A block as the list of its statements.
 use Rattle.std.proofs.Common.{◌≡◌, refl, ap, ◌∙◌, sym}
-use Rattle.pst_grammar.specs.declared.statement.Block.{Block, Block', out-Block, outs-Block', Row_of-Statement, end_of-Statement, more_of-Statement, items-the_row-Statement, items_shown-the_row-Statement-0}
+use Rattle.pst_grammar.specs.declared.statement.Block.{Block, Block', out-Block, outs-Block', Row_of-Statement, end_of-Statement, more_of-Statement}
+use Rattle.pst_grammar.specs.declared.statement.Block.{items-the_row-Statement, items_shown-the_row-Statement-0}
 use Rattle.pst_grammar.specs.Syntax as tree
 use Rattle.pst_grammar.specs.View.{phrase_of, phrases_of, row_of, statements_of}
 

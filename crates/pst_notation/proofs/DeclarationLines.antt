@@ -11,7 +11,10 @@ use Rattle.pst_grammar.specs.declared.lexeme.Sign.TheVariants as sign
 use Rattle.pst_grammar.specs.declared.lexeme.Lead.TheVariants as lead
 use Rattle.pst_grammar.specs.Lexemes as token
 use Rattle.pst_grammar.specs.Lexemes.{Lexeme, Plain, Leading}
-use Rattle.pst_grammar.specs.Spelling.{TypeText, Int, Named, type_word, spelled_type, spelled_count, FieldText, Val, Ptr, field, spelled_field, Parameter, parameter, spelled_parameter, Local, local, spelled_local, spelled_result, head, Block, phrases, spelled_block, Item, Record, Root, Procedure, item, spelled_item, each, listed, Opening, First, Second, language, language_word, spelled_opening, Program, program, spelled_program}
+use Rattle.pst_grammar.specs.Spelling.{TypeText, Int, Named, type_word, spelled_type, spelled_count, FieldText, Val, Ptr, field, spelled_field, Parameter}
+use Rattle.pst_grammar.specs.Spelling.{parameter, spelled_parameter, Local, local, spelled_local, spelled_result, head, Block, phrases, spelled_block, Item}
+use Rattle.pst_grammar.specs.Spelling.{Record, Root, Procedure, item, spelled_item, each, listed, Opening, First, Second, language, language_word}
+use Rattle.pst_grammar.specs.Spelling.{spelled_opening, Program, program, spelled_program}
 use Rattle.pst_notation.specs.Lines.{block_lineless, field_lineless, local_lineless, item_lineless, lineless}
 use Rattle.pst_notation.specs.Tokens.{words_of, program_words, lead_mark}
 use Rattle.pst_notation.proofs.Fronts.{front, Relined, lexeme_at}
@@ -261,7 +264,8 @@ item_relined (Procedure line query x parameters result locals body) ts us h =
       part = Procedure a.line query (record { line = b.line; name = x.name }) c.takes c.gives c.vars c.block;
       rest = c.rest;
       same = procedure_same query x.name parameters c.takes result c.gives locals c.vars body c.block c.same_takes c.same_gives c.same_vars c.same_block;
-      spells = procedure_spells a.line query (record { line = b.line; name = x.name }) c.takes c.gives c.vars c.block us a.rest b.rest c.rest (a.is ∙ ap (λ (t : Lexeme). t ∷ a.rest) (head_at a.line query)) b.is c.spells;
+      spells = procedure_spells a.line query (record { line = b.line; name = x.name }) c.takes c.gives c.vars c.block us a.rest b.rest c.rest
+          (a.is ∙ ap (λ (t : Lexeme). t ∷ a.rest) (head_at a.line query)) b.is c.spells;
       words = c.words;
     }
   where

@@ -13,7 +13,9 @@ use Rattle.pst_grammar.specs.declared.lexeme.Sign.TheVariants as sign
 use Rattle.pst_grammar.specs.declared.lexeme.Lead.TheVariants as lead
 use Rattle.pst_grammar.specs.Lexemes.{Lexeme, Name, Plain, Leading}
 use Rattle.pst_grammar.specs.Spelling.{listed as spelled_list}
-use Rattle.pst_grammar.specs.Spelling.{TypeText, Int, Named, type_word, spelled_type, spelled_count, FieldText, Val, Ptr, field, spelled_field, Parameter, parameter, spelled_parameter, Local, local, spelled_local, spelled_result, head, Item, Record, Root, Procedure, item, spelled_item, each, Opening, First, Second, language, language_word, spelled_opening, Program, program}
+use Rattle.pst_grammar.specs.Spelling.{TypeText, Int, Named, type_word, spelled_type, spelled_count, FieldText, Val, Ptr, field, spelled_field, Parameter}
+use Rattle.pst_grammar.specs.Spelling.{parameter, spelled_parameter, Local, local, spelled_local, spelled_result, head, Item, Record, Root, Procedure, item}
+use Rattle.pst_grammar.specs.Spelling.{spelled_item, each, Opening, First, Second, language, language_word, spelled_opening, Program, program}
 use Rattle.pst_notation.specs.Texts.{line, listed}
 use Rattle.pst_notation.proofs.Pieces.{Reads, written, space, feed, on_line, name, number, fixed, open_ends, operator}
 use Rattle.pst_notation.proofs.ExpressionReads.{listed_read}
@@ -48,7 +50,8 @@ field_end_reads n r = count_reads n refl (fixed (Plain sign.Semicolon) mark.Semi
 
 field_reads : (f : FieldText) {rest : List ℕ} {ts : List Lexeme} → Reads rest ts → Reads (field_text (field f) ++ rest) (spelled_field f ts)
 field_reads (Val at x n) {rest} r =
-    written (fixed (Leading lead.Val at) mark.Val refl refl (space (name x refl (fixed (Plain sign.Colon) mark.Colon refl refl (space (fixed (Plain sign.Int) mark.Int refl (count_ends n (59 ∷ 32 ∷ rest) refl)
+    written (fixed (Leading lead.Val at) mark.Val refl refl (space
+    (name x refl (fixed (Plain sign.Colon) mark.Colon refl refl (space (fixed (Plain sign.Int) mark.Int refl (count_ends n (59 ∷ 32 ∷ rest) refl)
     (field_end_reads n r))))))) (simp append_assoc)
 field_reads (Ptr at x target n) {rest} r =
     written (fixed (Leading lead.Ptr at) mark.Ptr refl refl (space (name x refl (fixed (Plain sign.Colon) mark.Colon refl refl (space (name target (count_ends n (59 ∷ 32 ∷ rest) refl)
@@ -56,7 +59,9 @@ field_reads (Ptr at x target n) {rest} r =
 
 local_reads : (l : Local) {rest : List ℕ} {ts : List Lexeme} → Reads rest ts → Reads (local_text (local l) ++ rest) (spelled_local l ts)
 local_reads l {rest} r =
-    on_line 2 (codes "var " ++ typed_text l.label.name (type_word l.kind) ++ codes ";") rest (written (fixed (Leading lead.Var l.line) mark.Var refl refl (space (typed_reads l.label l.kind refl (fixed (Plain sign.Semicolon) mark.Semicolon refl refl (feed r))))) (simp append_assoc))
+    on_line 2 (codes "var " ++ typed_text l.label.name (type_word l.kind) ++ codes ";") rest
+    (written (fixed (Leading lead.Var l.line) mark.Var refl refl
+    (space (typed_reads l.label l.kind refl (fixed (Plain sign.Semicolon) mark.Semicolon refl refl (feed r))))) (simp append_assoc))
 
 -- parts one after another
 each_reads : {A B : Type 0} (view : A → B) (show : B → List ℕ) (spell : A → List Lexeme → List Lexeme) →

@@ -8,7 +8,7 @@ use Rattle.pst_lex.specs.Words as word
 use Rattle.pst_lex.specs.Words.{Word, Fixed}
 use Rattle.pst_grammar.specs.declared.lexeme.Sign.TheVariants as sign
 use Rattle.pst_grammar.specs.declared.lexeme.Lead.TheVariants as lead
-use Rattle.pst_grammar.specs.Lexemes.{Lexeme, Name, Number, Operator, Plain, Leading, Unknown, marked}
+use Rattle.pst_grammar.specs.Lexemes.{Lexeme, Name, Number, Operator, Plain, Leading, marked}
 use Rattle.pst_notation.specs.Tokens.{word_of, words_of}
 
 -- a token on a line
@@ -16,7 +16,6 @@ abbrev pub lexeme_at : ℕ → Word → Lexeme
 lexeme_at line (word.Name x) = Name (record { line = line; name = x })
 lexeme_at line (word.Number v) = Number v
 lexeme_at line (Fixed m) = marked line m
-lexeme_at line word.Unknown = Unknown
 
 abbrev line_in : Lexeme → ℕ
 line_in (Name x) = x.line
@@ -32,7 +31,6 @@ on_its_line (Plain sign.Null) = refl
 on_its_line (Plain s) = refl
 on_its_line (Leading lead.Record line) = refl
 on_its_line (Leading l line) = refl
-on_its_line Unknown = refl
 
 pub marked_word : (line : ℕ) (m : Mark) → word_of (marked line m) ≡ Fixed m
 marked_word line mark.Record = refl

@@ -5,7 +5,7 @@ use Rattle.pst_lex.specs.declared.types.Token.{Token}
 use Rattle.pst_lex.specs.declared.types.TokenKind.{TokenKind}
 use Rattle.pst_lex.specs.declared.types.TokenKind.TheVariants as kind
 use Rattle.pst_lex.specs.declared.words.Mark.{Mark}
-use Rattle.pst_lex.specs.Words.{Word, Fixed, fixed, keyword_of, symbol_of}
+use Rattle.pst_lex.specs.Words.{Word, Fixed}
 use Rattle.pst_lex.specs.Words as lex
 use Rattle.pst_lex.specs.Lexing.{AreWords, LexedAs, Lexes, Faults}
 use Rattle.pst_lex.specs.Lexing as lexing
@@ -13,7 +13,7 @@ use Rattle.pst_lex.proofs.Unique.{its_words, no_fault, are_words}
 use Rattle.pst_grammar.specs.declared.declaration.Tree.{Tree}
 use Rattle.pst_grammar.specs.View.{text_of}
 use Rattle.pst_grammar.specs.Syntax as tree
-use Rattle.pst_grammar.specs.Lexemes.{lexeme_in, lexemes, marked_if}
+use Rattle.pst_grammar.specs.Lexemes.{lexeme_in, lexemes}
 use Rattle.pst_grammar.specs.Spelling.{Program, program}
 use Rattle.pst_grammar.specs.Grammar.{Spells}
 use Rattle.pst_grammar.proofs.Faults.{unique}
@@ -27,15 +27,10 @@ use Rattle.pst_notation.proofs.DeclarationLines.{program_relined}
 use Rattle.pst_notation.proofs.Limits.{program_same, shallow_same}
 use Rattle.pst_notation.proofs.SameText.{canonical_lineless}
 
-marked_words : (line : ℕ) (m : Option Mark) → word_of (marked_if line m) ≡ fixed m
-marked_words line None = refl
-marked_words line (Some m) = marked_word line m
-
 kind_word : (line : ℕ) (k : TokenKind) → word_of (lexeme_in line k) ≡ lex.word_of k
 kind_word line (kind.Name x) = refl
 kind_word line (kind.Number v) = refl
-kind_word line (kind.Keyword n) = marked_words line (keyword_of n)
-kind_word line (kind.Symbol n) = marked_words line (symbol_of n)
+kind_word line (kind.Mark m) = marked_word line m
 
 -- the parser sees the words of the tokens
 seen_words : (ts : List Token) → words_of (lexemes ts) ≡ lexing.words_of ts

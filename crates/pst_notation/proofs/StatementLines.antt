@@ -9,7 +9,8 @@ use Rattle.pst_grammar.specs.declared.lexeme.Label.{Label}
 use Rattle.pst_grammar.specs.declared.lexeme.Sign.TheVariants as sign
 use Rattle.pst_grammar.specs.declared.lexeme.Lead.TheVariants as lead
 use Rattle.pst_grammar.specs.Lexemes.{Lexeme, Plain, Leading}
-use Rattle.pst_grammar.specs.Spelling.{Expr, expr, spelled, listed, ended, spelled_call, Statement, New, Call, Result, Write, Print, If, Either, While, Return, Block, Empty, Then, phrase, phrases, spelled_statement, spelled_block}
+use Rattle.pst_grammar.specs.Spelling.{Expr, expr, spelled, listed, ended, spelled_call, Statement, New, Call, Result, Write, Print, If, Either, While, Return}
+use Rattle.pst_grammar.specs.Spelling.{Block, Empty, Then, phrase, phrases, spelled_statement, spelled_block}
 use Rattle.pst_notation.specs.Lines.{phrase_lineless, block_lineless}
 use Rattle.pst_notation.specs.Tokens.{words_of}
 use Rattle.pst_notation.proofs.Fronts.{front, Relined}

@@ -6,7 +6,8 @@ use Rattle.pst_grammar.specs.declared.lexeme.Label.{Label}
 use Rattle.pst_grammar.specs.declared.lexeme.Sign.TheVariants as sign
 use Rattle.pst_grammar.specs.declared.lexeme.Lead.TheVariants as lead
 use Rattle.pst_grammar.specs.Lexemes.{Lexeme, Plain, Leading}
-use Rattle.pst_grammar.specs.Spelling.{Expr, expr, spelled, ended, spelled_call, Statement, New, Call, Result, Write, Print, If, Either, While, Return, Block, Empty, Then, phrase, phrases, spelled_statement, spelled_block}
+use Rattle.pst_grammar.specs.Spelling.{Expr, expr, spelled, ended, spelled_call, Statement, New, Call, Result, Write, Print, If, Either, While, Return, Block}
+use Rattle.pst_grammar.specs.Spelling.{Empty, Then, phrase, phrases, spelled_statement, spelled_block}
 use Rattle.pst_notation.specs.Texts.{expr_text, line, call_text, phrase_text, phrases_text}
 use Rattle.pst_notation.proofs.Pieces.{Reads, written, space, feed, on_line, name, fixed, open_ends}
 use Rattle.pst_notation.proofs.ExpressionReads.{expr_reads, listed_read}
@@ -32,12 +33,14 @@ if_reads d at e {rest} r =
 while_reads : (d at : ℕ) (e : Expr) {rest : List ℕ} {ts : List Lexeme} → Reads rest ts →
     Reads (line d (codes "while " ++ expr_text (expr e) ++ codes " {") ++ rest) (Leading lead.While at ∷ spelled e (Plain sign.OpenBrace ∷ ts))
 while_reads d at e {rest} r =
-    on_line d _ rest (written (fixed (Leading lead.While at) mark.While refl refl (space (expr_reads e refl (space (fixed (Plain sign.OpenBrace) mark.OpenBrace refl refl (feed r)))))) (simp append_assoc))
+    on_line d _ rest (written (fixed (Leading lead.While at) mark.While refl refl
+    (space (expr_reads e refl (space (fixed (Plain sign.OpenBrace) mark.OpenBrace refl refl (feed r)))))) (simp append_assoc))
 
 -- the line between two blocks
 else_reads : (d : ℕ) {rest : List ℕ} {ts : List Lexeme} → Reads rest ts → Reads (line d (codes "} else {") ++ rest) (Plain sign.CloseBrace ∷ Plain sign.Else ∷ Plain sign.OpenBrace ∷ ts)
 else_reads d {rest} r =
-    on_line d _ rest (fixed (Plain sign.CloseBrace) mark.CloseBrace refl refl (space (fixed (Plain sign.Else) mark.Else refl refl (space (fixed (Plain sign.OpenBrace) mark.OpenBrace refl refl (feed r))))))
+    on_line d _ rest (fixed (Plain sign.CloseBrace) mark.CloseBrace refl refl
+    (space (fixed (Plain sign.Else) mark.Else refl refl (space (fixed (Plain sign.OpenBrace) mark.OpenBrace refl refl (feed r))))))
 
 -- the last line of a block
 pub close_reads : (d : ℕ) {rest : List ℕ} {ts : List Lexeme} → Reads rest ts → Reads (line d (codes "}") ++ rest) (Plain sign.CloseBrace ∷ ts)

@@ -10,7 +10,7 @@ use Rattle.pst_grammar.specs.declared.lexeme.Sign.{Sign}
 use Rattle.pst_grammar.specs.declared.lexeme.Sign.TheVariants as sign
 use Rattle.pst_grammar.specs.declared.lexeme.Lead.{Lead}
 use Rattle.pst_grammar.specs.declared.lexeme.Lead.TheVariants as lead
-use Rattle.pst_grammar.specs.Lexemes.{Lexeme, Name, Number, Operator, Plain, Leading, Unknown}
+use Rattle.pst_grammar.specs.Lexemes.{Lexeme, Name, Number, Operator, Plain, Leading}
 use Rattle.pst_grammar.specs.Spelling.{Program, spelled_program}
 
 abbrev pub op_mark : Op → Mark
@@ -65,7 +65,6 @@ word_of (Number v) = word.Number v
 word_of (Operator o) = Fixed (op_mark o)
 word_of (Plain s) = Fixed (sign_mark s)
 word_of (Leading l line) = Fixed (lead_mark l)
-word_of Unknown = word.Unknown
 
 abbrev pub words_of : List Lexeme → List Word
 words_of ts = map word_of ts

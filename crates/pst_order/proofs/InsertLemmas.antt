@@ -1,4 +1,5 @@
-use Rattle.std.proofs.Common.{◌≡◌, ℕ, zero, suc, ◌+◌, ◌-◌, ◌*◌, ◌/◌, ◌%◌, ◌^◌, ◌<◌, ◌≤◌, ◌≢◌, List, [], ◌∷◌, ◌++◌, length, get_or, set, take, drop, refl, sym, ◌∙◌, ap, subst, arith, append_assoc, length-append, length-set, length-take, length-drop, take-append-drop}
+use Rattle.std.proofs.Common.{◌≡◌, ℕ, zero, suc, ◌+◌, ◌-◌, ◌*◌, ◌/◌, ◌%◌, ◌^◌, ◌<◌, ◌≤◌, ◌≢◌, List, [], ◌∷◌, ◌++◌, length, get_or, set, take, drop, refl, sym}
+use Rattle.std.proofs.Common.{◌∙◌, ap, subst, arith, append_assoc, length-append, length-set, length-take, length-drop, take-append-drop}
 use Rattle.std.proofs.lemmas.Nat.{mod_below}
 use Rattle.std.proofs.lemmas.List.{get_or_push, get_or-set_same, get_or-set_other, drop_more, take_more, take-append-le}
 use Rattle.std.proofs.lemmas.List.Edits.{length-insert, get_or-insert_below}
@@ -24,7 +25,9 @@ pub record IsCircleFrom (next labels ps : List ℕ) (p : ℕ) (others : List ℕ
 pub AreBelow-step : (n x : ℕ) (xs : List ℕ) → AreBelow n (x ∷ xs) → AreBelow n (xs ++ x ∷ [])
 AreBelow-step n x xs b = AreBelow-push n xs x b.1 b.0
 
-pub circle_from : (next labels : List ℕ) (p : ℕ) → IsRing next labels → rank (walk next (length next) 0) p < length (walk next (length next) 0) → IsCircleFrom next labels (walk next (length next) 0) p (drop (suc (rank (walk next (length next) 0) p)) (walk next (length next) 0) ++ take (rank (walk next (length next) 0) p) (walk next (length next) 0))
+pub circle_from : (next labels : List ℕ) (p : ℕ) → IsRing next labels → rank (walk next (length next) 0) p < length (walk next (length next) 0)
+    → IsCircleFrom next labels (walk next (length next) 0) p (drop (suc (rank (walk next (length next) 0) p)) (walk next (length next) 0) ++ take
+    (rank (walk next (length next) 0) p) (walk next (length next) 0))
 circle_from next labels p ring l =
     let ps : List ℕ = walk next (length next) 0 in
     let n : length ps ≡ length next = length-walk next (length next) 0 in
@@ -65,7 +68,8 @@ split_reached qs j l m =
     }
 
 -- a successor that is far enough is there
-pub reached : (labels others : List ℕ) (p n : ℕ) → AreBelow circle labels → suc (length others) ≡ n → n < 2 ^ 30 → IsReached labels (label_of labels p) (others ++ p ∷ []) 1 (reach labels (label_of labels p) (others ++ p ∷ []) 1)
+pub reached : (labels others : List ℕ) (p n : ℕ) → AreBelow circle labels → suc (length others) ≡ n → n < 2 ^ 30
+    → IsReached labels (label_of labels p) (others ++ p ∷ []) 1 (reach labels (label_of labels p) (others ++ p ∷ []) 1)
 reached labels others p n low c few =
     let s : ahead (label_of labels p) (label_of labels p) ≡ circle = ahead_self (label_of labels p) (label_low labels p low) in
     let q : n * n ≤ 1073741824 * 1073741824 = square_le n 1073741824 (omega arith) in
@@ -79,7 +83,8 @@ pub record IsRelabelled (labels others : List ℕ) (p : ℕ) : Type 0 where
   pub low : AreBelow circle (labels_after labels (others ++ p ∷ []) p)
   pub count : length (labels_after labels (others ++ p ∷ []) p) ≡ suc (length labels)
 
-pub relabelled : (next labels ps : List ℕ) (p : ℕ) (others : List ℕ) → length labels ≡ length next → AreBelow circle labels → length next < 2 ^ 30 → IsCircleFrom next labels ps p others → IsRelabelled labels others p
+pub relabelled : (next labels ps : List ℕ) (p : ℕ) (others : List ℕ) → length labels ≡ length next → AreBelow circle labels → length next < 2 ^ 30
+    → IsCircleFrom next labels ps p others → IsRelabelled labels others p
 relabelled next labels ps p others same low few c =
     let a : ℕ = label_of labels p in
     let qs : List ℕ = others ++ p ∷ [] in
@@ -106,7 +111,8 @@ relabelled next labels ps p others same low few c =
       count = omega (arith, length-append room (((a + gap labels qs p / 2) % circle) ∷ []), length-spread labels front a (width labels a qs) j 1);
     }
 
-linked_new : (next others : List ℕ) (p : ℕ) → AreLinked next p (others ++ p ∷ []) → AreDistinct (p ∷ others) → AreBelow (length next) (p ∷ others) → AreLinked (set (next ++ get_or next p 0 ∷ []) p (length next)) p (length next ∷ (others ++ p ∷ []))
+linked_new : (next others : List ℕ) (p : ℕ) → AreLinked next p (others ++ p ∷ []) → AreDistinct (p ∷ others) → AreBelow (length next) (p ∷ others)
+    → AreLinked (set (next ++ get_or next p 0 ∷ []) p (length next)) p (length next ∷ (others ++ p ∷ []))
 linked_new next [] p k d b =
     let v : ℕ = get_or next p 0 in
     let lp : p < length next = b.0 in
@@ -117,8 +123,14 @@ linked_new next (q ∷ others) p k d b =
     let v : ℕ = get_or next p 0 in
     let lp : p < length next = b.0 in
     let ne : length next ≢ p = λ (e : length next ≡ p). omega arith in
-    let l : p < length (next ++ v ∷ []) = omega (arith, length-append next (v ∷ [])) in
-    (get_or-set_same (next ++ v ∷ []) p (length next) 0 l, (get_or-set_other (next ++ v ∷ []) p (length next) (length next) 0 ne ∙ (get_or_push next v 0 (length next) refl ∙ k.0), linked_kept next p v (length next) others q d.0 b.1 k.1))
+    let l : p < length (next ++ v ∷ []) = omega (arith, length-append next (v ∷ [])) in (
+      get_or-set_same (next ++ v ∷ []) p (length next) 0 l,
+      (
+        get_or-set_other (next ++ v ∷ []) p (length next) (length next) 0 ne
+            ∙ (get_or_push next v 0 (length next) refl ∙ k.0),
+        linked_kept next p v (length next) others q d.0 b.1 k.1,
+      ),
+    )
 
 round_walk : (next labels ys : List ℕ) → 0 < length ys → get_or ys 0 0 ≡ 0 → IsRound next labels ys → walk next (length ys) 0 ≡ ys
 round_walk next labels [] l h r = absurd (omega arith)
@@ -137,7 +149,9 @@ pub record IsDone (next labels : List ℕ) (p : ℕ) (next' labels' : List ℕ) 
   pub places : IsInsertedAfter (walk next (length next) 0) (walk next' (length next') 0) p (length next)
   pub gap : 2 ≤ gap labels (around (walk next (length next) 0) p) p
 
-pub done : (next labels : List ℕ) (p : ℕ) → IsRing next labels → rank (walk next (length next) 0) p < length (walk next (length next) 0) → length next < 2 ^ 30 → IsDone next labels p (set (next ++ get_or next p 0 ∷ []) p (length next)) (labels_after labels (around (walk next (length next) 0) p) p)
+pub done : (next labels : List ℕ) (p : ℕ) → IsRing next labels → rank (walk next (length next) 0) p < length (walk next (length next) 0)
+    → length next < 2 ^ 30 → IsDone next labels p (set (next ++ get_or next p 0 ∷ []) p (length next))
+    (labels_after labels (around (walk next (length next) 0) p) p)
 done next labels p ring l few =
     let ps : List ℕ = walk next (length next) 0 in
     let i : ℕ = rank ps p in

@@ -121,7 +121,8 @@ linked_push next [] r s p k e = (k.0, (e, tt))
 linked_push next (q ∷ qs) r s p k e = (k.0, linked_push next qs r s q k.1 e)
 
 -- the links behind a place that is put in behind p stay
-pub linked_kept : (next : List ℕ) (p v z : ℕ) (qs : List ℕ) (q : ℕ) → rank (q ∷ qs) p ≡ length (q ∷ qs) → AreBelow (length next) (q ∷ qs) → AreLinked next q (qs ++ p ∷ []) → AreLinked (set (next ++ v ∷ []) p z) q (qs ++ p ∷ [])
+pub linked_kept : (next : List ℕ) (p v z : ℕ) (qs : List ℕ) (q : ℕ) → rank (q ∷ qs) p ≡ length (q ∷ qs) → AreBelow (length next) (q ∷ qs)
+    → AreLinked next q (qs ++ p ∷ []) → AreLinked (set (next ++ v ∷ []) p z) q (qs ++ p ∷ [])
 linked_kept next p v z [] q f b k =
     let ne : q ≢ p = λ (e : q ≡ p). grind arith in
     (get_or-set_other (next ++ v ∷ []) p q z 0 ne ∙ (get_or_append_left next (v ∷ []) 0 q b.0 ∙ k.0), tt)

@@ -1,4 +1,5 @@
-use Rattle.std.proofs.Common.{◌≡◌, ℕ, zero, suc, ◌+◌, ◌-◌, ◌*◌, ◌/◌, ◌%◌, ◌<◌, ◌≤◌, ◌≢◌, List, [], ◌∷◌, ◌++◌, length, get_or, set, refl, sym, ◌∙◌, ap, ap₂, subst, ⊎_elim, arith, append_assoc, length-append, length-set}
+use Rattle.std.proofs.Common.{◌≡◌, ℕ, zero, suc, ◌+◌, ◌-◌, ◌*◌, ◌/◌, ◌%◌, ◌<◌, ◌≤◌, ◌≢◌, List, [], ◌∷◌, ◌++◌, length, get_or, set, refl, sym, ◌∙◌, ap, ap₂}
+use Rattle.std.proofs.Common.{subst, ⊎_elim, arith, append_assoc, length-append, length-set}
 use Rattle.std.proofs.lemmas.Bool.{cases_lt, lt-ltb, le-ltb}
 use Rattle.std.proofs.lemmas.Nat.{mod_below}
 use Rattle.std.proofs.lemmas.List.{get_or_append_left, get_or_push, get_or-set_same, get_or-set_other}
@@ -30,16 +31,20 @@ round_step next labels x (y ∷ ys) r =
     (linked_push next ys x y y r.0.1 r.0.0, t)
 
 -- a trip that is no more than once round is the way to its end
-pub trip_short : (labels : List ℕ) → AreBelow circle labels → (qs : List ℕ) (r p : ℕ) → trip labels p (qs ++ r ∷ []) ≤ circle → trip labels p (qs ++ r ∷ []) ≡ ahead (label_of labels p) (label_of labels r)
+pub trip_short : (labels : List ℕ) → AreBelow circle labels → (qs : List ℕ) (r p : ℕ) → trip labels p (qs ++ r ∷ []) ≤ circle
+    → trip labels p (qs ++ r ∷ []) ≡ ahead (label_of labels p) (label_of labels r)
 trip_short labels b [] r p l = omega arith
 trip_short labels b (q ∷ qs) r p l =
     let h : trip labels q (qs ++ r ∷ []) ≡ ahead (label_of labels q) (label_of labels r) = trip_short labels b qs r q (omega arith) in
     let k : ahead (label_of labels p) (label_of labels q) + ahead (label_of labels q) (label_of labels r) ≤ circle = omega arith in
-    let e : ahead (label_of labels p) (label_of labels q) + ahead (label_of labels q) (label_of labels r) ≡ ahead (label_of labels p) (label_of labels r) = ahead-ahead (label_of labels p) (label_of labels q) (label_of labels r) (label_low labels p b) (label_low labels q b) (label_low labels r b) k in
+    let e : ahead (label_of labels p) (label_of labels q) + ahead (label_of labels q) (label_of labels r) ≡ ahead (label_of labels p)
+    (label_of labels r) = ahead-ahead (label_of labels p) (label_of labels q) (label_of labels r) (label_low labels p b) (label_low labels q b)
+    (label_low labels r b) k in
     omega arith
 
 -- the trip is the same where the labels are
-pub trip_same : (labels labels' : List ℕ) (qs : List ℕ) (p : ℕ) → label_of labels' p ≡ label_of labels p → ((q : ℕ) → rank qs q < length qs → label_of labels' q ≡ label_of labels q) → trip labels' p qs ≡ trip labels p qs
+pub trip_same : (labels labels' : List ℕ) (qs : List ℕ) (p : ℕ) → label_of labels' p ≡ label_of labels p
+    → ((q : ℕ) → rank qs q < length qs → label_of labels' q ≡ label_of labels q) → trip labels' p qs ≡ trip labels p qs
 trip_same labels labels' [] p e h = refl
 trip_same labels labels' (q ∷ qs) p e h =
     let e' : label_of labels' q ≡ label_of labels q = h q (grind arith) in
@@ -93,7 +98,8 @@ length-spread labels (q ∷ qs) a w j k = length-spread (set labels q ((a + w * 
 
 pub spread_low : (labels : List ℕ) (qs : List ℕ) (a w j k : ℕ) → AreBelow circle labels → AreBelow circle (spread labels qs a w j k)
 spread_low labels [] a w j k b = b
-spread_low labels (q ∷ qs) a w j k b = spread_low (set labels q ((a + w * k / j) % circle)) qs a w j (suc k) (AreBelow-set circle labels q ((a + w * k / j) % circle) b (mod_below (a + w * k / j) circle circle_some))
+spread_low labels (q ∷ qs) a w j k b = spread_low (set labels q ((a + w * k / j) % circle)) qs a w j (suc k)
+    (AreBelow-set circle labels q ((a + w * k / j) % circle) b (mod_below (a + w * k / j) circle circle_some))
 
 pub spread_other : (labels : List ℕ) (qs : List ℕ) (a w j k q : ℕ) → rank qs q ≡ length qs → label_of (spread labels qs a w j k) q ≡ label_of labels q
 spread_other labels [] a w j k q e = refl
@@ -117,13 +123,15 @@ spread_done labels (q ∷ qs) a w j k d b =
       spread_done (set labels q v) qs a w j (suc k) d.1 (subst (λ (t : ℕ). AreBelow t qs) (sym n) b.1),
     )
 
-pub AreSpread-same : (labels labels' : List ℕ) (qs : List ℕ) (a w j k : ℕ) → ((q : ℕ) → rank qs q < length qs → label_of labels' q ≡ label_of labels q) → AreSpread labels qs a w j k → AreSpread labels' qs a w j k
+pub AreSpread-same : (labels labels' : List ℕ) (qs : List ℕ) (a w j k : ℕ)
+    → ((q : ℕ) → rank qs q < length qs → label_of labels' q ≡ label_of labels q) → AreSpread labels qs a w j k → AreSpread labels' qs a w j k
 AreSpread-same labels labels' [] a w j k h s = tt
 AreSpread-same labels labels' (q ∷ qs) a w j k h s =
     let h' : (r : ℕ) → rank qs r < length qs → label_of labels' r ≡ label_of labels r = λ (r : ℕ) (l : rank qs r < length qs). h r (grind arith) in
     (h q (grind arith) ∙ s.0, AreSpread-same labels labels' qs a w j (suc k) h' s.1)
 
-pub AreSpread-push : (labels : List ℕ) (qs : List ℕ) (r a w j k : ℕ) → 0 < j → k + length qs ≡ j → label_of labels r ≡ (a + w) % circle → AreSpread labels qs a w j k → AreSpread labels (qs ++ r ∷ []) a w j k
+pub AreSpread-push : (labels : List ℕ) (qs : List ℕ) (r a w j k : ℕ) → 0 < j → k + length qs ≡ j → label_of labels r ≡ (a + w) % circle
+    → AreSpread labels qs a w j k → AreSpread labels (qs ++ r ∷ []) a w j k
 AreSpread-push labels [] r a w j k l e h s =
     let e' : k ≡ j = omega arith in
     let f : w * k / j ≡ w = ap (λ (t : ℕ). w * t / j) e' ∙ share_all w j l in
@@ -131,7 +139,8 @@ AreSpread-push labels [] r a w j k l e h s =
 AreSpread-push labels (q ∷ qs) r a w j k l e h s = (s.0, AreSpread-push labels qs r a w j (suc k) l (omega arith) h s.1)
 
 -- the trip over the shares
-pub spread_trip : (labels : List ℕ) (a w j : ℕ) → a < circle → w ≤ circle → 0 < j → j ≤ w → (qs : List ℕ) (q p u k : ℕ) → k + length qs ≡ j → label_of labels p ≡ (a + u) % circle → u < w * k / j → AreSpread labels (q ∷ qs) a w j k → trip labels p (q ∷ qs) + u ≡ w
+pub spread_trip : (labels : List ℕ) (a w j : ℕ) → a < circle → w ≤ circle → 0 < j → j ≤ w → (qs : List ℕ) (q p u k : ℕ) → k + length qs ≡ j
+    → label_of labels p ≡ (a + u) % circle → u < w * k / j → AreSpread labels (q ∷ qs) a w j k → trip labels p (q ∷ qs) + u ≡ w
 spread_trip labels a w j la lw lj lj' [] q p u k e h l s =
     let e' : k ≡ j = omega arith in
     let f : w * k / j ≡ w = ap (λ (t : ℕ). w * t / j) e' ∙ share_all w j lj in
@@ -149,7 +158,8 @@ spread_head : (labels : List ℕ) (qs : List ℕ) (r : ℕ) (rs : List ℕ) (a w
 spread_head labels [] r rs a w j k s = s.0
 spread_head labels (q ∷ qs) r rs a w j k s = s.0
 
-trip_shares : (labels : List ℕ) (a w j : ℕ) → a < circle → w ≤ circle → 0 < j → j ≤ w → (qs : List ℕ) (r p u : ℕ) → suc (length qs) ≡ j → label_of labels p ≡ (a + u) % circle → u < w * 1 / j → AreSpread labels (qs ++ r ∷ []) a w j 1 → trip labels p (qs ++ r ∷ []) + u ≡ w
+trip_shares : (labels : List ℕ) (a w j : ℕ) → a < circle → w ≤ circle → 0 < j → j ≤ w → (qs : List ℕ) (r p u : ℕ) → suc (length qs) ≡ j
+    → label_of labels p ≡ (a + u) % circle → u < w * 1 / j → AreSpread labels (qs ++ r ∷ []) a w j 1 → trip labels p (qs ++ r ∷ []) + u ≡ w
 trip_shares labels a w j la lw lj lj' [] r p u e h l s = spread_trip labels a w j la lw lj lj' [] r p u 1 (omega arith) h l s
 trip_shares labels a w j la lw lj lj' (q ∷ qs) r p u e h l s =
     let n : length (qs ++ r ∷ []) ≡ length qs + 1 = length-append qs (r ∷ []) in
@@ -161,7 +171,8 @@ pub record IsSpread (labels : List ℕ) (qs : List ℕ) (r : ℕ) (rs : List ℕ
   pub round : trip (room ++ ((label_of labels p + g / 2) % circle) ∷ []) p (length labels ∷ (qs ++ r ∷ rs)) ≡ circle
 
 pub spreads : (labels : List ℕ) (qs : List ℕ) (r : ℕ) (rs : List ℕ) (p w j g : ℕ) (room : List ℕ) →
-    w ≡ ahead (label_of labels p) (label_of labels r) → j ≡ suc (length qs) → j * j < w → room ≡ spread labels qs (label_of labels p) w j 1 → g ≡ ahead (label_of labels p) (label_of room (get_or (qs ++ r ∷ rs) 0 0)) →
+    w ≡ ahead (label_of labels p) (label_of labels r) → j ≡ suc (length qs) → j * j < w → room ≡ spread labels qs (label_of labels p) w j 1
+    → g ≡ ahead (label_of labels p) (label_of room (get_or (qs ++ r ∷ rs) 0 0)) →
     AreBelow circle labels → AreDistinct (qs ++ r ∷ rs) → AreBelow (length labels) (qs ++ r ∷ rs) → rank qs p ≡ length qs → p < length labels → trip labels p (qs ++ r ∷ rs) ≡ circle →
     IsSpread labels qs r rs p room g
 spreads labels qs r rs p w j g room we je wide re ge low dist below np lp trip_is =
@@ -193,14 +204,16 @@ spreads labels qs r rs p w j g room we je wide re ge low dist below np lp trip_i
     let p' : label_of labels' p ≡ (a + 0) % circle = same' p lp ∙ (kept p np ∙ sym a0) in
     let z' : label_of labels' z ≡ (a + g / 2) % circle = get_or_push room v 0 z n in
     let below1 : AreBelow (length labels) (qs ++ r ∷ []) = AreBelow-left (length labels) (qs ++ r ∷ []) rs (subst (AreBelow (length labels)) (sym (append_assoc qs (r ∷ []) rs)) below) in
-    let s2 : AreSpread labels' (qs ++ r ∷ []) a w j 1 = AreSpread-same room labels' (qs ++ r ∷ []) a w j 1 (λ (q : ℕ) (l : rank (qs ++ r ∷ []) q < length (qs ++ r ∷ [])). same' q (AreBelow-rank (length labels) (qs ++ r ∷ []) q below1 l)) s1 in
+    let s2 : AreSpread labels' (qs ++ r ∷ []) a w j 1 = AreSpread-same room labels' (qs ++ r ∷ []) a w j 1
+    (λ (q : ℕ) (l : rank (qs ++ r ∷ []) q < length (qs ++ r ∷ [])). same' q (AreBelow-rank (length labels) (qs ++ r ∷ []) q below1 l)) s1 in
     let half : 0 < g / 2 = omega arith in
     let half' : g / 2 < w * 1 / j = omega arith in
     let t0 : ahead ((a + 0) % circle) ((a + g / 2) % circle) + 0 ≡ g / 2 = ahead_between a 0 (g / 2) la half (omega arith) in
     let t1 : ahead (label_of labels' p) (label_of labels' z) ≡ ahead ((a + 0) % circle) ((a + g / 2) % circle) = ap₂ (λ (x y : ℕ). ahead x y) p' z' in
     let t2 : trip labels' z (qs ++ r ∷ []) + g / 2 ≡ w = trip_shares labels' a w j la lw lj m.1 qs r z (g / 2) (omega arith) z' half' s2 in
     let below2 : AreBelow (length labels) (r ∷ rs) = AreBelow-right (length labels) qs (r ∷ rs) below in
-    let rest : (q : ℕ) → rank (r ∷ rs) q < length (r ∷ rs) → label_of labels' q ≡ label_of labels q = λ (q : ℕ) (l : rank (r ∷ rs) q < length (r ∷ rs)). same' q (AreBelow-rank (length labels) (r ∷ rs) q below2 l) ∙ in_rest q l in
+    let rest : (q : ℕ) → rank (r ∷ rs) q < length (r ∷ rs) → label_of labels' q ≡ label_of labels q =
+    λ (q : ℕ) (l : rank (r ∷ rs) q < length (r ∷ rs)). same' q (AreBelow-rank (length labels) (r ∷ rs) q below2 l) ∙ in_rest q l in
     let t3 : trip labels' r rs ≡ trip labels r rs = trip_same labels labels' rs r (rest r r_there) (λ (q : ℕ) (l : rank rs q < length rs). rest q (grind arith)) in
     let t4 : trip labels p (qs ++ r ∷ rs) ≡ trip labels p (qs ++ r ∷ []) + trip labels r rs = trip_split labels qs r rs p in
     let t5 : trip labels p (qs ++ r ∷ []) ≡ ahead a (label_of labels r) = trip_short labels low qs r p (omega arith) in

@@ -26,5 +26,6 @@ least labels a (q ∷ qs) k i l h =
 
 pub ahead_law : AheadLaw
 ahead_law a b l m =
-    let w : ((b + circle - a < circle) × ((b + circle - a) % circle ≡ b + circle - a)) ⊎ ((circle ≤ b + circle - a) × ((b + circle - a) % circle + circle ≡ b + circle - a)) = wrap_cases circle (b + circle - a) (omega arith) in
+    let w : ((b + circle - a < circle) × ((b + circle - a) % circle ≡ b + circle - a))
+    ⊎ ((circle ≤ b + circle - a) × ((b + circle - a) % circle + circle ≡ b + circle - a)) = wrap_cases circle (b + circle - a) (omega arith) in
     (λ (n : a ≡ b → ⊥). omega (arith, n, w, ahead_cases a b l), λ (e : a ≡ b). omega (arith, ahead_cases a b l))

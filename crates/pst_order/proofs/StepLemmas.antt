@@ -1,4 +1,5 @@
-use Rattle.std.proofs.Common.{◌≡◌, ℕ, zero, suc, ◌+◌, ◌-◌, ◌*◌, ◌/◌, ◌%◌, ◌^◌, ◌<◌, ◌≤◌, ◌≢◌, ◌↔◌, List, [], ◌∷◌, ◌++◌, length, get_or, set, slice_get, take, drop, Some, None, ◌⊎◌, inl, inr, refl, sym, ◌∙◌, ap, ap₂, subst, ⊎_elim, arith, length-append, length-take}
+use Rattle.std.proofs.Common.{◌≡◌, ℕ, zero, suc, ◌+◌, ◌-◌, ◌*◌, ◌/◌, ◌%◌, ◌^◌, ◌<◌, ◌≤◌, ◌≢◌, ◌↔◌, List, [], ◌∷◌, ◌++◌, length, get_or, set, slice_get, take}
+use Rattle.std.proofs.Common.{drop, Some, None, ◌⊎◌, inl, inr, refl, sym, ◌∙◌, ap, ap₂, subst, ⊎_elim, arith, length-append, length-take}
 use Rattle.std.proofs.lemmas.Bool.{cases_lt, cases_eq, lt-ltb, le-ltb}
 use Rattle.std.proofs.lemmas.Option.{slice_get-get_or, slice_get_past}
 use Rattle.std.proofs.lemmas.List.{get_or_append_left, get_or_push, drop_more, get_or-take}
@@ -83,7 +84,9 @@ last_next next labels (suc n) i r e =
     let j : get_or ((0 ∷ rest) ++ 0 ∷ []) i 0 ≡ get_or (0 ∷ rest) i 0 = get_or_append_left (0 ∷ rest) (0 ∷ []) 0 i (omega arith) in
     subst (λ (t : ℕ). get_or next t 0 ≡ get_or (rest ++ 0 ∷ []) i 0) j k ∙ g
 
-pub follows_is : (next labels : List ℕ) (a b : ℕ) → IsRing next labels → rank (walk next (length next) 0) a < length (walk next (length next) 0) → rank (walk next (length next) 0) b < length (walk next (length next) 0) → b ≢ 0 → (get_or next a 0 ≡ b) ↔ (rank (walk next (length next) 0) b ≡ suc (rank (walk next (length next) 0) a))
+pub follows_is : (next labels : List ℕ) (a b : ℕ) → IsRing next labels → rank (walk next (length next) 0) a < length (walk next (length next) 0)
+    → rank (walk next (length next) 0) b < length (walk next (length next) 0) → b ≢ 0
+    → (get_or next a 0 ≡ b) ↔ (rank (walk next (length next) 0) b ≡ suc (rank (walk next (length next) 0) a))
 follows_is next labels a b ring la lb ne =
     let ps : List ℕ = walk next (length next) 0 in
     let n : length ps ≡ length next = length-walk next (length next) 0 in
@@ -112,13 +115,21 @@ next_is next labels a ring la =
     let n : length ps ≡ length next = length-walk next (length next) 0 in
     let at_a : get_or ps (rank ps a) 0 ≡ a = get-rank ps a la in
     ⊎_elim
-    (λ (u : suc (rank ps a) ≡ length next). inl (subst (λ (t : ℕ). get_or next t 0 ≡ 0) at_a (last_next next labels (length next) (rank ps a) ring.round u), slice_get_past ps (suc (rank ps a)) (omega arith)))
+    (λ (u : suc (rank ps a) ≡ length next). inl (
+      subst (λ (t : ℕ). get_or next t 0 ≡ 0) at_a
+          (last_next next labels (length next) (rank ps a) ring.round u),
+      slice_get_past ps (suc (rank ps a)) (omega arith),
+    ))
     (λ (u : suc (rank ps a) ≡ length next → ⊥).
     let l : suc (rank ps a) < length next = omega (arith, u) in
     let e : get_or ps (suc (rank ps a)) 0 ≡ get_or next a 0 = walk_step next (length next) 0 (rank ps a) l ∙ ap (λ (t : ℕ). get_or next t 0) at_a in
     let r : rank ps (get_or ps (suc (rank ps a)) 0) ≡ suc (rank ps a) = rank-get ps (suc (rank ps a)) ring.numbered.distinct (omega arith) in
     let f : rank ps 0 ≡ 0 = first_rank next (length next) (omega arith) in
-    inr (λ (z : get_or next a 0 ≡ 0). let same : rank ps (get_or ps (suc (rank ps a)) 0) ≡ rank ps 0 = ap (rank ps) (e ∙ z) in absurd (omega (arith, same, r, f)), slice_get-get_or ps (suc (rank ps a)) 0 (omega arith) ∙ ap Some e))
+    inr (
+      λ (z : get_or next a 0 ≡ 0). let same : rank ps (get_or ps (suc (rank ps a)) 0) ≡ rank ps 0 = ap (rank ps) (e ∙ z) in
+          absurd (omega (arith, same, r, f)),
+      slice_get-get_or ps (suc (rank ps a)) 0 (omega arith) ∙ ap Some e,
+    ))
     (cases_eq (suc (rank ps a)) (length next))
 
 pub reach_from : (labels : List ℕ) (a : ℕ) (qs : List ℕ) (k : ℕ) → k ≤ reach labels a qs k
@@ -126,7 +137,8 @@ reach_from labels a [] k = omega arith
 reach_from labels a (q ∷ qs) k =
     ⊎_elim
     (λ (h : k * k < ahead a (label_of labels q)). let e : reach labels a (q ∷ qs) k ≡ k = rw (lt-ltb (k * k) (ahead a (label_of labels q)) h) refl in omega arith)
-    (λ (h : ahead a (label_of labels q) ≤ k * k). let e : reach labels a (q ∷ qs) k ≡ reach labels a qs (suc k) = rw (le-ltb (k * k) (ahead a (label_of labels q)) h) refl in let r : suc k ≤ reach labels a qs (suc k) = reach_from labels a qs (suc k) in omega arith)
+    (λ (h : ahead a (label_of labels q) ≤ k * k). let e : reach labels a (q ∷ qs) k ≡ reach labels a qs (suc k) =
+    rw (le-ltb (k * k) (ahead a (label_of labels q)) h) refl in let r : suc k ≤ reach labels a qs (suc k) = reach_from labels a qs (suc k) in omega arith)
     (cases_lt (k * k) (ahead a (label_of labels q)))
 
 -- one step of the search for room
@@ -134,7 +146,8 @@ pub record IsSearched (labels : List ℕ) (a : ℕ) (qs : List ℕ) (s : ℕ) : 
   pub rest : reach labels a (drop ((s + 1) - 1) qs) (s + 1) ≡ reach labels a qs 1
   pub within : s + 1 ≤ reach labels a qs 1
 
-pub search_on : (labels : List ℕ) (a : ℕ) (qs : List ℕ) (s q w : ℕ) → 1 ≤ s → s ≤ length qs → reach labels a (drop (s - 1) qs) s ≡ reach labels a qs 1 → q ≡ get_or qs (s - 1) 0 → w ≡ ahead a (label_of labels q) → w ≤ s * s → IsSearched labels a qs s
+pub search_on : (labels : List ℕ) (a : ℕ) (qs : List ℕ) (s q w : ℕ) → 1 ≤ s → s ≤ length qs → reach labels a (drop (s - 1) qs) s ≡ reach labels a qs 1
+    → q ≡ get_or qs (s - 1) 0 → w ≡ ahead a (label_of labels q) → w ≤ s * s → IsSearched labels a qs s
 search_on labels a qs s q w l m r e we h =
     let d : drop (s - 1) qs ≡ get_or qs (s - 1) 0 ∷ drop ((s - 1) + 1) qs = drop_more qs (s - 1) 0 (omega arith) in
     let i : (s - 1) + 1 ≡ (s + 1) - 1 = omega arith in
@@ -146,7 +159,8 @@ search_on labels a qs s q w l m r e we h =
     ap (λ (t : ℕ). reach labels a (drop ((s + 1) - 1) qs) t) (sym n) ∙ (sym f ∙ (ap (λ (t : List ℕ). reach labels a t s) (sym d') ∙ r)) in
     record { rest = g; within = omega (arith, reach_from labels a (drop ((s + 1) - 1) qs) (s + 1)) }
 
-pub search_end : (labels : List ℕ) (a : ℕ) (qs : List ℕ) (s q w : ℕ) → 1 ≤ s → s ≤ length qs → reach labels a (drop (s - 1) qs) s ≡ reach labels a qs 1 → q ≡ get_or qs (s - 1) 0 → w ≡ ahead a (label_of labels q) → s * s < w → s ≡ reach labels a qs 1
+pub search_end : (labels : List ℕ) (a : ℕ) (qs : List ℕ) (s q w : ℕ) → 1 ≤ s → s ≤ length qs
+    → reach labels a (drop (s - 1) qs) s ≡ reach labels a qs 1 → q ≡ get_or qs (s - 1) 0 → w ≡ ahead a (label_of labels q) → s * s < w → s ≡ reach labels a qs 1
 search_end labels a qs s q w l m r e we h =
     let d : drop (s - 1) qs ≡ get_or qs (s - 1) 0 ∷ drop ((s - 1) + 1) qs = drop_more qs (s - 1) 0 (omega arith) in
     let d' : drop (s - 1) qs ≡ q ∷ drop ((s - 1) + 1) qs = d ∙ ap (λ (x : ℕ). x ∷ drop ((s - 1) + 1) qs) (sym e) in
@@ -168,7 +182,8 @@ pub head_is : (next : List ℕ) (n p : ℕ) → 0 < n → p ≡ get_or (walk nex
 head_is next n p l = sym (walk_head next n p l)
 
 -- one step of the labelling
-pub share_step : (labels qs : List ℕ) (a w j k at v : ℕ) → 1 ≤ k → k < j → j ≤ length qs → at ≡ get_or qs (k - 1) 0 → v ≡ (a + w * k / j) % circle → spread (set labels at v) (drop ((k + 1) - 1) (take (j - 1) qs)) a w j (k + 1) ≡ spread labels (drop (k - 1) (take (j - 1) qs)) a w j k
+pub share_step : (labels qs : List ℕ) (a w j k at v : ℕ) → 1 ≤ k → k < j → j ≤ length qs → at ≡ get_or qs (k - 1) 0 → v ≡ (a + w * k / j) % circle
+    → spread (set labels at v) (drop ((k + 1) - 1) (take (j - 1) qs)) a w j (k + 1) ≡ spread labels (drop (k - 1) (take (j - 1) qs)) a w j k
 share_step labels qs a w j k at v l m n e f =
     let t : List ℕ = take (j - 1) qs in
     let d : drop (k - 1) t ≡ get_or t (k - 1) 0 ∷ drop ((k - 1) + 1) t = drop_more t (k - 1) 0 (omega (arith, length-take (j - 1) qs)) in
@@ -183,7 +198,8 @@ few_is next labels now e l =
     let h : length (walk next (length next) 0) < 2 ^ 30 = subst (λ (s : Labelled). length s.places < 2 ^ 30) (sym e) l in
     omega (arith, length-walk next (length next) 0)
 
-pub found_is : (next labels : List ℕ) (p : ℕ) → IsRing next labels → rank (walk next (length next) 0) p < length (walk next (length next) 0) → length next < 2 ^ 30 → reach labels (label_of labels p) (walk next (length next) (get_or next p 0)) 1 ≤ length next
+pub found_is : (next labels : List ℕ) (p : ℕ) → IsRing next labels → rank (walk next (length next) 0) p < length (walk next (length next) 0)
+    → length next < 2 ^ 30 → reach labels (label_of labels p) (walk next (length next) (get_or next p 0)) 1 ≤ length next
 found_is next labels p ring l few =
     let ps : List ℕ = walk next (length next) 0 in
     let others : List ℕ = drop (suc (rank ps p)) ps ++ take (rank ps p) ps in
@@ -192,7 +208,8 @@ found_is next labels p ring l few =
     let s : reach labels (label_of labels p) (others ++ p ∷ []) 1 ≤ length next = omega (arith, r.there, c.count, length-append others (p ∷ [])) in
     subst (λ (qs : List ℕ). reach labels (label_of labels p) qs 1 ≤ length next) (sym c.walk_is) s
 
-pub same_around : (next labels : List ℕ) (p : ℕ) → IsRing next labels → rank (walk next (length next) 0) p < length (walk next (length next) 0) → walk next (length next) (get_or next p 0) ≡ around (walk next (length next) 0) p
+pub same_around : (next labels : List ℕ) (p : ℕ) → IsRing next labels → rank (walk next (length next) 0) p < length (walk next (length next) 0)
+    → walk next (length next) (get_or next p 0) ≡ around (walk next (length next) 0) p
 same_around next labels p ring l = (circle_from next labels p ring l).walk_is
 
 -- what the body of insertion has made
@@ -207,17 +224,24 @@ pub record IsAllDone (now : Labelled) (p : ℕ) (next' labels' : List ℕ) (fres
   pub places : IsInsertedAfter now.places (walk next' (length next') 0) p fresh
   pub labels : labels' ≡ labels_after now.labels (around now.places p) p
 
-pub all_done : {spare : ℕ} (next labels : List ℕ) (now : Labelled) (p behind fresh label : ℕ) (room next' labels' : List ℕ) → seen_of next labels spare ≡ now → IsRing next labels → IsIn now.places p → length now.places < 2 ^ 30 → IsMade next labels p behind fresh label room → next' ≡ next ++ behind ∷ [] → labels' ≡ room ++ label ∷ [] → IsAllDone now p (set next' p fresh) labels' fresh
+pub all_done : {spare : ℕ} (next labels : List ℕ) (now : Labelled) (p behind fresh label : ℕ) (room next' labels' : List ℕ)
+    → seen_of next labels spare ≡ now → IsRing next labels → IsIn now.places p → length now.places < 2 ^ 30
+    → IsMade next labels p behind fresh label room → next' ≡ next ++ behind ∷ [] → labels' ≡ room ++ label ∷ []
+    → IsAllDone now p (set next' p fresh) labels' fresh
 all_done next labels now p behind fresh label room next' labels' e ring h few m en el =
     let l : rank (walk next (length next) 0) p < length (walk next (length next) 0) = seen next labels now p e h in
     let w : walk next (length next) (get_or next p 0) ≡ around (walk next (length next) 0) p = same_around next labels p ring l in
-    let d : IsDone next labels p (set (next ++ get_or next p 0 ∷ []) p (length next)) (labels_after labels (around (walk next (length next) 0) p) p) = done next labels p ring l (few_is next labels now e few) in
+    let d : IsDone next labels p (set (next ++ get_or next p 0 ∷ []) p (length next)) (labels_after labels (around (walk next (length next) 0) p) p) =
+    done next labels p ring l (few_is next labels now e few) in
     let en' : set next' p fresh ≡ set (next ++ get_or next p 0 ∷ []) p (length next) = ap₂ (λ (t : List ℕ) (z : ℕ). set t p z) (en ∙ ap (λ (v : ℕ). next ++ v ∷ []) m.behind_is) m.fresh_is in
     let el' : labels' ≡ labels_after labels (walk next (length next) (get_or next p 0)) p = el ∙ ap₂ (λ (t : List ℕ) (v : ℕ). t ++ v ∷ []) m.room_is m.label_is in
     let el'' : labels' ≡ labels_after labels (around (walk next (length next) 0) p) p = el' ∙ ap (λ (qs : List ℕ). labels_after labels qs p) w in
-    let r : IsRing (set next' p fresh) labels' = subst (λ (t : List ℕ). IsRing (set next' p fresh) t) (sym el'') (subst (λ (t : List ℕ). IsRing t (labels_after labels (around (walk next (length next) 0) p) p)) (sym en') d.ring) in
-    let q : IsInsertedAfter (walk next (length next) 0) (walk (set next' p fresh) (length (set next' p fresh)) 0) p (length next) = subst (λ (t : List ℕ). IsInsertedAfter (walk next (length next) 0) (walk t (length t) 0) p (length next)) (sym en') d.places in
-    let q' : IsInsertedAfter (walk next (length next) 0) (walk (set next' p fresh) (length (set next' p fresh)) 0) p fresh = subst (λ (z : ℕ). IsInsertedAfter (walk next (length next) 0) (walk (set next' p fresh) (length (set next' p fresh)) 0) p z) (sym m.fresh_is) q in
+    let r : IsRing (set next' p fresh) labels' = subst (λ (t : List ℕ). IsRing (set next' p fresh) t) (sym el'')
+    (subst (λ (t : List ℕ). IsRing t (labels_after labels (around (walk next (length next) 0) p) p)) (sym en') d.ring) in
+    let q : IsInsertedAfter (walk next (length next) 0) (walk (set next' p fresh) (length (set next' p fresh)) 0) p (length next) =
+    subst (λ (t : List ℕ). IsInsertedAfter (walk next (length next) 0) (walk t (length t) 0) p (length next)) (sym en') d.places in
+    let q' : IsInsertedAfter (walk next (length next) 0) (walk (set next' p fresh) (length (set next' p fresh)) 0) p fresh =
+    subst (λ (z : ℕ). IsInsertedAfter (walk next (length next) 0) (walk (set next' p fresh) (length (set next' p fresh)) 0) p z) (sym m.fresh_is) q in
     record {
       ring = r;
       places = subst (λ (s : Labelled). IsInsertedAfter s.places (walk (set next' p fresh) (length (set next' p fresh)) 0) p fresh) e q';
@@ -233,7 +257,9 @@ pub found_there : {spare : ℕ} (next labels : List ℕ) (now : Labelled) (p : �
 found_there next labels now p e ring h few =
     let l : rank (walk next (length next) 0) p < length (walk next (length next) 0) = seen next labels now p e h in
     let w : walk next (length next) (get_or next p 0) ≡ around (walk next (length next) 0) p = same_around next labels p ring l in
-    let d : IsDone next labels p (set (next ++ get_or next p 0 ∷ []) p (length next)) (labels_after labels (around (walk next (length next) 0) p) p) = done next labels p ring l (few_is next labels now e few) in
+    let d : IsDone next labels p (set (next ++ get_or next p 0 ∷ []) p (length next)) (labels_after labels (around (walk next (length next) 0) p) p) =
+    done next labels p ring l (few_is next labels now e few) in
     let r : reach labels (label_of labels p) (walk next (length next) (get_or next p 0)) 1 ≤ length next = found_is next labels p ring l (few_is next labels now e few) in
-    let s : reach labels (label_of labels p) (around (walk next (length next) 0) p) 1 ≤ length (walk next (length next) 0) = omega (arith, length-walk next (length next) 0, subst (λ (qs : List ℕ). reach labels (label_of labels p) qs 1 ≤ length next) w r) in
+    let s : reach labels (label_of labels p) (around (walk next (length next) 0) p) 1 ≤ length (walk next (length next) 0) =
+    omega (arith, length-walk next (length next) 0, subst (λ (qs : List ℕ). reach labels (label_of labels p) qs 1 ≤ length next) w r) in
     subst (λ (t : Labelled). IsFound t p) e (record { found = s; gap = d.gap })

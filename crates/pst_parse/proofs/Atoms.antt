@@ -1,30 +1,24 @@
 -- What is kept of tokens is to the grammar what they are.
-use Rattle.std.specs.Prelude.{◌≡◌, ℕ, List, [], ◌∷◌, ◌++◌, length, take, drop, Option, Some, None}
+use Rattle.std.specs.Prelude.{◌≡◌, ℕ, List, [], ◌∷◌, ◌++◌, length, take, drop}
 use Rattle.std.proofs.Common.{refl, sym, ap, ◌∙◌}
 use Rattle.std.proofs.Math.Seq.{drop-append_seam}
 use Rattle.std.proofs.lemmas.List.{drop-map, take-append-drop}
 use Rattle.pst_lex.specs.declared.types.Token.{Token}
 use Rattle.pst_lex.specs.declared.types.TokenKind.{TokenKind}
 use Rattle.pst_lex.specs.declared.types.TokenKind.TheVariants as kind
-use Rattle.pst_lex.specs.declared.words.Mark.{Mark}
 use Rattle.pst_lex.specs.Words as word
-use Rattle.pst_lex.specs.Words.{Word, word_of, fixed, keyword_of, symbol_of}
-use Rattle.pst_grammar.specs.Lexemes.{lexeme_in, lexemes, marked_if}
+use Rattle.pst_lex.specs.Words.{Word, word_of}
+use Rattle.pst_grammar.specs.Lexemes.{lexeme_in, lexemes}
 use Rattle.pst_grammar.specs.Grammar.{line_at}
 use Rattle.pst_grammar.specs.Reader.{Bad, Fault}
 use Rattle.pst_grammar.specs.Declarations.{reading_program}
 use Rattle.pst_parse_expressions.specs.View.{atom_line, atom_of, atom_on, atoms_of, lexeme_of, lexemes_of}
 use Rattle.pst_parse.specs.Answers.{StopsOn, first_line}
 
-same_mark : (line : ℕ) (m : Option Mark) → lexeme_of (atom_on line (fixed m)) ≡ marked_if line m
-same_mark line None = refl
-same_mark line (Some m) = refl
-
 same_in : (line : ℕ) (k : TokenKind) → lexeme_of (atom_on line (word_of k)) ≡ lexeme_in line k
 same_in line (kind.Name x) = refl
 same_in line (kind.Number v) = refl
-same_in line (kind.Keyword n) = same_mark line (keyword_of n)
-same_in line (kind.Symbol n) = same_mark line (symbol_of n)
+same_in line (kind.Mark m) = refl
 
 pub same_lexemes : (ts : List Token) → lexemes_of (atoms_of ts) ≡ lexemes ts
 same_lexemes [] = refl
@@ -34,7 +28,6 @@ same_line : (line : ℕ) (w : Word) → atom_line (atom_on line w) ≡ line
 same_line line (word.Name x) = refl
 same_line line (word.Number v) = refl
 same_line line (word.Fixed m) = refl
-same_line line word.Unknown = refl
 
 same_first : (end : ℕ) (ts : List Token) → first_line end (atoms_of ts) ≡ line_at end ts
 same_first end [] = refl

@@ -84,7 +84,8 @@ opens_plain : (w : Window) (tokens : List Atom) (end : ℕ) → HasRoom w → Ah
 opens_plain w tokens end room (behind, is, lexed) other =
     let window = w.tokens.items in
     let whole : lexemes_of tokens ≡ lexemes_of window ++ lexemes_of behind = ap lexemes_of is ∙ map-append lexeme_of window behind in
-    let none : lexemes_of window ≡ [] → lexemes_of behind ≡ [] = λ e. let gone : length (lexemes_of window) ≡ 0 = ap length e in ap lexemes_of (room_behind w behind end room (omega (arith, gone, length-map window lexeme_of)) lexed) in
+    let none : lexemes_of window ≡ [] → lexemes_of behind ≡ [] = λ e. let gone : length (lexemes_of window) ≡ 0 = ap length e in
+    ap lexemes_of (room_behind w behind end room (omega (arith, gone, length-map window lexeme_of)) lexed) in
     ap (reading_program 63 15) whole ∙ otherwise (lexemes_of window ++ lexemes_of behind) (otherwise_on (lexemes_of window) (lexemes_of behind) other none)
     ∙ ap (declarations 1 63 15) (sym whole ∙ ap lexemes_of (sym (ap (λ k. drop k tokens) (same (length window)))))
   where
@@ -94,11 +95,13 @@ opens_plain w tokens end room (behind, is, lexed) other =
 pub opens_first : (w : Window) (tokens window : List Atom) (end : ℕ) → HasRoom w → Ahead w tokens end → window ≡ w.tokens.items → BeginsOtherwise (lexemes_of window) →
     (length window ≤ length w.tokens.items) × (reading_program 63 15 (lexemes_of tokens) ≡ declarations 1 63 15 (lexemes_of (drop (length w.tokens.items - length window) tokens)))
 opens_first w tokens window end room ahead e other =
-    subst (λ (x : List Atom). (length x ≤ length w.tokens.items) × (reading_program 63 15 (lexemes_of tokens) ≡ declarations 1 63 15 (lexemes_of (drop (length w.tokens.items - length x) tokens)))) (sym e)
+    subst (λ (x : List Atom). (length x ≤ length w.tokens.items)
+    × (reading_program 63 15 (lexemes_of tokens) ≡ declarations 1 63 15 (lexemes_of (drop (length w.tokens.items - length x) tokens)))) (sym e)
     (omega arith, opens_plain w tokens end room ahead (subst (λ (x : List Atom). BeginsOtherwise (lexemes_of x)) e other))
 
 -- a program of language 2
-pub opens_second : (w : Window) (tokens rest behind_two : List Atom) (end : ℕ) → Ahead w tokens end → BeginsWithWord (lexemes_of w.tokens.items) (lexemes_of rest) → two (lexemes_of rest) ≡ Got tt (lexemes_of behind_two) →
+pub opens_second : (w : Window) (tokens rest behind_two : List Atom) (end : ℕ) → Ahead w tokens end
+    → BeginsWithWord (lexemes_of w.tokens.items) (lexemes_of rest) → two (lexemes_of rest) ≡ Got tt (lexemes_of behind_two) →
     (length behind_two ≤ length w.tokens.items) × (reading_program 63 15 (lexemes_of tokens) ≡ declarations 2 63 15 (lexemes_of (drop (length w.tokens.items - length behind_two) tokens)))
 opens_second w tokens rest behind_two end (behind, is, lexed) begins e =
     let window = w.tokens.items in
@@ -107,19 +110,23 @@ opens_second w tokens rest behind_two end (behind, is, lexed) begins e =
     let (read, (front, parts)) = two_on (lexemes_of rest) (lexemes_of behind_two) (lexemes_of behind) e in
     let at : lexemes_of window ≡ (t ∷ front) ++ lexemes_of behind_two = first ∙ ap (λ x. t ∷ x) parts in
     let there : lexemes_of (drop (length window - length behind_two) tokens) ≡ lexemes_of behind_two ++ lexemes_of behind =
-    ap lexemes_of (last_behind window tokens behind (length behind_two) is) ∙ map-append lexeme_of (last (length behind_two) window) behind ∙ ap (λ x. x ++ lexemes_of behind) (last_same window behind_two (t ∷ front) at) in (
+    ap lexemes_of (last_behind window tokens behind (length behind_two) is) ∙ map-append lexeme_of (last (length behind_two) window) behind
+    ∙ ap (λ x. x ++ lexemes_of behind) (last_same window behind_two (t ∷ front) at) in (
       last_within window behind_two (t ∷ front) at,
-      ap (reading_program 63 15) whole ∙ with_word (lexemes_of window) (lexemes_of rest) (lexemes_of behind) begins ∙ ap (λ r. and_then r (λ _. declarations 2 63 15)) read ∙ ap (declarations 2 63 15) (sym there),
+      ap (reading_program 63 15) whole ∙ with_word (lexemes_of window) (lexemes_of rest) (lexemes_of behind) begins
+          ∙ ap (λ r. and_then r (λ _. declarations 2 63 15)) read ∙ ap (declarations 2 63 15) (sym there),
     )
 
 -- the place of a fault there is in the window
-pub place_in : (w : Window) (rest place : List Atom) → BeginsWithWord (lexemes_of w.tokens.items) (lexemes_of rest) → two (lexemes_of rest) ≡ Bad Unexpected (lexemes_of place) → length place ≤ length w.tokens.items
+pub place_in : (w : Window) (rest place : List Atom) → BeginsWithWord (lexemes_of w.tokens.items) (lexemes_of rest)
+    → two (lexemes_of rest) ≡ Bad Unexpected (lexemes_of place) → length place ≤ length w.tokens.items
 place_in w rest place begins e =
     let (t, first) = word_first (lexemes_of w.tokens.items) (lexemes_of rest) begins in
     last_within w.tokens.items place (t ∷ []) (first ∙ ap (λ x. t ∷ x) (two_not (lexemes_of rest) (lexemes_of place) e).0)
 
 -- the end stands there
-pub opens_ended : (w : Window) (tokens rest place : List Atom) (end line : ℕ) → HasRoom w → Ahead w tokens end → BeginsWithWord (lexemes_of w.tokens.items) (lexemes_of rest) → two (lexemes_of rest) ≡ Bad Unexpected (lexemes_of place) →
+pub opens_ended : (w : Window) (tokens rest place : List Atom) (end line : ℕ) → HasRoom w → Ahead w tokens end
+    → BeginsWithWord (lexemes_of w.tokens.items) (lexemes_of rest) → two (lexemes_of rest) ≡ Bad Unexpected (lexemes_of place) →
     length place ≡ 0 → EndsOn line w → StopsOn Unexpected line (reading_program 63 15 (lexemes_of tokens)) tokens end
 opens_ended w tokens rest (k ∷ place) end line room ahead begins e none ends = absurd (omega arith)
 opens_ended w tokens rest [] end line (inr enough) ahead begins e none ends =
@@ -128,16 +135,19 @@ opens_ended w tokens rest [] end line (inr enough) ahead begins e none ends =
     absurd (omega (arith, enough, long, length-map w.tokens.items lexeme_of))
 opens_ended w tokens rest [] end line (inl over) (behind, is, lexed) begins e none ends =
     let window = w.tokens.items in
-    let whole : lexemes_of tokens ≡ lexemes_of window ++ [] = ap lexemes_of is ∙ map-append lexeme_of window behind ∙ ap (λ x. lexemes_of window ++ lexemes_of x) (none_behind w behind end over lexed) in (
+    let whole : lexemes_of tokens ≡ lexemes_of window ++ [] = ap lexemes_of is ∙ map-append lexeme_of window behind
+    ∙ ap (λ x. lexemes_of window ++ lexemes_of x) (none_behind w behind end over lexed) in (
       tokens,
       [],
       sym (append-nil tokens),
-      ap (reading_program 63 15) whole ∙ with_word (lexemes_of window) (lexemes_of rest) [] begins ∙ ap (second 63 15) (append-nil (lexemes_of rest)) ∙ ap (λ r. and_then r (λ _. declarations 2 63 15)) e,
+      ap (reading_program 63 15) whole ∙ with_word (lexemes_of window) (lexemes_of rest) [] begins ∙ ap (second 63 15) (append-nil (lexemes_of rest))
+          ∙ ap (λ r. and_then r (λ _. declarations 2 63 15)) e,
       sym (ends over tokens end (behind, is, lexed)),
     )
 
 -- another token stands there
-pub opens_wrong : (w : Window) (tokens rest place : List Atom) (end line : ℕ) → Ahead w tokens end → BeginsWithWord (lexemes_of w.tokens.items) (lexemes_of rest) → two (lexemes_of rest) ≡ Bad Unexpected (lexemes_of place) →
+pub opens_wrong : (w : Window) (tokens rest place : List Atom) (end line : ℕ) → Ahead w tokens end
+    → BeginsWithWord (lexemes_of w.tokens.items) (lexemes_of rest) → two (lexemes_of rest) ≡ Bad Unexpected (lexemes_of place) →
     0 < length place → StandsOn line w.tokens.items (length place) → StopsOn Unexpected line (reading_program 63 15 (lexemes_of tokens)) tokens end
 opens_wrong w tokens rest [] end line ahead begins e some on = absurd (omega arith)
 opens_wrong w tokens rest (k ∷ place) end line (behind, is, lexed) begins e some (t, others, at, on) =
@@ -148,10 +158,12 @@ opens_wrong w tokens rest (k ∷ place) end line (behind, is, lexed) begins e so
     let there = last_same window (k ∷ place) (first ∷ []) (parts ∙ ap (λ x. first ∷ x) same) in
     let whole : lexemes_of tokens ≡ lexemes_of window ++ lexemes_of behind = ap lexemes_of is ∙ map-append lexeme_of window behind in
     let ended : last left window ++ behind ≡ t ∷ (others ++ behind) = ap (λ x. x ++ behind) at in
-    let shown : lexemes_of (k ∷ place) ++ lexemes_of behind ≡ lexemes_of (t ∷ (others ++ behind)) = ap (λ x. x ++ lexemes_of behind) (sym there) ∙ sym (map-append lexeme_of (last left window) behind) ∙ ap lexemes_of ended in (
+    let shown : lexemes_of (k ∷ place) ++ lexemes_of behind ≡ lexemes_of (t ∷ (others ++ behind)) = ap (λ x. x ++ lexemes_of behind) (sym there)
+    ∙ sym (map-append lexeme_of (last left window) behind) ∙ ap lexemes_of ended in (
       take (length window - left) window,
       t ∷ (others ++ behind),
-      is ∙ ap (λ x. x ++ behind) (sym (take-append-drop (length window - left) window)) ∙ append_assoc (take (length window - left) window) (last left window) behind ∙ ap (λ x. take (length window - left) window ++ x) ended,
+      is ∙ ap (λ x. x ++ behind) (sym (take-append-drop (length window - left) window))
+          ∙ append_assoc (take (length window - left) window) (last left window) behind ∙ ap (λ x. take (length window - left) window ++ x) ended,
       ap (reading_program 63 15) whole ∙ with_word (lexemes_of window) (lexemes_of rest) (lexemes_of behind) begins
           ∙ ap (λ r. and_then r (λ _. declarations 2 63 15)) (wrong (lexeme_of k) (lexemes_of place) (lexemes_of behind) refl) ∙ ap (Bad Unexpected) shown,
       on,
@@ -160,7 +172,8 @@ opens_wrong w tokens rest (k ∷ place) end line (behind, is, lexed) begins e so
 -- ---- the program as a whole
 
 -- what is left of the tokens is ahead where the window keeps so many
-pub kept_behind : (w kept : Window) (tokens : List Atom) (left end : ℕ) → Ahead w tokens end → kept.tokens.items ≡ last left w.tokens.items → kept.lexer ≡ w.lexer → Ahead kept (drop (length w.tokens.items - left) tokens) end
+pub kept_behind : (w kept : Window) (tokens : List Atom) (left end : ℕ) → Ahead w tokens end → kept.tokens.items ≡ last left w.tokens.items
+    → kept.lexer ≡ w.lexer → Ahead kept (drop (length w.tokens.items - left) tokens) end
 kept_behind w kept tokens left end (behind, is, lexed) items lexer =
     (behind, last_behind w.tokens.items tokens behind left is ∙ ap (λ x. x ++ behind) (sym items), subst (λ (x : Lexer). Follows x behind end) (sym lexer) lexed)
 
@@ -182,7 +195,9 @@ opening_bad (fault.TooDeep line) w tokens end h = absurd h
 opening_bad fault.Memory w tokens end h = tt
 
 -- a fault behind it
-pub behind_bad : (f : ParseFault) (l n end : ℕ) (tokens : List Atom) → reading_program 63 15 (lexemes_of tokens) ≡ declarations l 63 15 (lexemes_of (drop n tokens)) → AreRead l (Err f) (drop n tokens) end → IsReading (Err f) tokens end
+pub behind_bad : (f : ParseFault) (l n end : ℕ) (tokens : List Atom)
+    → reading_program 63 15 (lexemes_of tokens) ≡ declarations l 63 15 (lexemes_of (drop n tokens)) → AreRead l (Err f) (drop n tokens) end
+    → IsReading (Err f) tokens end
 behind_bad (fault.Unexpected line) l n end tokens e h = stops_behind Unexpected line l n end tokens e h
 behind_bad (fault.TooDeep line) l n end tokens e h = stops_behind TooDeep line l n end tokens e h
 behind_bad fault.Memory l n end tokens e h = tt

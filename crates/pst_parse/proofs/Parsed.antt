@@ -61,7 +61,8 @@ has_found (Err e) tokens h = tt
 no_program : (k : Fault) (ts rest : List Lexeme) (p : Program) → reading_program 63 15 ts ≡ Bad k rest → IsShallow 63 15 (program p) → Spells ts p → ⊥
 no_program k ts rest p e shallow sp = let o = only 63 15 ts p shallow sp in cc
 
-no_program_of : (k : Fault) (line : ℕ) (tokens : Tokens) (p : Program) → StopsOn k line (reading_program 63 15 (lexemes_of (atoms_of tokens.list))) (atoms_of tokens.list) tokens.end → IsShallow 63 15 (program p) →
+no_program_of : (k : Fault) (line : ℕ) (tokens : Tokens) (p : Program)
+    → StopsOn k line (reading_program 63 15 (lexemes_of (atoms_of tokens.list))) (atoms_of tokens.list) tokens.end → IsShallow 63 15 (program p) →
     Spells (lexemes tokens.list) p → ⊥
 no_program_of k line tokens p stops shallow sp =
     let (before, rest, at, bad, on) = stops_at k line tokens.list tokens.end stops in

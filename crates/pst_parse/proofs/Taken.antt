@@ -54,7 +54,8 @@ at_end l tokens rest read more at none later =
     nat_zero n = omega arith
 
 -- a declaration is broken off
-pub at_break : (l : ℕ) (tokens rest place : List Atom) (read more : List Declaration) → IsAt l tokens rest read more → item l 63 15 (lexemes_of rest) ≡ Bad Unexpected (lexemes_of place) → length place ≡ 0 →
+pub at_break : (l : ℕ) (tokens rest place : List Atom) (read more : List Declaration) → IsAt l tokens rest read more
+    → item l 63 15 (lexemes_of rest) ≡ Bad Unexpected (lexemes_of place) → length place ≡ 0 →
     (length rest ≤ length tokens) × ((length rest ≡ 0) ⊎ (item l 63 15 (lexemes_of (last (length rest) tokens)) ≡ Bad Unexpected []))
     × ((later : List Lexeme) → read_with l read (lexemes_of tokens ++ later) ≡ read_with l more (lexemes_of (last (length rest) tokens) ++ later))
 at_break l tokens rest [] read more at e none =
@@ -77,7 +78,8 @@ place_within l k tokens rest place read more at e =
     let (part, is) : IsBehind {A = tree.Item} (Bad k (lexemes_of place)) (lexemes_of rest) = subst (λ r. IsBehind r (lexemes_of rest)) e (from_front l 63 15 (lexemes_of rest)) in
     (at.front ++ part, at.split ∙ ap (λ x. at.front ++ x) is ∙ sym (append_assoc at.front part (lexemes_of place)))
 
-pub place_short : (l : ℕ) (k : Fault) (tokens rest place : List Atom) (read more : List Declaration) → IsAt l tokens rest read more → item l 63 15 (lexemes_of rest) ≡ Bad k (lexemes_of place) → length place ≤ length tokens
+pub place_short : (l : ℕ) (k : Fault) (tokens rest place : List Atom) (read more : List Declaration) → IsAt l tokens rest read more
+    → item l 63 15 (lexemes_of rest) ≡ Bad k (lexemes_of place) → length place ≤ length tokens
 place_short l k tokens rest place read more at e = let (u, is) = place_within l k tokens rest place read more at e in last_within tokens place u is
 
 -- a fault at a token
@@ -90,7 +92,8 @@ at_fault l k line tokens rest (t ∷ place) read more at some e pos on =
       length (t ∷ place),
       on,
       λ later. at.same later
-          ∙ fault_with l k more (lexemes_of rest ++ later) (lexemes_of (t ∷ place) ++ later) (begins_more (lexemes_of rest) later (sym some)) (fault_stays l 63 15 (lexemes_of rest) (lexemes_of place) later (lexeme_of t) k e)
+          ∙ fault_with l k more (lexemes_of rest ++ later) (lexemes_of (t ∷ place) ++ later) (begins_more (lexemes_of rest) later (sym some))
+          (fault_stays l 63 15 (lexemes_of rest) (lexemes_of place) later (lexeme_of t) k e)
           ∙ ap (λ x. Bad k (x ++ later)) (sym there),
     )
 

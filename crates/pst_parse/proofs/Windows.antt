@@ -46,7 +46,8 @@ pub record IsLeft (l : ℕ) (tokens : List Atom) (end : ℕ) (w : Window) (left 
 pub first_stage : (l : ℕ) (tokens : List Atom) (end : ℕ) (w : Window) → Ahead w tokens end → IsStage l tokens end w []
 first_stage l tokens end w ahead = record { before = []; here = tokens; split = refl; ahead = ahead; same = refl }
 
-parted : (left : ℕ) (window before behind here tokens : List Atom) → tokens ≡ before ++ here → here ≡ window ++ behind → tokens ≡ (before ++ take (length window - left) window) ++ (last left window ++ behind)
+parted : (left : ℕ) (window before behind here tokens : List Atom) → tokens ≡ before ++ here → here ≡ window ++ behind
+    → tokens ≡ (before ++ take (length window - left) window) ++ (last left window ++ behind)
 parted left window before behind here tokens split is =
     let n = length window - left in
     split ∙ ap (λ x. before ++ x) (is ∙ ap (λ x. x ++ behind) (sym (take-append-drop n window)) ∙ append_assoc (take n window) (drop n window) behind)
@@ -78,7 +79,8 @@ refilled l tokens end w kept new left read stage items lexer keeps = record {
 }
 
 -- what is left of the tokens is ahead of a window that has them alone at hand
-pub left_ahead : (l : ℕ) (tokens : List Atom) (end : ℕ) (w kept : Window) (left : ℕ) (read : List Declaration) → (stage : IsLeft l tokens end w left read) → kept.tokens.items ≡ last left w.tokens.items → kept.lexer ≡ w.lexer →
+pub left_ahead : (l : ℕ) (tokens : List Atom) (end : ℕ) (w kept : Window) (left : ℕ) (read : List Declaration)
+    → (stage : IsLeft l tokens end w left read) → kept.tokens.items ≡ last left w.tokens.items → kept.lexer ≡ w.lexer →
     Ahead kept (last left w.tokens.items ++ stage.behind) end
 left_ahead l tokens end w kept left read stage items lexer = (stage.behind, ap (λ x. x ++ stage.behind) (sym items), subst (λ (x : Lexer). Follows x stage.behind end) (sym lexer) stage.more)
 
@@ -92,7 +94,8 @@ front_of w text none begins = (inl ([], (sym begins.0, sym begins.1, sym begins.
 -- ---- filling
 
 -- one more token is at hand
-pub one_more : (old w new : Window) (t : Token) (a : Atom) → KeepsAhead old w → TakesFromLeft (Ok (Some t)) w.lexer new.lexer → a ≡ atom_of t → new.tokens.items ≡ w.tokens.items ++ a ∷ [] → KeepsAhead old new
+pub one_more : (old w new : Window) (t : Token) (a : Atom) → KeepsAhead old w → TakesFromLeft (Ok (Some t)) w.lexer new.lexer → a ≡ atom_of t
+    → new.tokens.items ≡ w.tokens.items ++ a ∷ [] → KeepsAhead old new
 one_more old w new t a keeps takes kept put tokens end ahead =
     let pushed : new.tokens.items ≡ w.tokens.items ++ atom_of t ∷ [] = put ∙ ap (λ x. w.tokens.items ++ x ∷ []) kept in
     let (left, is, (here, seen, lexed)) = keeps tokens end ahead in
@@ -149,7 +152,8 @@ fill_fails P f w here end ahead (inr none) p = absurd (none here end ahead)
 all_got : (l : ℕ) (ts rest : List Lexeme) (xs : List tree.Item) → read_with l [] ts ≡ Got xs rest → declarations l 63 15 ts ≡ Got (record { language = l; items = xs }) rest
 all_got l ts rest xs e = go (many any (item l 63 15) ts) e
   where
-    go : (r : Read (List tree.Item)) → and_then r (λ more. Got ([] ++ more)) ≡ Got xs rest → and_then {B = tree.ProgramText} r (λ is. Got (record { language = l; items = is })) ≡ Got (record { language = l; items = xs }) rest
+    go : (r : Read (List tree.Item)) → and_then r (λ more. Got ([] ++ more)) ≡ Got xs rest
+        → and_then {B = tree.ProgramText} r (λ is. Got (record { language = l; items = is })) ≡ Got (record { language = l; items = xs }) rest
     go (Got is s) q =
         let same : is ≡ xs = cc in
         let end : s ≡ rest = cc in
@@ -199,7 +203,8 @@ all_read l tokens end w left read stage none done =
     ending = rw (many-end any (item l 63 15)) (ap (λ x. Got x []) (append-nil (map item_of read)))
 
 -- the text ends in a declaration
-pub broken_off : (l : ℕ) (line : ℕ) (tokens : List Atom) (end : ℕ) (w : Window) (left : ℕ) (read : List Declaration) → IsLeft l tokens end w left read → bytes_left w.lexer ≡ 0 → 0 < left → left ≤ length w.tokens.items →
+pub broken_off : (l : ℕ) (line : ℕ) (tokens : List Atom) (end : ℕ) (w : Window) (left : ℕ) (read : List Declaration) → IsLeft l tokens end w left read
+    → bytes_left w.lexer ≡ 0 → 0 < left → left ≤ length w.tokens.items →
     (left ≡ 0) ⊎ (item l 63 15 (lexemes_of (last left w.tokens.items)) ≡ Bad Unexpected []) → EndsOn line w → StopsOn Unexpected line (declarations l 63 15 (lexemes_of tokens)) tokens end
 broken_off l line tokens end w left read stage none some le (inl zero) ends = absurd (omega (arith, zero, some))
 broken_off l line tokens end w left read stage none some le (inr bad) ends =

@@ -24,7 +24,8 @@ followed_gives view (Ok y) x s ts given kept = rw given (ap (λ z. Got (view z) 
 followed_gives view (Err e) x s ts given kept = stops_bind (expect s ts) _ e given
 
 -- parts with commas between them, which are all read, and the `)` behind them
-pub listed_followed : {A X Y : Type 0} (part : List Lexeme → Read A) (view : X → A) (xs : List X) (ts : List Lexeme) (whole : Read (List A)) (all : Y → List A) (r : Result (Y × Bor (List Atom)) Stop) (y : Y) →
+pub listed_followed : {A X Y : Type 0} (part : List Lexeme → Read A) (view : X → A) (xs : List X) (ts : List Lexeme) (whole : Read (List A))
+    (all : Y → List A) (r : Result (Y × Bor (List Atom)) Stop) (y : Y) →
     all y ≡ map view xs → Lacks sign.Comma ts → closing part (map view xs) ts ≡ whole → GivesBehind r (expect sign.CloseParen ts) → IfOk r (λ z. z.0 ≡ y) → Gives all r whole
 listed_followed part view xs ts whole all (Ok z) y made none inv given kept = comma_closed part view xs ts _ whole none given inv ∙ ap (λ l. Got l (lexemes_of z.1.now)) (sym made ∙ ap all (sym kept))
 listed_followed part view xs ts whole all (Err e) y made none inv given kept = comma_unclosed part view xs ts whole e none given inv
@@ -52,20 +53,29 @@ procedure_parts l h d line query ts = named (label ts)
     typed x ps (Bad f rest) = refl
 
     listing : (x : Label) (r : Read (List LocalText)) →
-        and_then r (λ ps rest. and_then (result rest) (λ k. body l h d (λ locals b. tree.Procedure record { line = line; query = query; name = x.name; parameters = ps; result = k; locals = locals; body = b })))
+        and_then r (λ ps rest. and_then (result rest) (λ k. body l h d
+        (λ locals b. tree.Procedure record { line = line; query = query; name = x.name; parameters = ps; result = k; locals = locals; body = b })))
         ≡ and_then (and_then r (λ ps rest. and_then (result rest) (λ k. after sign.OpenBrace (Got (record { name = x.name; parameters = ps; result = k }))))) (behind l h d line query)
     listing x (Got ps rest) = typed x ps (result rest)
     listing x (Bad f rest) = refl
 
     paren : (x : Label) (r : Read (Unit {0})) →
-        and_then r (λ _ rest. and_then (listed parameter rest) (λ ps rest. and_then (result rest) (λ k. body l h d (λ locals b. tree.Procedure record { line = line; query = query; name = x.name; parameters = ps; result = k; locals = locals; body = b }))))
-        ≡ and_then (and_then r (λ _ rest. and_then (listed parameter rest) (λ ps rest. and_then (result rest) (λ k. after sign.OpenBrace (Got (record { name = x.name; parameters = ps; result = k })))))) (behind l h d line query)
+        and_then r (λ _ rest. and_then (listed parameter rest)
+        (λ ps rest. and_then (result rest) (λ k. body l h d
+        (λ locals b. tree.Procedure record { line = line; query = query; name = x.name; parameters = ps; result = k; locals = locals; body = b }))))
+        ≡ and_then (and_then r (λ _ rest. and_then (listed parameter rest)
+        (λ ps rest. and_then (result rest) (λ k. after sign.OpenBrace (Got (record { name = x.name; parameters = ps; result = k }))))))
+        (behind l h d line query)
     paren x (Got u rest) = listing x (listed parameter rest)
     paren x (Bad f rest) = refl
 
     named : (r : Read Label) →
-        and_then r (λ x. after sign.OpenParen (λ rest. and_then (listed parameter rest) (λ ps rest. and_then (result rest) (λ k. body l h d (λ locals b. tree.Procedure record { line = line; query = query; name = x.name; parameters = ps; result = k; locals = locals; body = b })))))
-        ≡ and_then (and_then r (λ x. after sign.OpenParen (λ rest. and_then (listed parameter rest) (λ ps rest. and_then (result rest) (λ k. after sign.OpenBrace (Got (record { name = x.name; parameters = ps; result = k }))))))) (behind l h d line query)
+        and_then r (λ x. after sign.OpenParen (λ rest. and_then (listed parameter rest)
+        (λ ps rest. and_then (result rest) (λ k. body l h d
+        (λ locals b. tree.Procedure record { line = line; query = query; name = x.name; parameters = ps; result = k; locals = locals; body = b })))))
+        ≡ and_then (and_then r (λ x. after sign.OpenParen (λ rest. and_then (listed parameter rest)
+        (λ ps rest. and_then (result rest) (λ k. after sign.OpenBrace (Got (record { name = x.name; parameters = ps; result = k })))))))
+        (behind l h d line query)
     named (Got x rest) = paren x (expect sign.OpenParen rest)
     named (Bad f rest) = refl
 

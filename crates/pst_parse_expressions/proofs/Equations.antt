@@ -9,7 +9,7 @@ use Rattle.pst_grammar.specs.declared.lexeme.Label.{Label}
 use Rattle.pst_grammar.specs.declared.lexeme.Sign.{Sign}
 use Rattle.pst_grammar.specs.declared.lexeme.Sign.TheVariants as sign
 use Rattle.pst_grammar.specs.declared.lexeme.Lead.{Lead}
-use Rattle.pst_grammar.specs.Lexemes.{Lexeme, Name, Number, Operator, Plain, Leading, Unknown}
+use Rattle.pst_grammar.specs.Lexemes.{Lexeme, Name, Number, Operator, Plain, Leading}
 use Rattle.pst_parse_expressions.specs.declared.lexeme.Lexeme as code
 use Rattle.pst_parse_expressions.specs.declared.lexeme.Lexeme.TheVariants as seen
 use Rattle.pst_grammar.specs.Depth.{height}
@@ -131,9 +131,6 @@ read-other_sign j b n s ts never nor nor' = read_is j b n (Plain s ∷ ts)
 pub read-leading : (j b n : ℕ) (l : Lead) (line : ℕ) (ts : List Lexeme) → read j b n (Leading l line ∷ ts) ≡ Bad Unexpected (Leading l line ∷ ts)
 read-leading j b n l line ts = read_is j b n (Leading l line ∷ ts)
 
-pub read-unknown : (j b n : ℕ) (ts : List Lexeme) → read j b n (Unknown ∷ ts) ≡ Bad Unexpected (Unknown ∷ ts)
-read-unknown j b n ts = read_is j b n (Unknown ∷ ts)
-
 -- what goes on, by the next token
 going-none : (j b n : ℕ) (e : Expr) → going j b n e [] ≡ Got e []
 unfolding going more
@@ -218,4 +215,27 @@ going-other j b n e (seen.Plain s) ts never nor = absurd (nor s refl)
 going-other j zero n e l ts never nor = refl
 going-other j (suc c) n e l ts never nor = refl
 
-pub ruleset equations = (read-none, read-number, read-name, read-null, read-open, read-open_deep, read-minus, read-minus_deep, read-not, read-not_deep, read-not_wrong, read-leading, read-unknown, going-end, going-operator, going-operator_deep, going-operator_ends, going-dot, going-dot_deep, going-dot_ends, selected-first, selected-field, selected-index)
+pub ruleset equations = (
+  read-none,
+  read-number,
+  read-name,
+  read-null,
+  read-open,
+  read-open_deep,
+  read-minus,
+  read-minus_deep,
+  read-not,
+  read-not_deep,
+  read-not_wrong,
+  read-leading,
+  going-end,
+  going-operator,
+  going-operator_deep,
+  going-operator_ends,
+  going-dot,
+  going-dot_deep,
+  going-dot_ends,
+  selected-first,
+  selected-field,
+  selected-index,
+)

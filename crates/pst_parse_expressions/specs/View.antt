@@ -11,7 +11,7 @@ use Rattle.pst_grammar.specs.Syntax as tree
 use Rattle.pst_grammar.specs.View.{expr_of}
 use Rattle.pst_grammar.specs.Depth.{height}
 use Rattle.pst_grammar.specs.declared.lexeme.Sign.{Sign}
-use Rattle.pst_grammar.specs.Lexemes.{Lexeme, Name, Number, Operator, Plain, Leading, Unknown, marked}
+use Rattle.pst_grammar.specs.Lexemes.{Lexeme, Name, Number, Operator, Plain, Leading, marked}
 use Rattle.pst_grammar.specs.Reader.{Read, Got, Bad, Unexpected, TooDeep, is}
 use Rattle.pst_parse_expressions.specs.declared.lexeme.Lexeme as code
 use Rattle.pst_parse_expressions.specs.declared.lexeme.Lexeme.TheVariants as seen
@@ -23,7 +23,6 @@ abbrev pub atom_on : ℕ → Word → Atom
 atom_on line (word.Name x) = atom.Name x line
 atom_on line (word.Number v) = atom.Number v line
 atom_on line (word.Fixed m) = atom.Mark m line
-atom_on line word.Unknown = atom.Unknown line
 
 -- what is kept of a token
 abbrev pub atom_of : Token → Atom
@@ -36,14 +35,12 @@ abbrev pub atom_line : Atom → ℕ
 atom_line (atom.Name x line) = line
 atom_line (atom.Number v line) = line
 atom_line (atom.Mark m line) = line
-atom_line (atom.Unknown line) = line
 
 -- what is kept, as the grammar sees it
 abbrev pub lexeme_of : Atom → Lexeme
 lexeme_of (atom.Name x line) = Name (record { line = line; name = x })
 lexeme_of (atom.Number v line) = Number v
 lexeme_of (atom.Mark m line) = marked line m
-lexeme_of (atom.Unknown line) = Unknown
 
 abbrev pub lexemes_of : List Atom → List Lexeme
 lexemes_of atoms = map lexeme_of atoms
@@ -55,7 +52,6 @@ as_read (seen.Number v) = Number v
 as_read (seen.Operator o) = Operator o
 as_read (seen.Plain s) = Plain s
 as_read (seen.Leading l line) = Leading l line
-as_read seen.Unknown = Unknown
 
 -- the fault that stopped the code is the reading's, unless memory ran out
 abbrev pub Stops : {A : Type 0} → Stop → Read A → Type 0

@@ -6,7 +6,7 @@ ghost use Rattle.pst_parse_expressions.specs.View.{as_read, atom_line, atom_of, 
 
 use pst_base::Op;
 use pst_grammar::{Lead, Sign};
-use pst_lex::{Mark, Name, Token, TokenKind, mark_at};
+use pst_lex::{Mark, Name, Token, TokenKind};
 
 /// A token as the parser has it at hand, in 32 bytes: what it is, and its line, from 1.
 #[derive(Drop)]
@@ -14,7 +14,6 @@ pub enum Atom<'a> {
     Name(Name<'a>, u32),
     Number(i64, u32),
     Mark(Mark, u32),
-    Unknown(u32),
 }
 
 impl<'a> Atom<'a> {
@@ -23,13 +22,10 @@ impl<'a> Atom<'a> {
         ensures { result ≡ atom_of token.entry }
     {
         let line = token.line;
-        match mark_at(&token.kind) {
-            Some(mark) => Atom::Mark(mark, line),
-            None => match token.kind {
-                TokenKind::Name(name) => Atom::Name(name, line),
-                TokenKind::Number(value) => Atom::Number(value, line),
-                TokenKind::Keyword(_) | TokenKind::Symbol(_) => Atom::Unknown(line),
-            },
+        match token.kind {
+            TokenKind::Name(name) => Atom::Name(name, line),
+            TokenKind::Number(value) => Atom::Number(value, line),
+            TokenKind::Mark(mark) => Atom::Mark(mark, line),
         }
     }
 
@@ -38,10 +34,7 @@ impl<'a> Atom<'a> {
         ensures { result ≡ atom_line self.now }
     {
         match self {
-            Atom::Name(_, line)
-            | Atom::Number(_, line)
-            | Atom::Mark(_, line)
-            | Atom::Unknown(line) => *line,
+            Atom::Name(_, line) | Atom::Number(_, line) | Atom::Mark(_, line) => *line,
         }
     }
 }
@@ -54,7 +47,6 @@ pub enum Lexeme<'a> {
     Operator(Op),
     Plain(Sign),
     Leading(Lead, u32),
-    Unknown,
 }
 
 /// A keyword or symbol on a line.
@@ -114,7 +106,6 @@ fn lexeme_of<'t>(atom: &Atom<'t>) -> Lexeme<'t>
         Atom::Name(name, line) => Lexeme::Name(*line, name.bytes()),
         Atom::Number(value, _) => Lexeme::Number(*value),
         Atom::Mark(mark, line) => mark_lexeme(*mark, *line),
-        Atom::Unknown(_) => Lexeme::Unknown,
     }
 }
 

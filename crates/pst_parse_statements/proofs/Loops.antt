@@ -48,7 +48,8 @@ loop_fault starts part xs (t ∷ ts) stop.Memory short st bad = tt
 abbrev pub closing : {A : Type 0} → (List Lexeme → Read A) → List A → List Lexeme → Read (List A)
 closing part xs ts = and_then (many (is sign.Comma) (after sign.Comma part) ts) (λ l. after sign.CloseParen (Got (xs ++ l)))
 
-pub comma_step : {A : Type 0} (part : List Lexeme → Read A) (xs : List A) (ts next rest : List Lexeme) (a : A) → Shortens (after sign.Comma part) → ts ≡ Plain sign.Comma ∷ next → part next ≡ Got a rest →
+pub comma_step : {A : Type 0} (part : List Lexeme → Read A) (xs : List A) (ts next rest : List Lexeme) (a : A) → Shortens (after sign.Comma part)
+    → ts ≡ Plain sign.Comma ∷ next → part next ≡ Got a rest →
     closing part xs ts ≡ closing part (xs ++ (a ∷ [])) rest
 comma_step {A} part xs ts next rest a short at e =
     rw (at, many-start (is sign.Comma) (after sign.Comma part) short (Plain sign.Comma) next refl, e) (go (many (is sign.Comma) (after sign.Comma part) rest))

@@ -3,7 +3,8 @@ use Rattle.std.specs.Prelude.{◌≡◌, ℕ, ◌≤◌, ◌<◌, ◌-◌, List,
 use Rattle.std.proofs.Common.{suc, zero, refl, sym, ap, ◌∙◌, arith}
 use Rattle.pst_grammar.specs.declared.statement.Statement as code
 use Rattle.pst_grammar.specs.declared.statement.Form.{Form}
-use Rattle.pst_grammar.specs.declared.statement.Block.{Block-F as Block-G, roll-Block, out-roll-Block, Block', Row_of-Statement, end_of-Statement, more_of-Statement, items-the_row-Statement, items_shown-the_row-Statement-0, outs-Block'}
+use Rattle.pst_grammar.specs.declared.statement.Block.{Block-F as Block-G, roll-Block, out-roll-Block, Block', Row_of-Statement, end_of-Statement}
+use Rattle.pst_grammar.specs.declared.statement.Block.{more_of-Statement, items-the_row-Statement, items_shown-the_row-Statement-0, outs-Block'}
 use Rattle.pst_grammar.specs.declared.statement.Block as coded
 use Rattle.pst_grammar.specs.View.{phrase_of, phrases_of, row_of}
 use Rattle.pst_grammar.specs.Syntax as tree
@@ -72,7 +73,8 @@ choice_none i e b [] none = refl
 choice_none i e b (Plain sign.Else ∷ ts) none = cc
 choice_none i e b (t ∷ ts) none = refl
 
-pub choice_else : (i : List Lexeme → Read Phrases) (e : Expr) (b : Phrases) (ts rest : List Lexeme) → ts ≡ Plain sign.Else ∷ rest → choice i e b ts ≡ and_then (braced i rest) (λ c. Got (tree.Either e b c))
+pub choice_else : (i : List Lexeme → Read Phrases) (e : Expr) (b : Phrases) (ts rest : List Lexeme) → ts ≡ Plain sign.Else ∷ rest
+    → choice i e b ts ≡ and_then (braced i rest) (λ c. Got (tree.Either e b c))
 choice_else i e b ts rest at = rw at refl
 
 -- ---- the code's block

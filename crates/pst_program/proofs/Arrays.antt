@@ -43,14 +43,16 @@ all_hold-at t kind slot (suc n) e k l =
 pub array_kind-elements : (t : TypeShape) (slot elements : ℕ) (kind : Kind) → array_kind t slot elements ≡ Some kind → HasElements t slot elements kind
 array_kind-elements t slot elements kind e = from_first (field_kind t slot) refl e
   where
-    from_test : (first : Kind) → field_kind t slot ≡ Some first → (b : Bool) → (is_length elements && all_hold t first slot elements) ≡ b → cond b (Some first) None ≡ Some kind → HasElements t slot elements kind
+    from_test : (first : Kind) → field_kind t slot ≡ Some first → (b : Bool) → (is_length elements && all_hold t first slot elements) ≡ b
+        → cond b (Some first) None ≡ Some kind → HasElements t slot elements kind
     from_test first at true holds given =
         let same : first ≡ kind = cc in
         let parts = both_parts (is_length elements) (all_hold t first slot elements) holds in
         subst (λ (k : Kind). HasElements t slot elements k) same record { length = parts.0; first = at; holds = all_hold-at t first slot elements parts.1 }
     from_test first at false holds given = absurd (cc)
 
-    from_first : (first : Option Kind) → field_kind t slot ≡ first → option_and_then (λ k. if is_length elements && all_hold t k slot elements then Some k else None) first ≡ Some kind → HasElements t slot elements kind
+    from_first : (first : Option Kind) → field_kind t slot ≡ first
+        → option_and_then (λ k. if is_length elements && all_hold t k slot elements then Some k else None) first ≡ Some kind → HasElements t slot elements kind
     from_first None at given = absurd (cc)
     from_first (Some first) at given = from_test first at (is_length elements && all_hold t first slot elements) refl given
 

@@ -4,7 +4,8 @@ use Rattle.std.specs.List.{position_from}
 use Rattle.std.proofs.lemmas.Iterator.Adapters.{position_from-zero}
 use Rattle.pst_program.specs.Procedures.{Signature, number_named}
 
-mapped_from : {A B : Type 0} (signature : B → Signature) (f : A → B) (name : List ℕ) (i : ℕ) (xs : List A) → position_from (λ p. bytes_eq (signature p).name name) i (map f xs) ≡ position_from (λ x. bytes_eq (signature (f x)).name name) i xs
+mapped_from : {A B : Type 0} (signature : B → Signature) (f : A → B) (name : List ℕ) (i : ℕ) (xs : List A)
+    → position_from (λ p. bytes_eq (signature p).name name) i (map f xs) ≡ position_from (λ x. bytes_eq (signature (f x)).name name) i xs
 mapped_from signature f name i [] = refl
 mapped_from signature f name i (x ∷ xs) = ap (cond (bytes_eq (signature (f x)).name name) (Some i)) (mapped_from signature f name (i + 1) xs)
 

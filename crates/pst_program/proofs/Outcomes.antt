@@ -16,7 +16,8 @@ use Rattle.pst_program.specs.Meaning.{World, Ending, Normal, Returned, Trapped, 
 use Rattle.pst_program.specs.Outcome.{TaskCall, Task, first_world, next_call, in_order, one_call, outcome_of, outcome}
 use Rattle.pst_program.specs.Typed.{IsTyped}
 use Rattle.pst_program.specs.Sound.{NamesAreFree, CountsBelow, CountsWithin, world_in}
-use Rattle.pst_program.specs.Laws.{IsOlder, Ends, CountsFew, CountsGrow, StaysOver, StaysTrapped, IsQueryCall, NamesByRun, RecordsStay, HeapsStay, QueriesRead, ExpressionsAreSound, StatementsAreSound, CallsAreSound, FirstLocals, ChargesFall, TurnsSuffice}
+use Rattle.pst_program.specs.Laws.{IsOlder, Ends, CountsFew, CountsGrow, StaysOver, StaysTrapped, IsQueryCall, NamesByRun, RecordsStay, HeapsStay, QueriesRead}
+use Rattle.pst_program.specs.Laws.{ExpressionsAreSound, StatementsAreSound, CallsAreSound, FirstLocals, ChargesFall, TurnsSuffice}
 use Rattle.pst_program.proofs.Follows.{IsClosed, block_keeps, body_keeps, call_keeps}
 use Rattle.pst_program.proofs.Fewer.{Paid, paid_closed, Counted, counted_quiet, counted_closed, Lower, lower_closed, Numbered, numbered_closed, turns_enough}
 use Rattle.pst_program.proofs.Growth.{Growing, growing_closed, Sound, sound_closed}
@@ -58,13 +59,15 @@ whole_ends (Trapped t line w) e = absurd (cc)
 whole_ends (Spent line w) e = absurd (cc)
 
 pub ends : (r : Routines) → Ends r
-ends r task granted heap le = subst (λ (b : Bool). (outcome_of b (runs r task (min granted task.budget) heap)).end ≢ Stopped) (sym (le-leb task.budget granted le)) (whole_ends (runs r task (min granted task.budget) heap))
+ends r task granted heap le = subst (λ (b : Bool). (outcome_of b (runs r task (min granted task.budget) heap)).end ≢ Stopped)
+    (sym (le-leb task.budget granted le)) (whole_ends (runs r task (min granted task.budget) heap))
 
 -- ---- counts
 
 pub few : (r : Routines) → CountsFew r
 few r task granted heap =
-    let paid : Paid (first_world task.run (min granted task.budget) heap) (world_in (runs r task (min granted task.budget) heap)) = run_keeps r Paid (paid_closed r.shape) task (min granted task.budget) heap in
+    let paid : Paid (first_world task.run (min granted task.budget) heap) (world_in (runs r task (min granted task.budget) heap)) =
+    run_keeps r Paid (paid_closed r.shape) task (min granted task.budget) heap in
     subst (λ (c : Counts). CountsWithin c (min granted task.budget)) (sym (outcome_counts (nat_le task.budget granted) (runs r task (min granted task.budget) heap)))
     (record { records = omega (arith, paid.records); pointer_writes = omega (arith, paid.pointer_writes); value_writes = omega (arith, paid.value_writes) })
 
@@ -76,7 +79,8 @@ more_counted d (Spent line w) p m = m
 
 one_more : (r : Routines) (d : ℕ) (c : TaskCall) (w : World) → More d (one_call r c w) (one_call r c (ahead d w))
 one_more r d c w =
-    body_more d r.shape (call r 255) (call_keeps r Lower (lower_closed r.shape) 255) (call_keeps r Counted (counted_closed r.shape) 255) (call_more d r 255) (slice_get r.procedures c.procedure) (map ANumber c.arguments) w
+    body_more d r.shape (call r 255) (call_keeps r Lower (lower_closed r.shape) 255) (call_keeps r Counted (counted_closed r.shape) 255)
+    (call_more d r 255) (slice_get r.procedures c.procedure) (map ANumber c.arguments) w
 
 -- the same run with more charges
 runs_more : (r : Routines) (task : Task) (c n : ℕ) (heap : Heap) → c ≤ n → More (n - c) (runs r task c heap) (runs r task n heap)
@@ -91,11 +95,16 @@ grow r task more k n heap le =
     let b : ℕ = min n task.budget in
     let less : min k task.budget ≤ min n task.budget = omega arith in
     let all : Ending = in_order (one_call r) (task.calls ++ more) (first_world task.run b heap) in
-    let below : CountsBelow (world_in (runs r task a heap)).counts (world_in (runs r task b heap)).counts = more_counted (b - a) (runs r task a heap) (runs r task b heap) (runs_more r task a b heap less) in
+    let below : CountsBelow (world_in (runs r task a heap)).counts (world_in (runs r task b heap)).counts =
+    more_counted (b - a) (runs r task a heap) (runs r task b heap) (runs_more r task a b heap less) in
     let on : CountsBelow (world_in (runs r task b heap)).counts (world_in (next_call (runs r task b heap) (in_order (one_call r) more))).counts =
     next_counts (runs r task b heap) (in_order (one_call r) more) (in_order_keeps Counted counted_quiet (one_call r) (one_keeps r Counted (counted_closed r.shape)) more) in
-    let joined : CountsBelow (world_in (runs r task a heap)).counts (world_in (next_call (runs r task b heap) (in_order (one_call r) more))).counts = counted_quiet.joined (world_in (runs r task a heap)) (world_in (runs r task b heap)) (world_in (next_call (runs r task b heap) (in_order (one_call r) more))) below on in
-    let whole : CountsBelow (world_in (runs r task a heap)).counts (world_in all).counts = subst (λ (o : Ending). CountsBelow (world_in (runs r task a heap)).counts (world_in o).counts) (sym (in_order-append (one_call r) task.calls more (first_world task.run b heap))) joined in
+    let joined : CountsBelow (world_in (runs r task a heap)).counts (world_in (next_call (runs r task b heap) (in_order (one_call r) more))).counts =
+    counted_quiet.joined (world_in (runs r task a heap)) (world_in (runs r task b heap))
+    (world_in (next_call (runs r task b heap) (in_order (one_call r) more))) below on in
+    let whole : CountsBelow (world_in (runs r task a heap)).counts (world_in all).counts =
+    subst (λ (o : Ending). CountsBelow (world_in (runs r task a heap)).counts (world_in o).counts)
+    (sym (in_order-append (one_call r) task.calls more (first_world task.run b heap))) joined in
     subst (λ (c : Counts). CountsBelow c (outcome_of (nat_le task.budget n) all).counts) (sym (outcome_counts (nat_le task.budget k) (runs r task a heap)))
     (subst (λ (c : Counts). CountsBelow (world_in (runs r task a heap)).counts c) (sym (outcome_counts (nat_le task.budget n) all)) whole)
 
@@ -109,7 +118,8 @@ over_from d b (Spent line w) p m ended = absurd (ended refl)
 
 pub over : (r : Routines) → StaysOver r
 over r task k n heap le ended =
-    elim (nat_le task.budget k) as (λ b. nat_le task.budget k ≡ b → (outcome_of b (runs r task (min k task.budget) heap)).end ≢ Stopped → outcome r task n heap ≡ outcome_of b (runs r task (min k task.budget) heap)) [
+    elim (nat_le task.budget k) as (λ b. nat_le task.budget k ≡ b → (outcome_of b (runs r task (min k task.budget) heap)).end ≢ Stopped
+    → outcome r task n heap ≡ outcome_of b (runs r task (min k task.budget) heap)) [
       | true ↦ λ is e.
           let used : task.budget ≤ k = leb-true task.budget k is in
           let same : min n task.budget ≡ min k task.budget = omega arith in
@@ -117,7 +127,8 @@ over r task k n heap le ended =
           ap (λ b. outcome_of b (runs r task (min n task.budget) heap)) all ∙ ap (λ c. outcome_of true (runs r task c heap)) same
       | false ↦ λ is e.
           let less : min k task.budget ≤ min n task.budget = omega arith in
-          over_from (min n task.budget - min k task.budget) (nat_le task.budget n) (runs r task (min k task.budget) heap) (runs r task (min n task.budget) heap) (runs_more r task (min k task.budget) (min n task.budget) heap less) e
+          over_from (min n task.budget - min k task.budget) (nat_le task.budget n) (runs r task (min k task.budget) heap)
+          (runs r task (min n task.budget) heap) (runs_more r task (min k task.budget) (min n task.budget) heap less) e
     ] refl ended
 
 pub trapped : (r : Routines) → StaysTrapped r
@@ -195,7 +206,8 @@ next_reads go w rest (Returned x v) e = rest v ∙ e
 next_reads go w rest (Trapped kind line v) e = e
 next_reads go w rest (Spent line v) e = e
 
-all_read : (r : Routines) → IsTyped r → (calls : List TaskCall) → ((i : ℕ) (c : TaskCall) → slice_get calls i ≡ Some c → IsQueryCall r c) → (w : World) → (world_in (in_order (one_call r) calls w)).heap ≡ w.heap
+all_read : (r : Routines) → IsTyped r → (calls : List TaskCall) → ((i : ℕ) (c : TaskCall) → slice_get calls i ≡ Some c → IsQueryCall r c)
+    → (w : World) → (world_in (in_order (one_call r) calls w)).heap ≡ w.heap
 all_read r t [] are w = refl
 all_read r t (c ∷ calls) are w = next_reads (in_order (one_call r) calls) w (all_read r t calls (λ i d e. are (suc i) d e)) (one_call r c w) (one_reads r t c (are 0 c refl) w)
 

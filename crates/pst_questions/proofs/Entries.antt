@@ -72,13 +72,15 @@ position_le p (x ∷ xs) = elim (p x) as (λ b. cond (not b) (1 + position_or_le
 
 -- the place that a look-up gives, or the length
 pub position_some : {X : Type 0} (p : X → Bool) (xs : List X) (i : ℕ) → Some i ≡ position p xs → i ≡ position_or_len p xs
-position_some p xs i e = elim (nat_lt (position_or_len p xs) (length xs)) as (λ b. Some i ≡ cond b (Some (position_or_len p xs)) None → i ≡ position_or_len p xs) [ true ↦ λ h. cc | false ↦ λ h. absurd (cc) ] e
+position_some p xs i e = elim (nat_lt (position_or_len p xs) (length xs)) as
+    (λ b. Some i ≡ cond b (Some (position_or_len p xs)) None → i ≡ position_or_len p xs) [ true ↦ λ h. cc | false ↦ λ h. absurd (cc) ] e
 
 pub position_none : {X : Type 0} (p : X → Bool) (xs : List X) → None ≡ position p xs → length xs ≡ position_or_len p xs
-position_none p xs e = elim (nat_lt (position_or_len p xs) (length xs)) as (λ b. nat_lt (position_or_len p xs) (length xs) ≡ b → None ≡ cond b (Some (position_or_len p xs)) None → length xs ≡ position_or_len p xs) [
-  | true ↦ λ below h. absurd (cc)
-  | false ↦ λ past h. (let most = position_le p xs in let least = ltb-false (position_or_len p xs) (length xs) past in omega arith)
-] refl e
+position_none p xs e = elim (nat_lt (position_or_len p xs) (length xs)) as
+    (λ b. nat_lt (position_or_len p xs) (length xs) ≡ b → None ≡ cond b (Some (position_or_len p xs)) None → length xs ≡ position_or_len p xs) [
+      | true ↦ λ below h. absurd (cc)
+      | false ↦ λ past h. (let most = position_le p xs in let least = ltb-false (position_or_len p xs) (length xs) past in omega arith)
+    ] refl e
 
 -- ---- the entry with a number
 
@@ -88,7 +90,8 @@ module _ {P R : Type 0} where
     pub live : s.live at r
     pub listed : slice_get (map (λ e. e.0) es) i ≡ Some (s.name r)
 
-  noted_by : (s : State P R) (at : P) (es : List (Name × R)) (i : ℕ) (r : R) (o : Option (Name × R)) → All (IsEntry s at) es → slice_get es i ≡ o → option_map (λ e. e.1) o ≡ Some r → IsNoted s at es i r
+  noted_by : (s : State P R) (at : P) (es : List (Name × R)) (i : ℕ) (r : R) (o : Option (Name × R)) → All (IsEntry s at) es → slice_get es i ≡ o
+      → option_map (λ e. e.1) o ≡ Some r → IsNoted s at es i r
   noted_by s at es i r None all is e = absurd (cc)
   noted_by s at es i r (Some entry) all is e =
       let same : entry.1 ≡ r = cc in

@@ -44,7 +44,10 @@ abbrev pub IsWord : List ℕ → Type 0
 IsWord word = AllByRecursion IsPlain word
 
 digit_plain : (c : ℕ) → digit_value c < 10 → IsPlain c
-digit_plain c d = (λ e. (let low : digit_value 32 < 10 = subst (λ (c : ℕ). digit_value c < 10) e d in omega arith), λ e. (let low : digit_value 10 < 10 = subst (λ (c : ℕ). digit_value c < 10) e d in omega arith))
+digit_plain c d = (
+  λ e. (let low : digit_value 32 < 10 = subst (λ (c : ℕ). digit_value c < 10) e d in omega arith),
+  λ e. (let low : digit_value 10 < 10 = subst (λ (c : ℕ). digit_value c < 10) e d in omega arith),
+)
 
 digits_word : (ds : List ℕ) → AllDigits 10 ds → IsWord ds
 digits_word [] all = tt
@@ -55,12 +58,14 @@ decimal_word n l = digits_word (decimal n) (decimal_is_IsNumeral n l).0.1
 
 -- ---- words one after another, each behind a space
 
-module _ {A : Type 0} (word text : A → List ℕ) (is : (a : A) → word a ≡ 32 ∷ text a) (Fits : A → Type 0) (plain : (a : A) → Fits a → IsWord (text a)) (tells : (a b : A) → Fits a → Fits b → text a ≡ text b → a ≡ b) where
+module _ {A : Type 0} (word text : A → List ℕ) (is : (a : A) → word a ≡ 32 ∷ text a) (Fits : A → Type 0) (plain : (a : A) → Fits a → IsWord (text a))
+    (tells : (a b : A) → Fits a → Fits b → text a ≡ text b → a ≡ b) where
   stops : (us : List A) (xs : List ℕ) → Stops IsPlain xs → Stops IsPlain (flat_map word us ++ xs)
   stops [] xs s = s
   stops (a ∷ us) xs s = subst (λ (w : List ℕ). Stops IsPlain ((w ++ flat_map word us) ++ xs)) (sym (is a)) (λ p. p.0 refl)
 
-  words_split : (us vs : List A) (xs ys : List ℕ) → length us ≡ length vs → AllByRecursion Fits us → AllByRecursion Fits vs → Stops IsPlain xs → Stops IsPlain ys → flat_map word us ++ xs ≡ flat_map word vs ++ ys → (us ≡ vs) × (xs ≡ ys)
+  words_split : (us vs : List A) (xs ys : List ℕ) → length us ≡ length vs → AllByRecursion Fits us → AllByRecursion Fits vs → Stops IsPlain xs
+      → Stops IsPlain ys → flat_map word us ++ xs ≡ flat_map word vs ++ ys → (us ≡ vs) × (xs ≡ ys)
   words_split [] [] xs ys l f g s t e = (refl, e)
   words_split [] (b ∷ vs) xs ys l f g s t e = absurd (omega arith)
   words_split (a ∷ us) [] xs ys l f g s t e = absurd (omega arith)
@@ -128,17 +133,21 @@ module _ (shape : List TypeShape) (types : List TypeEntry) (named : AreNamedApar
       let tl = flat_map target_word l.targets in
       let tm = flat_map target_word m.targets in
       let whole = sym (unrolled (decimal number) (type_named types l.ty) vl tl r) ∙ e ∙ unrolled (decimal number) (type_named types m.ty) vm tm s in
-      let behind = append_cancel_left (decimal number) (32 ∷ (type_named types l.ty ++ (colon ∷ (vl ++ (tl ++ (10 ∷ r)))))) (32 ∷ (type_named types m.ty ++ (colon ∷ (vm ++ (tm ++ (10 ∷ s)))))) whole in
+      let behind = append_cancel_left (decimal number) (32 ∷ (type_named types l.ty ++ (colon ∷ (vl ++ (tl ++ (10 ∷ r))))))
+      (32 ∷ (type_named types m.ty ++ (colon ∷ (vm ++ (tm ++ (10 ∷ s)))))) whole in
       let named_on : type_named types l.ty ++ (colon ∷ (vl ++ (tl ++ (10 ∷ r)))) ≡ type_named types m.ty ++ (colon ∷ (vm ++ (tm ++ (10 ∷ s)))) = cc in
       let one = split (λ c. c ≢ colon) (type_named types l.ty) (type_named types m.ty) (colon ∷ (vl ++ (tl ++ (10 ∷ r)))) (colon ∷ (vm ++ (tm ++ (10 ∷ s))))
-      (recursion_from_All (λ c. c ≢ colon) (type_named types l.ty) (named.plain l.ty a.known)) (recursion_from_All (λ c. c ≢ colon) (type_named types m.ty) (named.plain m.ty b.known)) (λ no. no refl) (λ no. no refl) named_on in
+      (recursion_from_All (λ c. c ≢ colon) (type_named types l.ty) (named.plain l.ty a.known))
+      (recursion_from_All (λ c. c ≢ colon) (type_named types m.ty) (named.plain m.ty b.known)) (λ no. no refl) (λ no. no refl) named_on in
       let ty = named.differ l.ty m.ty a.known b.known one.0 in
       let contents : vl ++ (tl ++ (10 ∷ r)) ≡ vm ++ (tm ++ (10 ∷ s)) = (let rest = one.1 in cc) in
       let end_l : Stops IsPlain (10 ∷ r) = λ p. p.1 refl in
       let end_m : Stops IsPlain (10 ∷ s) = λ p. p.1 refl in
-      let two = words_split value_word signed_decimal (λ v. refl) (λ v. IsTrue (fits_i64 v)) value_plain (λ v w f g. signed_decimal_injective v w (mag_small v f) (mag_small w g)) l.values m.values (tl ++ (10 ∷ r)) (tm ++ (10 ∷ s))
+      let two = words_split value_word signed_decimal (λ v. refl) (λ v. IsTrue (fits_i64 v)) value_plain
+      (λ v w f g. signed_decimal_injective v w (mag_small v f) (mag_small w g)) l.values m.values (tl ++ (10 ∷ r)) (tm ++ (10 ∷ s))
       (a.values ∙ ap (λ ty. (type_at shape ty).values) ty ∙ sym b.values) a.numbers b.numbers
-      (stops target_word target_text target_is IsSmall target_plain target_tells l.targets (10 ∷ r) end_l) (stops target_word target_text target_is IsSmall target_plain target_tells m.targets (10 ∷ s) end_m) contents in
+      (stops target_word target_text target_is IsSmall target_plain target_tells l.targets (10 ∷ r) end_l)
+      (stops target_word target_text target_is IsSmall target_plain target_tells m.targets (10 ∷ s) end_m) contents in
       let three = words_split target_word target_text target_is IsSmall target_plain target_tells l.targets m.targets (10 ∷ r) (10 ∷ s)
       (a.targets ∙ ap (λ ty. length (type_at shape ty).targets) ty ∙ sym b.targets) a.small b.small end_l end_m two.1 in
       ((λ i. record { ty = ty i; values = two.0 i; targets = three.0 i }), (let rest = three.1 in let tail : r ≡ s = cc in tail))

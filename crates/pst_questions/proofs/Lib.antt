@@ -1,7 +1,7 @@
 pub mod ChangeLemmas
 pub mod Entries
 pub mod Existing
-pub mod Fields
+pub mod FieldLemmas
 pub mod LawLemmas
 pub mod Legible
 pub mod Lines
@@ -15,5 +15,5 @@ pub mod Renamed
 pub mod Texts
 pub mod Told
 pub mod Walked
-pub mod Worked
+pub mod WorkedDumps
 pub mod WorkedLemmas

@@ -33,7 +33,8 @@ line_text-is types number names (Some r) ty t =
 
 -- the text of the lines from one on
 pub lines_text-next : (types : List TypeEntry) (h : Heap) (names all : List Name) (i : ℕ) (n : Name) → slice_get all i ≡ Some n
-    → lines_text types i (drop i (map (λ n. line_of names (get h n)) all)) ≡ line_text types i (line_of names (get h n)) ++ lines_text types (i + 1) (drop (i + 1) (map (λ n. line_of names (get h n)) all))
+    → lines_text types i (drop i (map (λ n. line_of names (get h n)) all)) ≡ line_text types i (line_of names (get h n)) ++ lines_text types (i + 1)
+    (drop (i + 1) (map (λ n. line_of names (get h n)) all))
 lines_text-next types h names all i n at =
     let f : Name → Line = λ n. line_of names (get h n) in
     let within : i < length (map f all) = (let l = slice_get_within all i n at in let e = length-map all f in omega arith) in

@@ -17,7 +17,8 @@ use Rattle.pst_questions.proofs.Walked.{Reach, root_reach, names_in, Covers, Wal
 -- ---- a walk that is through
 
 -- each path that leads on from a noted record leads to a noted one
-covered : (h : Heap) (done : ℕ) (es : List Reach) → Walked h done es → length es ≤ done → (q front : Path) (i : ℕ) (e : Reach) (n : Name) → slice_get es i ≡ Some e → IsUpTo e.path front → led_from h (Some e.name) q ≡ Some n → Covers es n (front ++ q)
+covered : (h : Heap) (done : ℕ) (es : List Reach) → Walked h done es → length es ≤ done → (q front : Path) (i : ℕ) (e : Reach) (n : Name)
+    → slice_get es i ≡ Some e → IsUpTo e.path front → led_from h (Some e.name) q ≡ Some n → Covers es n (front ++ q)
 covered h done es w all [] front i e n at up led = record { index = i; reach = e; at = at; name = cc; up_to = subst (IsUpTo e.path) (sym (append-nil front)) up }
 covered h done es w all (slot ∷ q) front i e n at up led =
     elim (target_in h e.name slot) as (λ (o : Option Name). target_in h e.name slot ≡ o → led_from h o q ≡ Some n → Covers es n (front ++ slot ∷ q)) [
@@ -67,16 +68,23 @@ AreNumbered-walked h done es w all = record {
 
 -- ---- the same, by the names alone
 
-named_by : (h : Heap) (done : ℕ) (names : List Name) (n : Name) (w : WalkedOn h done names) → slice_get names done ≡ Some n → (o : Option Reach) → slice_get w.reaches done ≡ o → option_map (λ (e : Reach). e.name) o ≡ Some n → WalkedOn h (done + 1) (all_noted names (pointers_in h n))
+named_by : (h : Heap) (done : ℕ) (names : List Name) (n : Name) (w : WalkedOn h done names) → slice_get names done ≡ Some n → (o : Option Reach)
+    → slice_get w.reaches done ≡ o → option_map (λ (e : Reach). e.name) o ≡ Some n → WalkedOn h (done + 1) (all_noted names (pointers_in h n))
 named_by h done names n w at None is e = absurd (cc)
 named_by h done names n w at (Some d) is e =
     let same : d.name ≡ n = cc in
     let on = walked_on h done d w.reaches w.walked is in
-    record { reaches = on.reaches; walked = on.walked; names_are = on.names_are ∙ ap (λ m. all_noted (names_in w.reaches) (pointers_in h m)) same ∙ ap (λ names. all_noted names (pointers_in h n)) w.names_are }
+    record {
+      reaches = on.reaches;
+      walked = on.walked;
+      names_are = on.names_are ∙ ap (λ m. all_noted (names_in w.reaches) (pointers_in h m)) same
+          ∙ ap (λ names. all_noted names (pointers_in h n)) w.names_are;
+    }
 
 -- one record more
 pub WalkedOn-next : (h : Heap) (done : ℕ) (names : List Name) (n : Name) → WalkedOn h done names → slice_get names done ≡ Some n → WalkedOn h (done + 1) (all_noted names (pointers_in h n))
-WalkedOn-next h done names n w at = named_by h done names n w at (slice_get w.reaches done) refl (sym (slice_get-map (λ (e : Reach). e.name) w.reaches done) ∙ ap (λ names. slice_get names done) w.names_are ∙ at)
+WalkedOn-next h done names n w at = named_by h done names n w at (slice_get w.reaches done) refl
+    (sym (slice_get-map (λ (e : Reach). e.name) w.reaches done) ∙ ap (λ names. slice_get names done) w.names_are ∙ at)
 
 pub WalkedOn-none : (h : Heap) → WalkedOn h 0 (root_name ∷ [])
 WalkedOn-none h = record { reaches = root_reach ∷ []; walked = walked_none h; names_are = refl }

@@ -27,18 +27,21 @@ joined-nothing (Some steps) = refl
 field_of_shape : (program : Program) (ty : TypeNo) (name : List ℕ) (step : PathStep) → field_step program ty name ≡ Some step → field_kind (type_at program.shape ty) step.slot.0 ≡ Some step.kind
 field_of_shape program ty name step e = by_slot (slot_named program.names ty name) e
   where
-    by_kind : (slot : SlotNo) (kind : Option Kind) → field_kind (type_at program.shape ty) slot.0 ≡ kind → option_map (λ (k : Kind). record { slot = slot; kind = k }) kind ≡ Some step → field_kind (type_at program.shape ty) step.slot.0 ≡ Some step.kind
+    by_kind : (slot : SlotNo) (kind : Option Kind) → field_kind (type_at program.shape ty) slot.0 ≡ kind
+        → option_map (λ (k : Kind). record { slot = slot; kind = k }) kind ≡ Some step → field_kind (type_at program.shape ty) step.slot.0 ≡ Some step.kind
     by_kind slot None is e = absurd (cc)
     by_kind slot (Some k) is e =
         let made : PathStep = record { slot = slot; kind = k } in
         let same : made ≡ step = cc in
         subst (λ (s : PathStep). field_kind (type_at program.shape ty) s.slot.0 ≡ Some s.kind) same is
 
-    by_slot : (slot : Option SlotNo) → option_and_then (λ (s : SlotNo). option_map (λ (k : Kind). record { slot = s; kind = k }) (field_kind (type_at program.shape ty) s.0)) slot ≡ Some step → field_kind (type_at program.shape ty) step.slot.0 ≡ Some step.kind
+    by_slot : (slot : Option SlotNo) → option_and_then (λ (s : SlotNo). option_map (λ (k : Kind). record { slot = s; kind = k })
+        (field_kind (type_at program.shape ty) s.0)) slot ≡ Some step → field_kind (type_at program.shape ty) step.slot.0 ≡ Some step.kind
     by_slot None e = absurd (cc)
     by_slot (Some s) e = by_kind s (field_kind (type_at program.shape ty) s.0) refl e
 
-leads_first : (program : Program) (kind : Kind) (name : List ℕ) (step : PathStep) (steps : List PathStep) → step_named program kind name ≡ Some step → FieldsLead program.shape step.kind steps → FieldsLead program.shape kind (step ∷ steps)
+leads_first : (program : Program) (kind : Kind) (name : List ℕ) (step : PathStep) (steps : List PathStep) → step_named program kind name ≡ Some step
+    → FieldsLead program.shape step.kind steps → FieldsLead program.shape kind (step ∷ steps)
 leads_first program Int name step steps e l = absurd (cc)
 leads_first program (Pointer ty) name step steps e l = (field_of_shape program ty name step e, l)
 
@@ -46,7 +49,9 @@ steps_lead : (program : Program) (kind : Kind) (names : List (List ℕ)) (steps 
 steps_lead program kind [] steps e = let none : [] ≡ steps = cc in subst (FieldsLead program.shape kind) none tt
 steps_lead program kind (name ∷ names) steps e = by_step (step_named program kind name) refl (λ k. steps_lead program k names) e
   where
-    by_rest : (step : PathStep) → step_named program kind name ≡ Some step → (rest : Option (List PathStep)) → ((more : List PathStep) → rest ≡ Some more → FieldsLead program.shape step.kind more) → option_map (λ more. step ∷ more) rest ≡ Some steps → FieldsLead program.shape kind steps
+    by_rest : (step : PathStep) → step_named program kind name ≡ Some step → (rest : Option (List PathStep))
+        → ((more : List PathStep) → rest ≡ Some more → FieldsLead program.shape step.kind more) → option_map (λ more. step ∷ more) rest ≡ Some steps
+        → FieldsLead program.shape kind steps
     by_rest step found None lead e = absurd (cc)
     by_rest step found (Some more) lead e =
         let all : step ∷ more ≡ steps = cc in
@@ -68,7 +73,8 @@ whole : (path : List ℕ) → length path ≤ position_or_len is_dot path → na
 whole [] far = refl
 whole (b ∷ path) far = by_byte (is_dot b) refl (whole path) far
   where
-    by_byte : (t : Bool) → is_dot b ≡ t → (length path ≤ position_or_len is_dot path → names_of path ≡ path ∷ []) → length (b ∷ path) ≤ cond (not t) (1 + position_or_len is_dot path) 0 → names_of (b ∷ path) ≡ (b ∷ path) ∷ []
+    by_byte : (t : Bool) → is_dot b ≡ t → (length path ≤ position_or_len is_dot path → names_of path ≡ path ∷ [])
+        → length (b ∷ path) ≤ cond (not t) (1 + position_or_len is_dot path) 0 → names_of (b ∷ path) ≡ (b ∷ path) ∷ []
     by_byte true is rec far = absurd (omega arith)
     by_byte false is rec far = slice_split-cons_no is_dot b path is ∙ ap (onto_first b) (rec (omega arith))
 
@@ -84,7 +90,8 @@ names_whole path none = by_test (nat_lt (position_or_len is_dot path) (length pa
 pub names_cut : (path : List ℕ) (dot : ℕ) → position is_dot path ≡ Some dot → names_of path ≡ take dot path ∷ names_of (drop (dot + 1) path)
 names_cut path dot some = by_test (nat_lt (position_or_len is_dot path) (length path)) refl some
   where
-    by_test : (t : Bool) → nat_lt (position_or_len is_dot path) (length path) ≡ t → cond t (Some (position_or_len is_dot path)) None ≡ Some dot → names_of path ≡ take dot path ∷ names_of (drop (dot + 1) path)
+    by_test : (t : Bool) → nat_lt (position_or_len is_dot path) (length path) ≡ t → cond t (Some (position_or_len is_dot path)) None ≡ Some dot
+        → names_of path ≡ take dot path ∷ names_of (drop (dot + 1) path)
     by_test true is e =
         let here : position_or_len is_dot path ≡ dot = cc in
         slice_split_first is_dot path 0 (ltb-true (position_or_len is_dot path) (length path) is) ∙ ap (λ (n : ℕ). take n path ∷ names_of (drop (n + 1) path)) here
@@ -99,5 +106,6 @@ unfolding resolved
 left_first program path = joined-nothing (steps_from program (Pointer root_type) (names_of path))
 
 -- no name is left
-pub left_last : (program : Program) (path : List ℕ) (found : List PathStep) (kind : Kind) (rest : Option (List ℕ)) → rest ≡ None → Left program path found kind rest → Some found ≡ resolved program path
+pub left_last : (program : Program) (path : List ℕ) (found : List PathStep) (kind : Kind) (rest : Option (List ℕ)) → rest ≡ None
+    → Left program path found kind rest → Some found ≡ resolved program path
 left_last program path found kind rest none left = ap Some (sym (append-nil found)) ∙ sym (ap (λ (o : Option (List ℕ)). joined found (steps_from program kind (names_in o))) none) ∙ left

@@ -29,7 +29,9 @@ reached_listed h names i n a at =
     let same = get_or_from_slice_get names i n n at in
     (get_or a.paths i [], subst (λ (m : Name). Leads h (get_or a.paths i []) m) same least.leads)
 
-listed_later : (m : Name) (names : List Name) (n : Name) (i : ℕ) → ((j : ℕ) → slice_get names j ≡ Some n → slice_get names (number_in names n) ≡ Some n) → slice_get (m ∷ names) i ≡ Some n → same_name n m ≡ false → slice_get names (number_in names n) ≡ Some n
+listed_later : (m : Name) (names : List Name) (n : Name) (i : ℕ)
+    → ((j : ℕ) → slice_get names j ≡ Some n → slice_get names (number_in names n) ≡ Some n) → slice_get (m ∷ names) i ≡ Some n → same_name n m ≡ false
+    → slice_get names (number_in names n) ≡ Some n
 listed_later m names n zero rest at apart = absurd (let same : m ≡ n = cc in let yes : same_name n m ≡ true = subst (λ (x : Name). same_name n x ≡ true) (sym same) (same_name-same n) in cc)
 listed_later m names n (suc i) rest at apart = rest i at
 
@@ -38,7 +40,8 @@ pub number_listed : (names : List Name) (n : Name) (i : ℕ) → slice_get names
 number_listed [] n i at = absurd (cc)
 number_listed (m ∷ names) n i at = elim (same_name n m) as (λ b. same_name n m ≡ b → slice_get (m ∷ names) (cond (not b) (1 + number_in names n) 0) ≡ Some n) [
   | true ↦ λ same. ap Some (sym (same_name-true n m same))
-  | false ↦ λ apart. subst (λ k. slice_get (m ∷ names) k ≡ Some n) (let e : suc (number_in names n) ≡ 1 + number_in names n = omega arith in e) (listed_later m names n i (number_listed names n) at apart)
+  | false ↦ λ apart. subst (λ k. slice_get (m ∷ names) k ≡ Some n) (let e : suc (number_in names n) ≡ 1 + number_in names n = omega arith in e)
+      (listed_later m names n i (number_listed names n) at apart)
 ] refl
 
 pub number_reached : (h : Heap) (names : List Name) (n : Name) → AreNumbered h names → IsReached h n → slice_get names (number_in names n) ≡ Some n
@@ -49,8 +52,10 @@ two_places h names i j n a less at_i at_j =
     let short = AllZip-length (IsLeast h) names a.paths a.least in
     let in_i = slice_get_within names i n at_i in
     let in_j = slice_get_within names j n at_j in
-    let least_i : IsLeast h n (get_or a.paths i []) = subst (λ (m : Name). IsLeast h m (get_or a.paths i [])) (get_or_from_slice_get names i n n at_i) (AllZip-at (IsLeast h) names a.paths i n [] a.least in_i) in
-    let least_j : IsLeast h n (get_or a.paths j []) = subst (λ (m : Name). IsLeast h m (get_or a.paths j [])) (get_or_from_slice_get names j n n at_j) (AllZip-at (IsLeast h) names a.paths j n [] a.least in_j) in
+    let least_i : IsLeast h n (get_or a.paths i []) = subst (λ (m : Name). IsLeast h m (get_or a.paths i [])) (get_or_from_slice_get names i n n at_i)
+    (AllZip-at (IsLeast h) names a.paths i n [] a.least in_i) in
+    let least_j : IsLeast h n (get_or a.paths j []) = subst (λ (m : Name). IsLeast h m (get_or a.paths j [])) (get_or_from_slice_get names j n n at_j)
+    (AllZip-at (IsLeast h) names a.paths j n [] a.least in_j) in
     let same = IsLeast-same h n (get_or a.paths i []) (get_or a.paths j []) least_i least_j in
     IsBefore-itself (get_or a.paths j []) (subst (λ (p : Path). IsBefore p (get_or a.paths j [])) same (a.rising i j [] less (omega arith)))
 
@@ -74,7 +79,9 @@ root_first h names a =
     let short = AllZip-length (IsLeast h) names a.paths a.least in
     elim (cases_lt 0 p.index) [
       | inl later ↦ absurd (
-          let least : IsLeast h root_name (get_or a.paths p.index []) = subst (λ (m : Name). IsLeast h m (get_or a.paths p.index [])) (get_or_from_slice_get names p.index root_name root_name p.at) (AllZip-at (IsLeast h) names a.paths p.index root_name [] a.least within) in
+          let least : IsLeast h root_name (get_or a.paths p.index []) =
+          subst (λ (m : Name). IsLeast h m (get_or a.paths p.index [])) (get_or_from_slice_get names p.index root_name root_name p.at)
+          (AllZip-at (IsLeast h) names a.paths p.index root_name [] a.least within) in
           let root : get_or a.paths p.index [] ≡ [] = only_root (get_or a.paths p.index []) least in
           none_before (get_or a.paths 0 []) (subst (IsBefore (get_or a.paths 0 [])) root (a.rising 0 p.index [] later (omega arith))))
       | inr first ↦ subst (λ (k : ℕ). slice_get names k ≡ Some root_name) (let e : p.index ≡ 0 = omega arith in e) p.at
@@ -93,7 +100,8 @@ reached_next h n m slot r t = (r.0 ++ slot ∷ [], Leads-extended h r.0 slot n m
 pub reached_pointer : (h : Heap) (n m : Name) (r : Rec) (k : ℕ) → IsReached h n → get h n ≡ Some r → get_or r.pointers k None ≡ Some m → IsReached h m
 reached_pointer h n m r k reached at holds =
     reached_next h n m (length r.values + k) reached
-    (ap (target_from (length r.values + k)) at ∙ target_past (length r.values + k) (Some r) (omega arith) ∙ ap (λ j. get_or r.pointers j None) (let e : length r.values + k - length r.values ≡ k = omega arith in e) ∙ holds)
+    (ap (target_from (length r.values + k)) at ∙ target_past (length r.values + k) (Some r) (omega arith)
+    ∙ ap (λ j. get_or r.pointers j None) (let e : length r.values + k - length r.values ≡ k = omega arith in e) ∙ holds)
 
 -- ---- in a well-formed heap
 

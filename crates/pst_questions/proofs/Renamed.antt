@@ -37,7 +37,8 @@ module _ (h g : Heap) (to : Name → Name) (f : IsRenaming h g to) where
   led_renamed [] n r = refl
   led_renamed (slot ∷ path) n r =
       let there : target_in g (to n) slot ≡ option_map to (target_in h n slot) = ap (target_from slot) (f.records n r) ∙ target_renamed to slot (get h n) in
-      elim (target_in h n slot) as (λ (o : Option Name). target_in h n slot ≡ o → target_in g (to n) slot ≡ option_map to o → led_from g (target_in g (to n) slot) path ≡ option_map to (led_from h o path)) [
+      elim (target_in h n slot) as (λ (o : Option Name). target_in h n slot ≡ o → target_in g (to n) slot ≡ option_map to o
+      → led_from g (target_in g (to n) slot) path ≡ option_map to (led_from h o path)) [
         | None ↦ λ is e. ap (λ o. led_from g o path) e ∙ led_from-none g path ∙ sym (ap (option_map to) (led_from-none h path))
         | Some m ↦ λ is e. ap (λ o. led_from g o path) e ∙ led_renamed path m (reached_next h n m slot r is)
       ] refl there
@@ -116,12 +117,15 @@ module _ (h g : Heap) (to : Name → Name) (f : IsRenaming h g to) where
       let rest = pointers_renamed names ps all (λ k m e. held (suc k) m e) in
       λ i. Some (first i) ∷ rest i
 
-  line_renamed : (names : List Name) (n : Name) (o : Option Rec) → IsReached h n → get h n ≡ o → ((m : Name) → Contains names m → IsReached h m) → line_of (map to names) (option_map (renamed to) o) ≡ line_of names o
+  line_renamed : (names : List Name) (n : Name) (o : Option Rec) → IsReached h n → get h n ≡ o → ((m : Name) → Contains names m → IsReached h m)
+      → line_of (map to names) (option_map (renamed to) o) ≡ line_of names o
   line_renamed names n None r at all = refl
   line_renamed names n (Some rec) r at all =
-      ap (λ (targets : List (Option ℕ)). let line : Line = record { ty = rec.ty; values = rec.values; targets = targets } in line) (pointers_renamed names rec.pointers all (λ k m e. reached_pointer h n m rec k r at e))
+      ap (λ (targets : List (Option ℕ)). let line : Line = record { ty = rec.ty; values = rec.values; targets = targets } in line)
+      (pointers_renamed names rec.pointers all (λ k m e. reached_pointer h n m rec k r at e))
 
-  lines_renamed : (names ns : List Name) → ((m : Name) → Contains names m → IsReached h m) → ((m : Name) → Contains ns m → IsReached h m) → map (λ m. line_of (map to names) (get g m)) (map to ns) ≡ map (λ n. line_of names (get h n)) ns
+  lines_renamed : (names ns : List Name) → ((m : Name) → Contains names m → IsReached h m) → ((m : Name) → Contains ns m → IsReached h m)
+      → map (λ m. line_of (map to names) (get g m)) (map to ns) ≡ map (λ n. line_of names (get h n)) ns
   lines_renamed names [] all these = refl
   lines_renamed names (n ∷ ns) all these =
       let r = these n (Contains-first n ns) in

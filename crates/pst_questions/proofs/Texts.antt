@@ -56,12 +56,14 @@ few_records types h names text e l =
     let same = ap length e in
     omega arith
 
-module _ (shape : List TypeShape) (types : List TypeEntry) (h g : Heap) (text other : List ℕ) (w : IsHeapOf shape h) (v : IsHeapOf shape g) (named : AreNamedApart shape types) (d : IsDump types h text) (k : IsDump types g other) where
+module _ (shape : List TypeShape) (types : List TypeEntry) (h g : Heap) (text other : List ℕ) (w : IsHeapOf shape h) (v : IsHeapOf shape g)
+    (named : AreNamedApart shape types) (d : IsDump types h text) (k : IsDump types g other) where
   pub renamed_from_text : length text < 2 ^ 64 → text ≡ other → (to : Name → Name) × IsRenaming h g to
   renamed_from_text l e =
       let short = few_records types h d.names text d.spelled l in
       let short' = few_records types g k.names other k.spelled (let same = ap length e in omega arith) in
-      let lines = lines_told shape types named 0 (lines_of h d.names) (lines_of g k.names) (all_legible shape h d.names w d.numbered short) (all_legible shape g k.names v k.numbered short') (sym d.spelled ∙ e ∙ k.spelled) in
+      let lines = lines_told shape types named 0 (lines_of h d.names) (lines_of g k.names) (all_legible shape h d.names w d.numbered short)
+      (all_legible shape g k.names v k.numbered short') (sym d.spelled ∙ e ∙ k.spelled) in
       (counterpart d.names k.names, IsRenaming-told shape h g d.names k.names w.well_formed v.well_formed d.numbered k.numbered lines)
 
   pub text_from_renaming : (to : Name → Name) → IsRenaming h g to → text ≡ other

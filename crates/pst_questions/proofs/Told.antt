@@ -19,7 +19,8 @@ abbrev pub counterpart : (names others : List Name) → Name → Name
 counterpart names others n = get_or others (number_in names n) root_name
 
 -- a target with the same number
-one_target : (names others : List Name) (p q : Option Name) → option_map (number_in names) p ≡ option_map (number_in others) q → ((m : Name) → q ≡ Some m → slice_get others (number_in others m) ≡ Some m) → q ≡ option_map (counterpart names others) p
+one_target : (names others : List Name) (p q : Option Name) → option_map (number_in names) p ≡ option_map (number_in others) q
+    → ((m : Name) → q ≡ Some m → slice_get others (number_in others m) ≡ Some m) → q ≡ option_map (counterpart names others) p
 one_target names others None None e listed = refl
 one_target names others None (Some m) e listed = absurd (cc)
 one_target names others (Some n) None e listed = absurd (cc)
@@ -28,7 +29,9 @@ one_target names others (Some n) (Some m) e listed =
     ap Some (sym (ap (λ k. get_or others k root_name) same ∙ get_or_from_slice_get others (number_in others m) m root_name (listed m refl)))
 
 -- targets with equal numbers
-same_targets : (names others : List Name) (ps qs : List (Option Name)) → map (option_map (number_in names)) ps ≡ map (option_map (number_in others)) qs → ((k : ℕ) (m : Name) → get_or qs k None ≡ Some m → slice_get others (number_in others m) ≡ Some m)
+same_targets : (names others : List Name) (ps qs : List (Option Name))
+    → map (option_map (number_in names)) ps ≡ map (option_map (number_in others)) qs
+    → ((k : ℕ) (m : Name) → get_or qs k None ≡ Some m → slice_get others (number_in others m) ≡ Some m)
     → qs ≡ map (option_map (counterpart names others)) ps
 same_targets names others [] [] e listed = refl
 same_targets names others [] (q ∷ qs) e listed = absurd (cc)
@@ -38,7 +41,8 @@ same_targets names others (p ∷ ps) (q ∷ qs) e listed =
     let rest = same_targets names others ps qs (let s : map (option_map (number_in names)) ps ≡ map (option_map (number_in others)) qs = cc in s) (λ k m is. listed (suc k) m is) in
     λ i. first i ∷ rest i
 
-same_record : (names others : List Name) (r q : Rec) → line_of names (Some r) ≡ line_of others (Some q) → ((k : ℕ) (m : Name) → get_or q.pointers k None ≡ Some m → slice_get others (number_in others m) ≡ Some m) → q ≡ renamed (counterpart names others) r
+same_record : (names others : List Name) (r q : Rec) → line_of names (Some r) ≡ line_of others (Some q)
+    → ((k : ℕ) (m : Name) → get_or q.pointers k None ≡ Some m → slice_get others (number_in others m) ≡ Some m) → q ≡ renamed (counterpart names others) r
 same_record names others r q e listed =
     let pointers = same_targets names others r.pointers q.pointers (ap (λ (l : Line). l.targets) e) listed in
     let ty : q.ty ≡ r.ty = sym (ap (λ (l : Line). l.ty) e) in
@@ -53,7 +57,8 @@ same_at f g xs ys i x y e at_x at_y =
     let both : Some (f x) ≡ Some (g y) = sym left ∙ ap (λ l. slice_get l i) e ∙ right in
     cc
 
-module _ (shape : List TypeShape) (h g : Heap) (names others : List Name) (w : IsWellFormed shape h) (v : IsWellFormed shape g) (a : AreNumbered h names) (b : AreNumbered g others) (e : lines_of h names ≡ lines_of g others) where
+module _ (shape : List TypeShape) (h g : Heap) (names others : List Name) (w : IsWellFormed shape h) (v : IsWellFormed shape g)
+    (a : AreNumbered h names) (b : AreNumbered g others) (e : lines_of h names ≡ lines_of g others) where
   same_length : length names ≡ length others
   same_length = sym (length-map names (λ n. line_of names (get h n))) ∙ ap length e ∙ length-map others (λ n. line_of others (get g n))
 

@@ -81,7 +81,8 @@ covers_more es e n path c = record { index = c.index; reach = c.reach; at = slic
 pub new_name : (es : List Reach) (n : Name) (i : ℕ) (d : Reach) → list_any (same_name n) (names_in es) ≡ false → slice_get es i ≡ Some d → ¬ (n ≡ d.name)
 new_name es n i d none at = unlisted_apart (names_in es) n i d.name none (slice_get-map (λ (e : Reach). e.name) es i ∙ ap (option_map (λ (e : Reach). e.name)) at)
 
-rises_more : (h : Heap) (es : List Reach) (e : Reach) → Rises h es → Leads h e.path e.name → ((i : ℕ) (d : Reach) → slice_get es i ≡ Some d → IsBefore d.path e.path) → list_any (same_name e.name) (names_in es) ≡ false → Rises h (es ++ e ∷ [])
+rises_more : (h : Heap) (es : List Reach) (e : Reach) → Rises h es → Leads h e.path e.name
+    → ((i : ℕ) (d : Reach) → slice_get es i ≡ Some d → IsBefore d.path e.path) → list_any (same_name e.name) (names_in es) ≡ false → Rises h (es ++ e ∷ [])
 rises_more h es e r leads after new = record {
   leads = λ i d at. elim (slice_get-push es e i d at) [ inl old ↦ r.leads i d old | inr last ↦ subst (λ (d : Reach). Leads h d.path d.name) last.1 leads ];
   rising = λ i j c d less at_i at_j. elim (slice_get-push es e j d at_j) [
@@ -131,7 +132,8 @@ below_next : (d : Reach) (slots : ℕ) (path : Path) → IsBefore path (d.path +
 below_next d slots path b = IsBefore-trans path (d.path ++ slots ∷ []) (d.path ++ (slots + 1) ∷ []) b (IsBefore-next d.path slots (slots + 1) (omega arith))
 
 -- a slot whose target is noted already, or that has none
-same_list : (h : Heap) (done : ℕ) (d : Reach) (slots : ℕ) (es : List Reach) → Within h done d slots es → ((n : Name) → target_in h d.name slots ≡ Some n → Covers es n (d.path ++ slots ∷ [])) → Within h done d (slots + 1) es
+same_list : (h : Heap) (done : ℕ) (d : Reach) (slots : ℕ) (es : List Reach) → Within h done d slots es
+    → ((n : Name) → target_in h d.name slots ≡ Some n → Covers es n (d.path ++ slots ∷ [])) → Within h done d (slots + 1) es
 same_list h done d slots es w covered = record {
   rises = w.rises;
   closed = w.closed;
@@ -143,8 +145,10 @@ same_list h done d slots es w covered = record {
   below = λ i e at. below_next d slots e.path (w.below i e at);
 }
 
-covered_by : (es : List Reach) (n : Name) (path : Path) → ((i : ℕ) (e : Reach) → slice_get es i ≡ Some e → IsBefore e.path path) → (p : Placed (names_in es) n) → (o : Option Reach) → slice_get es p.index ≡ o → Covers es n path
-covered_by es n path below p None at = absurd (let none : option_map (λ (e : Reach). e.name) (slice_get es p.index) ≡ None = ap (option_map (λ (e : Reach). e.name)) at in let some = sym (slice_get-map (λ (e : Reach). e.name) es p.index) ∙ p.at in cc)
+covered_by : (es : List Reach) (n : Name) (path : Path) → ((i : ℕ) (e : Reach) → slice_get es i ≡ Some e → IsBefore e.path path)
+    → (p : Placed (names_in es) n) → (o : Option Reach) → slice_get es p.index ≡ o → Covers es n path
+covered_by es n path below p None at = absurd (let none : option_map (λ (e : Reach). e.name) (slice_get es p.index) ≡ None =
+    ap (option_map (λ (e : Reach). e.name)) at in let some = sym (slice_get-map (λ (e : Reach). e.name) es p.index) ∙ p.at in cc)
 covered_by es n path below p (Some e) at =
     let some : Some e.name ≡ Some n = sym (ap (option_map (λ (e : Reach). e.name)) at) ∙ sym (slice_get-map (λ (e : Reach). e.name) es p.index) ∙ p.at in
     record { index = p.index; reach = e; at = at; name = cc; up_to = inr (below p.index e at) }
@@ -171,7 +175,8 @@ one_more h done d slots es n w is new =
       ];
     }
 
-step : (h : Heap) (done : ℕ) (d : Reach) (slots : ℕ) (es : List Reach) (target : Option Name) → Within h done d slots es → target_in h d.name slots ≡ target → Stepped h done d (slots + 1) (noted (names_in es) target)
+step : (h : Heap) (done : ℕ) (d : Reach) (slots : ℕ) (es : List Reach) (target : Option Name) → Within h done d slots es
+    → target_in h d.name slots ≡ target → Stepped h done d (slots + 1) (noted (names_in es) target)
 step h done d slots es None w is = record { reaches = es; within = same_list h done d slots es w (λ n some. absurd (cc)); names_are = refl }
 step h done d slots es (Some n) w is =
     elim (list_any (same_name n) (names_in es)) as (λ b. list_any (same_name n) (names_in es) ≡ b → Stepped h done d (slots + 1) (if b then names_in es else names_in es ++ n ∷ [])) [
@@ -179,7 +184,9 @@ step h done d slots es (Some n) w is =
         reaches = es;
         within = same_list h done d slots es w (λ m some.
             let same : n ≡ m = (let e : Some n ≡ Some m = sym is ∙ some in cc) in
-            subst (λ (m : Name). Covers es m (d.path ++ slots ∷ [])) same (let p = place (names_in es) n (Contains-listed (names_in es) n there) in covered_by es n (d.path ++ slots ∷ []) w.below p (slice_get es p.index) refl));
+            subst (λ (m : Name). Covers es m (d.path ++ slots ∷ [])) same
+            (let p = place (names_in es) n (Contains-listed (names_in es) n there) in
+            covered_by es n (d.path ++ slots ∷ []) w.below p (slice_get es p.index) refl));
         names_are = refl;
       }
       | false ↦ λ new. record {
@@ -247,13 +254,16 @@ ended h done d slots es w past = record {
           | false ↦ λ x. absurd (let none = past slot (ltb-false slot slots x) in cc)
         ] refl)
   ];
-  below = λ i e c slot at_i at. IsBefore-trans e.path (d.path ++ slots ∷ []) (c.path ++ slot ∷ []) (w.below i e at_i) (IsBefore-extended d.path c.path slots slot (w.rises.rising done (done + 1) d c (omega arith) w.here at));
+  below = λ i e c slot at_i at. IsBefore-trans e.path (d.path ++ slots ∷ []) (c.path ++ slot ∷ []) (w.below i e at_i)
+      (IsBefore-extended d.path c.path slots slot (w.rises.rising done (done + 1) d c (omega arith) w.here at));
 }
 
 pub walked_on : (h : Heap) (done : ℕ) (d : Reach) (es : List Reach) → Walked h done es → slice_get es done ≡ Some d → WalkedOn h (done + 1) (all_noted (names_in es) (pointers_in h d.name))
 walked_on h done d es w at =
     let o = get h d.name in
-    let all = steps h done d (pointers_in h d.name) (length (values_from o)) es (begun h done d es w at) (λ j. target_past (length (values_from o) + j) o (omega arith) ∙ ap (λ k. get_or (pointers_from o) k None) (let e : length (values_from o) + j - length (values_from o) ≡ j = omega arith in e)) in
+    let all = steps h done d (pointers_in h d.name) (length (values_from o)) es (begun h done d es w at)
+    (λ j. target_past (length (values_from o) + j) o (omega arith)
+    ∙ ap (λ k. get_or (pointers_from o) k None) (let e : length (values_from o) + j - length (values_from o) ≡ j = omega arith in e)) in
     record {
       reaches = all.reaches;
       walked = ended h done d (length (values_from o) + length (pointers_from o)) all.reaches all.within (λ slot l. none_past slot o l);
@@ -275,5 +285,6 @@ walked_none h = record {
     root = refl;
   };
   closed = λ i d slot n at less is. absurd (omega arith);
-  below = λ i e d slot at_i at. subst (λ (e : Reach). IsBefore e.path (d.path ++ slot ∷ [])) (at_root i e at_i).1 (subst (λ (d : Reach). IsBefore [] (d.path ++ slot ∷ [])) (at_root 0 d at).1 (inl (omega arith)));
+  below = λ i e d slot at_i at. subst (λ (e : Reach). IsBefore e.path (d.path ++ slot ∷ [])) (at_root i e at_i).1
+      (subst (λ (d : Reach). IsBefore [] (d.path ++ slot ∷ [])) (at_root 0 d at).1 (inl (omega arith)));
 }

@@ -20,7 +20,10 @@ path_forms = record { names = refl; longest = refl; too_long = refl; none = refl
 
 pub worked_fields : WorkedFields
 unfolding resolved
-worked_fields p = (record { root = refl; number = refl; pointer = refl; no_root = refl; no_field = refl; root_behind = refl; past_number = refl }, record { plain = refl; array = refl; past_array = refl })
+worked_fields p = (
+  record { root = refl; number = refl; pointer = refl; no_root = refl; no_field = refl; root_behind = refl; past_number = refl },
+  record { plain = refl; array = refl; past_array = refl },
+)
 
 pub worked_readings_are : WorkedReadings
 unfolding reading
@@ -44,7 +47,8 @@ pub worked_changes : WorkedChanges
 worked_changes = record {
   before = change_found worked_keys 3 2 (version 1) (unchanged_more worked_keys 3 3 (version 2) (unchanged_first worked_keys 3) refl refl) refl (differ 4 (omega arith));
   here = change_found worked_keys 4 4 (version 1) (unchanged_first worked_keys 4) refl (differ 6 (omega arith));
-  far = change_found worked_firsts 3 1 (version 0) (unchanged_more worked_firsts 3 2 (version 1) (unchanged_more worked_firsts 3 3 (version 2) (unchanged_first worked_firsts 3) refl refl) refl refl) refl (λ e. cc);
+  far = change_found worked_firsts 3 1 (version 0) (unchanged_more worked_firsts 3 2 (version 1)
+      (unchanged_more worked_firsts 3 3 (version 2) (unchanged_first worked_firsts 3) refl refl) refl refl) refl (λ e. cc);
   null_is_not_nothing = change_found worked_nulls 4 1 (version 0) (unchanged_more worked_nulls 4 4 (version 1) (unchanged_first worked_nulls 4) refl refl) refl (λ e. cc);
   never = change_missing worked_firsts 0 0 (unchanged_first worked_firsts 0) refl;
 }

@@ -31,8 +31,6 @@ mod names;
 mod numbering;
 mod reading;
 mod slots;
-#[cfg(test)]
-mod tests;
 mod text;
 mod walk;
 mod worked;

@@ -64,7 +64,8 @@ module _ (w now : Chart) (x z n : ℕ) (p : AreParted w now x z n) where
       (nz, p.holds y f ne nz ∙ b)
 
 -- the partner found
-pub outer_of_pointer : (qs : List ℕ) (ns : List Node) (w : Chart) (x z s y t n : ℕ) → AreRows qs ns → AreParted w (chart qs ns) x z n → (chart qs ns).holds z s n ≡ Target y → y ≢ x → (chart qs ns).holds y t n ≡ From x s → IsOuterOf qs ns x z s y t n
+pub outer_of_pointer : (qs : List ℕ) (ns : List Node) (w : Chart) (x z s y t n : ℕ) → AreRows qs ns → AreParted w (chart qs ns) x z n
+    → (chart qs ns).holds z s n ≡ Target y → y ≢ x → (chart qs ns).holds y t n ≡ From x s → IsOuterOf qs ns x z s y t n
 outer_of_pointer qs ns w x z s y t n all p e ne f =
     let nz : y ≢ z = (outer_entry w (chart qs ns) x z n p s y e ne).0 in
     let o : IsOuter (chart qs ns) x z s y t n = record { not_x = ne; not_z = nz; pair = inl f } in
@@ -75,7 +76,8 @@ outer_of_pointer qs ns w x z s y t n all p e ne f =
       named = rw e (eq-eqb y y refl);
     }
 
-pub outer_of_entry : (qs : List ℕ) (ns : List Node) (w : Chart) (x z s y f n : ℕ) → AreRows qs ns → AreParted w (chart qs ns) x z n → (chart qs ns).holds z s n ≡ From y f → y ≢ x → IsOuterOf qs ns x z s y f n
+pub outer_of_entry : (qs : List ℕ) (ns : List Node) (w : Chart) (x z s y f n : ℕ) → AreRows qs ns → AreParted w (chart qs ns) x z n
+    → (chart qs ns).holds z s n ≡ From y f → y ≢ x → IsOuterOf qs ns x z s y f n
 outer_of_entry qs ns w x z s y f n all p e ne =
     let t = outer_pointer w (chart qs ns) x z n p s y f e ne in
     let o : IsOuter (chart qs ns) x z s y f n = record { not_x = ne; not_z = t.0; pair = inr e } in
@@ -87,7 +89,8 @@ outer_of_entry qs ns w x z s y f n all p e ne =
     }
 
 -- no partner outside, where z's slot holds neither a pointer nor an entry of another node
-pub outer_none : (w now : Chart) (x z s n : ℕ) → AreParted w now x z n → ((y : ℕ) → now.holds z s n ≡ Target y → y ≡ x) → ((y f : ℕ) → now.holds z s n ≡ From y f → y ≡ x) → (i g : ℕ) → IsOuter now x z s i g n → ⊥
+pub outer_none : (w now : Chart) (x z s n : ℕ) → AreParted w now x z n → ((y : ℕ) → now.holds z s n ≡ Target y → y ≡ x)
+    → ((y f : ℕ) → now.holds z s n ≡ From y f → y ≡ x) → (i g : ℕ) → IsOuter now x z s i g n → ⊥
 outer_none w now x z s n p a b i g o =
     ⊎_elim (λ (e : now.holds z s n ≡ Target i). o.not_x (a i e)) (λ (e : now.holds z s n ≡ From i g). o.not_x (b i g e)) (outer_held w now x z n p s i g o)
 
@@ -100,7 +103,8 @@ queues_links old new queue xs count links h = subst (λ (k : ℕ). HoldsList k (
   others = λ i w. links i ∙ h.others i w;
 })
 
-pub queue_touched : (k : ℕ) (types : List TypeShape) (old mid new : List Node) (queue queue' : Queue) (x : ℕ) (d : Row) → IsTouched k old mid x → KeepsQueue (λ i. i ≡ x) types mid new queue queue' → KeepsQueue (λ _. ⊥) types old new queue queue'
+pub queue_touched : (k : ℕ) (types : List TypeShape) (old mid new : List Node) (queue queue' : Queue) (x : ℕ) (d : Row) → IsTouched k old mid x
+    → KeepsQueue (λ i. i ≡ x) types mid new queue queue' → KeepsQueue (λ _. ⊥) types old new queue queue'
 queue_touched k types old mid new queue queue' x d t b xs h =
     let q = b xs (queues_links old mid queue xs t.count t.links h) in
     let same : (i : ℕ) → i ≢ x → IsOver types mid i → IsOver types old i = λ i ne over.
@@ -184,7 +188,8 @@ one_more_cut old now new x z n first k l a b =
           ∙ a.others i g m (λ s u v e o. none s u (omega arith) e o);
     }
 
-pub held_after : (types : List TypeShape) (asked : ℕ → Type 0) (old new : List Node) (queue queue' : Queue) → (xs : List ℕ) × Queues old queue xs → KeepsQueue asked types old new queue queue' → (xs : List ℕ) × Queues new queue' xs
+pub held_after : (types : List TypeShape) (asked : ℕ → Type 0) (old new : List Node) (queue queue' : Queue) → (xs : List ℕ) × Queues old queue xs
+    → KeepsQueue asked types old new queue queue' → (xs : List ℕ) × Queues new queue' xs
 held_after types asked old new queue queue' h k = let q = k h.0 h.1 in (h.0 ++ q.0, q.1.held)
 
 pub queue_never : (types : List TypeShape) (old new : List Node) (queue queue' : Queue) → KeepsQueue (λ i. ⊥ ⊎ ⊥) types old new queue queue' → KeepsQueue (λ _. ⊥) types old new queue queue'
@@ -196,7 +201,9 @@ before_ne qs a b l k ne = rank_before qs a b l k ne
 pub same_count : (old new : List Node) → rows_of new ≡ rows_of old → length new ≡ length old
 same_count old new rows = sym (length-rows new) ∙ ap length rows ∙ length-rows old
 
-pub grown_cut : (types : List TypeShape) (old mid new : List Node) (x : ℕ) → x < length old → IsTouched 1 old mid x → ((d : Row) → stamped_count (row_at mid x d) ≡ stamped_count (row_at old x d) + 1) → rows_of new ≡ rows_of mid → frames_of new ≡ frames_of mid → Row → AreGrown 1 types old new
+pub grown_cut : (types : List TypeShape) (old mid new : List Node) (x : ℕ) → x < length old → IsTouched 1 old mid x
+    → ((d : Row) → stamped_count (row_at mid x d) ≡ stamped_count (row_at old x d) + 1) → rows_of new ≡ rows_of mid → frames_of new ≡ frames_of mid
+    → Row → AreGrown 1 types old new
 grown_cut types old mid new x l t exact rows frames d =
     grown_on 1 0 types old mid new (grown_touched 1 types old mid x l t (λ d'. omega (arith, exact d')) d) (grown_same types mid new (same_count mid new rows) rows frames)
 

@@ -2,7 +2,8 @@ use Rattle.pst_order.specs.Places.{rank}
 use Rattle.pst_rows.specs.Rows.{shown, stamped_count, width_of}
 use Rattle.pst_mirror.specs.Charts.{chart_of, AllRows}
 use Rattle.pst_nodes.specs.Arena.{values_of, chart, AreRows, no_frame, HasRoom, rows_of, row_at, Frame, frames_of, lo_at, hi_at}
-use Rattle.std.proofs.Common.{◌≡◌, ◌≢◌, ℕ, zero, suc, ◌+◌, ◌-◌, ◌≤◌, ◌<◌, true, false, ◌||◌, eqb, List, [], ◌∷◌, ◌++◌, length, get_or, map, nat_lt, sum_by, refl, sym, ap, ap₂, ◌∙◌, subst, ⊎_elim, ◌⊎◌, inl, inr, arith, ◌↔◌, IsTrue}
+use Rattle.std.proofs.Common.{◌≡◌, ◌≢◌, ℕ, zero, suc, ◌+◌, ◌-◌, ◌≤◌, ◌<◌, true, false, ◌||◌, eqb, List, [], ◌∷◌, ◌++◌, length, get_or, map, nat_lt, sum_by}
+use Rattle.std.proofs.Common.{refl, sym, ap, ap₂, ◌∙◌, subst, ⊎_elim, ◌⊎◌, inl, inr, arith, ◌↔◌, IsTrue}
 use Rattle.std.proofs.lemmas.Bool.{cases_eq, cases_lt, eq-eqb, eqb-true, or_left, or_right, or_cases, false≢true, lt-ltb, ltb-true}
 use Rattle.std.proofs.lemmas.List.{append_assoc, append-nil, length-map, get_or-map, get_or_past}
 use Rattle.std.proofs.lemmas.List.Sums.{sum_by-cons}
@@ -52,12 +53,15 @@ over_same types old new rows frames i h =
     omega arith
 
 -- the sum, pointwise
-pub sum_le : (f : Node → ℕ) (old new : List Node) (x k : ℕ) → length new ≡ length old → ((i : ℕ) → i ≢ x → get_or (map f new) i 0 ≡ get_or (map f old) i 0) → get_or (map f new) x 0 ≤ get_or (map f old) x 0 + k → sum_by f new ≤ sum_by f old + k
+pub sum_le : (f : Node → ℕ) (old new : List Node) (x k : ℕ) → length new ≡ length old
+    → ((i : ℕ) → i ≢ x → get_or (map f new) i 0 ≡ get_or (map f old) i 0) → get_or (map f new) x 0 ≤ get_or (map f old) x 0 + k
+    → sum_by f new ≤ sum_by f old + k
 sum_le f [] [] x k e same more = omega arith
 sum_le f [] (n ∷ new) x k e same more = absurd (omega arith)
 sum_le f (o ∷ old) [] x k e same more = absurd (omega arith)
 sum_le f (o ∷ old) (n ∷ new) zero k e same more =
-    let ih : sum_by f new ≤ sum_by f old + 0 = sum_le f old new (length old) 0 (omega arith) (λ i ne. same (suc i) (λ q. omega arith)) (let t : get_or (map f new) (length old) 0 ≡ get_or (map f old) (length old) 0 = same (suc (length old)) (λ q. omega arith) in omega arith) in
+    let ih : sum_by f new ≤ sum_by f old + 0 = sum_le f old new (length old) 0 (omega arith) (λ i ne. same (suc i) (λ q. omega arith))
+    (let t : get_or (map f new) (length old) 0 ≡ get_or (map f old) (length old) 0 = same (suc (length old)) (λ q. omega arith) in omega arith) in
     rw (sum_by-cons f n new, sum_by-cons f o old) (omega arith)
 sum_le f (o ∷ old) (n ∷ new) (suc x) k e same more =
     let ih : sum_by f new ≤ sum_by f old + k = sum_le f old new x k (omega arith) (λ i ne. same (suc i) (λ q. ne (omega arith))) more in
@@ -69,7 +73,8 @@ excess_at types [] i = omega arith
 excess_at types (n ∷ ns) zero = refl
 excess_at types (n ∷ ns) (suc i) = excess_at types ns i
 
-pub potential_le : (types : List TypeShape) (old new : List Node) (x k : ℕ) → length new ≡ length old → frames_of new ≡ frames_of old → ((i : ℕ) → i ≢ x → stamped_at new i ≡ stamped_at old i) → stamped_at new x ≤ stamped_at old x + k → potential_of types new ≤ potential_of types old + k
+pub potential_le : (types : List TypeShape) (old new : List Node) (x k : ℕ) → length new ≡ length old → frames_of new ≡ frames_of old
+    → ((i : ℕ) → i ≢ x → stamped_at new i ≡ stamped_at old i) → stamped_at new x ≤ stamped_at old x + k → potential_of types new ≤ potential_of types old + k
 potential_le types old new x k e frames same more =
     let half : (i : ℕ) → half_at types new i ≡ half_at types old i = λ i. half_same types old new frames i in
     sum_le (excess types) old new x k e
@@ -84,7 +89,8 @@ potential_le types old new x k e frames same more =
 pub stamped_read : (ns : List Node) (i : ℕ) → get_or (map (λ (n : Node). stamped_count n.row) ns) i 0 ≡ stamped_at ns i
 stamped_read ns i = ap (λ ys. get_or ys i 0) (map-row stamped_count ns)
 
-pub stamped_le : (old new : List Node) (x k : ℕ) → length new ≡ length old → ((i : ℕ) → i ≢ x → stamped_at new i ≡ stamped_at old i) → stamped_at new x ≤ stamped_at old x + k → stamped_in_all new ≤ stamped_in_all old + k
+pub stamped_le : (old new : List Node) (x k : ℕ) → length new ≡ length old → ((i : ℕ) → i ≢ x → stamped_at new i ≡ stamped_at old i)
+    → stamped_at new x ≤ stamped_at old x + k → stamped_in_all new ≤ stamped_in_all old + k
 stamped_le old new x k e same more = sum_le (λ (n : Node). stamped_count n.row) old new x k e
     (λ i ne. stamped_read new i ∙ same i ne ∙ sym (stamped_read old i))
     (omega (arith, stamped_read new x, stamped_read old x, more))
@@ -98,8 +104,10 @@ grown_same types old new count rows frames = record {
   width = λ i d. ap (λ ws. width_of (get_or ws i d)) rows;
   stamped = λ i. let a : stamped_at new i ≡ stamped_at old i = ap (λ ws. get_or (map stamped_count ws) i 0) rows in omega arith;
   room = λ i d j h. subst (λ ws. HasRoom (get_or ws i d) j) (sym rows) (omega (arith, h));
-  potential = potential_le types old new 0 0 count frames (λ i ne. ap (λ ws. get_or (map stamped_count ws) i 0) rows) (let a : stamped_at new 0 ≡ stamped_at old 0 = ap (λ ws. get_or (map stamped_count ws) 0 0) rows in omega arith);
-  few = stamped_le old new 0 0 count (λ i ne. ap (λ ws. get_or (map stamped_count ws) i 0) rows) (let a : stamped_at new 0 ≡ stamped_at old 0 = ap (λ ws. get_or (map stamped_count ws) 0 0) rows in omega arith);
+  potential = potential_le types old new 0 0 count frames (λ i ne. ap (λ ws. get_or (map stamped_count ws) i 0) rows)
+      (let a : stamped_at new 0 ≡ stamped_at old 0 = ap (λ ws. get_or (map stamped_count ws) 0 0) rows in omega arith);
+  few = stamped_le old new 0 0 count (λ i ne. ap (λ ws. get_or (map stamped_count ws) i 0) rows)
+      (let a : stamped_at new 0 ≡ stamped_at old 0 = ap (λ ws. get_or (map stamped_count ws) 0 0) rows in omega arith);
 }
 
 pub grown_on : (k l : ℕ) (types : List TypeShape) (old mid new : List Node) → AreGrown k types old mid → AreGrown l types mid new → AreGrown (k + l) types old new
@@ -129,7 +137,8 @@ grown_more k l types old new m a = record {
 }
 
 -- one row touched
-pub grown_touched : (k : ℕ) (types : List TypeShape) (old new : List Node) (x : ℕ) → x < length old → IsTouched k old new x → ((d : Row) → stamped_count (row_at old x d) ≤ stamped_count (row_at new x d)) → Row → AreGrown k types old new
+pub grown_touched : (k : ℕ) (types : List TypeShape) (old new : List Node) (x : ℕ) → x < length old → IsTouched k old new x
+    → ((d : Row) → stamped_count (row_at old x d) ≤ stamped_count (row_at new x d)) → Row → AreGrown k types old new
 grown_touched k types old new x l t least d =
     let other : (i : ℕ) → i ≢ x → stamped_at new i ≡ stamped_at old i = λ i ne. ⊎_elim
     (λ (p : i < length old). stamped_is new i d (omega (arith, t.count)) ∙ ap stamped_count (t.others i d ne) ∙ sym (stamped_is old i d p))
@@ -155,7 +164,8 @@ grown_touched k types old new x l t least d =
 -- the queue
 pub waits-append : (xs ys : List ℕ) (i : ℕ) → waits (xs ++ ys) i ≡ (waits xs i || waits ys i)
 waits-append [] ys i = refl
-waits-append (x ∷ xs) ys i = ap (λ b. eqb x i || b) (waits-append xs ys i) ∙ (elim (eqb x i) as (λ b. (b || (waits xs i || waits ys i)) ≡ ((b || waits xs i) || waits ys i)) [ true ↦ refl | false ↦ refl ])
+waits-append (x ∷ xs) ys i = ap (λ b. eqb x i || b) (waits-append xs ys i)
+    ∙ (elim (eqb x i) as (λ b. (b || (waits xs i || waits ys i)) ≡ ((b || waits xs i) || waits ys i)) [ true ↦ refl | false ↦ refl ])
 
 pub over_grown : (k : ℕ) (types : List TypeShape) (old new : List Node) (i : ℕ) → AreGrown k types old new → IsOver types old i → IsOver types new i
 over_grown k types old new i a h =
@@ -181,7 +191,9 @@ queue_on asked asked' types old mid new queue queue' queue'' grown a b xs held =
     )
 
 -- where nothing is over that was not, and the links are those of before
-pub queue_same : (asked : ℕ → Type 0) (types : List TypeShape) (old new : List Node) (queue : Queue) → ((i : ℕ) → asked i → ⊥) → ((xs : List ℕ) → Queues old queue xs → Queues new queue xs) → ((i : ℕ) → IsOver types new i → IsOver types old i) → KeepsQueue asked types old new queue queue
+pub queue_same : (asked : ℕ → Type 0) (types : List TypeShape) (old new : List Node) (queue : Queue) → ((i : ℕ) → asked i → ⊥)
+    → ((xs : List ℕ) → Queues old queue xs → Queues new queue xs) → ((i : ℕ) → IsOver types new i → IsOver types old i)
+    → KeepsQueue asked types old new queue queue
 queue_same asked types old new queue none links over xs held = (
   [],
   record { held = subst (λ (zs : List ℕ). Queues new queue zs) (sym (append-nil xs)) (links xs held); over = λ i w. absurd (false≢true w) },
@@ -196,13 +208,15 @@ pub over_none : (stamped half : ℕ) → stamped ≤ half → IsTrue (nat_lt hal
 over_none stamped half l = (λ h. let k : half < stamped = ltb-true half stamped h in absurd (omega arith), λ h. absurd (omega arith))
 
 -- one node pushed
-pub queue_pushed : (types : List TypeShape) (old new : List Node) (queue queue' : Queue) (id : ℕ) → rows_of new ≡ rows_of old → frames_of new ≡ frames_of old → IsOver types old id → ((xs : List ℕ) → Queues old queue xs → Queues new queue' (xs ++ id ∷ [])) →
+pub queue_pushed : (types : List TypeShape) (old new : List Node) (queue queue' : Queue) (id : ℕ) → rows_of new ≡ rows_of old
+    → frames_of new ≡ frames_of old → IsOver types old id → ((xs : List ℕ) → Queues old queue xs → Queues new queue' (xs ++ id ∷ [])) →
     KeepsQueue (λ i. i ≡ id) types old new queue queue'
 queue_pushed types old new queue queue' id rows frames over held xs h = (
   id ∷ [],
   record {
     held = held xs h;
-    over = λ i w. let e : id ≡ i = ⊎_elim (λ (q : eqb id i ≡ true). eqb-true id i q) (λ (q : false ≡ true). absurd (false≢true q)) (or_cases (eqb id i) false w) in subst (λ (k : ℕ). IsOver types new k) e (over_same types new old (sym rows) (sym frames) id over);
+    over = λ i w. let e : id ≡ i = ⊎_elim (λ (q : eqb id i ≡ true). eqb-true id i q) (λ (q : false ≡ true). absurd (false≢true q))
+        (or_cases (eqb id i) false w) in subst (λ (k : ℕ). IsOver types new k) e (over_same types new old (sym rows) (sym frames) id over);
   },
   λ i o w. waits-push xs id i ∙ ⊎_elim
       (λ (e : i ≡ id). or_right (waits xs i) (eqb id i) (eq-eqb id i (sym e)))
@@ -211,7 +225,8 @@ queue_pushed types old new queue queue' id rows frames over held xs h = (
 )
 
 -- no node pushed, since the one asked for waits or is not over
-pub queue_kept : (types : List TypeShape) (old : List Node) (queue : Queue) (id : ℕ) → ((xs : List ℕ) → Queues old queue xs → WaitsIfOver types old xs id) → KeepsQueue (λ i. i ≡ id) types old old queue queue
+pub queue_kept : (types : List TypeShape) (old : List Node) (queue : Queue) (id : ℕ)
+    → ((xs : List ℕ) → Queues old queue xs → WaitsIfOver types old xs id) → KeepsQueue (λ i. i ≡ id) types old old queue queue
 queue_kept types old queue id closed xs h = (
   [],
   record { held = subst (λ (zs : List ℕ). Queues old queue zs) (sym (append-nil xs)) h; over = λ i w. absurd (false≢true w) },
@@ -224,12 +239,18 @@ pub only_none : (named : ℕ → Type 0) (old new : List Node) (queue : Queue) �
 only_none named old new queue links xs h = ([], subst (λ (zs : List ℕ). Queues new queue zs) (sym (append-nil xs)) (links xs h), λ i w. absurd (false≢true w))
 
 pub only_one : (old new : List Node) (queue queue' : Queue) (id : ℕ) → ((xs : List ℕ) → Queues old queue xs → Queues new queue' (xs ++ id ∷ [])) → HasQueuedOnly (λ i. i ≡ id) old new queue queue'
-only_one old new queue queue' id held xs h = (id ∷ [], held xs h, λ i w. sym (⊎_elim (λ (q : eqb id i ≡ true). eqb-true id i q) (λ (q : false ≡ true). absurd (false≢true q)) (or_cases (eqb id i) false w)))
+only_one old new queue queue' id held xs h = (
+  id ∷ [],
+  held xs h,
+  λ i w. sym (⊎_elim (λ (q : eqb id i ≡ true). eqb-true id i q) (λ (q : false ≡ true). absurd (false≢true q)) (or_cases (eqb id i) false w)),
+)
 
-pub only_weaker : (named named' : ℕ → Type 0) (old new : List Node) (queue queue' : Queue) → ((i : ℕ) → named i → named' i) → HasQueuedOnly named old new queue queue' → HasQueuedOnly named' old new queue queue'
+pub only_weaker : (named named' : ℕ → Type 0) (old new : List Node) (queue queue' : Queue) → ((i : ℕ) → named i → named' i)
+    → HasQueuedOnly named old new queue queue' → HasQueuedOnly named' old new queue queue'
 only_weaker named named' old new queue queue' to k xs h = let q = k xs h in (q.0, q.1, λ i w. to i (q.2 i w))
 
-pub only_on : (named : ℕ → Type 0) (old mid new : List Node) (queue queue' queue'' : Queue) → HasQueuedOnly named old mid queue queue' → HasQueuedOnly named mid new queue' queue'' → HasQueuedOnly named old new queue queue''
+pub only_on : (named : ℕ → Type 0) (old mid new : List Node) (queue queue' queue'' : Queue) → HasQueuedOnly named old mid queue queue'
+    → HasQueuedOnly named mid new queue' queue'' → HasQueuedOnly named old new queue queue''
 only_on named old mid new queue queue' queue'' a b xs h =
     let p = a xs h in
     let q = b (xs ++ p.0) p.1 in (

@@ -42,7 +42,8 @@ module _ (types : List TypeShape) (qs : List ℕ) (old new : List Node) (x f y s
   d = some_row old x there
 
   pub pair_nodes : HasSameNodes (arena_of (rank qs) (seen old)) (arena_of (rank qs) (seen new))
-  pair_nodes = same_on (arena_of (rank qs) (seen old)) (arena_of (rank qs) (seen t.mid)) (arena_of (rank qs) (seen new)) (touched_nodes types qs 2 old t.mid x t.first) (touched_nodes types qs 2 t.mid new y t.second)
+  pair_nodes = same_on (arena_of (rank qs) (seen old)) (arena_of (rank qs) (seen t.mid)) (arena_of (rank qs) (seen new))
+      (touched_nodes types qs 2 old t.mid x t.first) (touched_nodes types qs 2 t.mid new y t.second)
 
   pub pair_seen : ((i : ℕ) → i < length old → IsTyped types old i) → IsPairSeen types (seen old) (seen new)
   pair_seen typed =
@@ -51,7 +52,8 @@ module _ (types : List TypeShape) (qs : List ℕ) (old new : List Node) (x f y s
       record {
         wide = seen_wide types new (touched_wide types qs 2 t.mid new y t.second (touched_wide types qs 2 old t.mid x t.first typed));
         grown = record {
-          each = grown_on (map (load_of types) (seen old)) (map (load_of types) (seen t.mid)) (map (load_of types) (seen new)) (touched_grown types qs 2 old t.mid x t.first d up) (touched_grown types qs 2 t.mid new y t.second d up');
+          each = grown_on (map (load_of types) (seen old)) (map (load_of types) (seen t.mid)) (map (load_of types) (seen new))
+              (touched_grown types qs 2 old t.mid x t.first d up) (touched_grown types qs 2 t.mid new y t.second d up');
           few = omega (arith, touched_few types qs 2 old t.mid x t.first d up, touched_few types qs 2 t.mid new y t.second d up');
         };
       }
@@ -60,7 +62,8 @@ pub links_are_seen : LinksAreSeen
 links_are_seen types qs old new x f y s b l m h t typed = (
   record {
     nodes = pair_nodes types qs old new x f y s b l t;
-    linked = subst (λ (c : Chart). IsLinked (arena_of (rank qs) (seen old)).chart c x f y s b) (sym (seen_chart qs new)) (subst (λ (c : Chart). IsLinked c (chart qs new) x f y s b) (sym (seen_chart qs old)) h);
+    linked = subst (λ (c : Chart). IsLinked (arena_of (rank qs) (seen old)).chart c x f y s b) (sym (seen_chart qs new))
+        (subst (λ (c : Chart). IsLinked c (chart qs new) x f y s b) (sym (seen_chart qs old)) h);
   },
   pair_seen types qs old new x f y s b l t typed,
 )
@@ -69,7 +72,8 @@ pub unlinks_are_seen : UnlinksAreSeen
 unlinks_are_seen types qs old new x f y s b l m h t typed = (
   record {
     nodes = pair_nodes types qs old new x f y s b l t;
-    unlinked = subst (λ (c : Chart). IsUnlinked (arena_of (rank qs) (seen old)).chart c x f y s b) (sym (seen_chart qs new)) (subst (λ (c : Chart). IsUnlinked c (chart qs new) x f y s b) (sym (seen_chart qs old)) h);
+    unlinked = subst (λ (c : Chart). IsUnlinked (arena_of (rank qs) (seen old)).chart c x f y s b) (sym (seen_chart qs new))
+        (subst (λ (c : Chart). IsUnlinked c (chart qs new) x f y s b) (sym (seen_chart qs old)) h);
   },
   pair_seen types qs old new x f y s b l t typed,
 )

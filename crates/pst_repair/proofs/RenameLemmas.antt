@@ -56,7 +56,8 @@ module _ (old new : Chart) (x z n : ℕ) (done : ℕ → ℕ → Bool) (r : IsRe
   pub fin_same : (i g m : ℕ) → (finished new x z n).holds i g m ≡ (finished old x z n).holds i g m
   fin_same i g m =
       ⊎_elim
-      (λ (l : m < n). fin_early new x z n i g m l ∙ ⊎_elim (λ (e : new.holds i g m ≡ old.holds i g m). e ∙ sym (fin_early old x z n i g m l)) (λ (e : new.holds i g m ≡ (finished old x z n).holds i g m). e) (either i g m))
+      (λ (l : m < n). fin_early new x z n i g m l ∙ ⊎_elim (λ (e : new.holds i g m ≡ old.holds i g m). e ∙ sym (fin_early old x z n i g m l))
+      (λ (e : new.holds i g m ≡ (finished old x z n).holds i g m). e) (either i g m))
       (λ (l : n ≤ m). fin_late new x z n i g m l ∙ ⊎_elim
       (λ (e : new.holds i g m ≡ old.holds i g m). ap (renamed x z) e ∙ sym (fin_late old x z n i g m l))
       (λ (e : new.holds i g m ≡ (finished old x z n).holds i g m). ap (renamed x z) (e ∙ fin_late old x z n i g m l) ∙ renamed_twice x z (old.holds i g m) r.other ∙ sym (fin_late old x z n i g m l))
@@ -84,7 +85,8 @@ half_on old mid new fin fin' z d d' e a b' =
       others = λ i g m no_one. b.others i g m no_one;
       handled = λ i g m h p q. ⊎_elim
           (λ (u : d' h m ≡ true). b.handled i g m h p u)
-          (λ (u : d' h m ≡ false). b.waiting i g m h p u ∙ a.handled i g m h p (⊎_elim (λ (v : d h m ≡ true). v) (λ (v : d' h m ≡ true). absurd (false≢true (sym u ∙ v))) (or_cases (d h m) (d' h m) q)))
+          (λ (u : d' h m ≡ false). b.waiting i g m h p u ∙ a.handled i g m h p
+          (⊎_elim (λ (v : d h m ≡ true). v) (λ (v : d' h m ≡ true). absurd (false≢true (sym u ∙ v))) (or_cases (d h m) (d' h m) q)))
           (cases_Bool (d' h m));
       waiting = λ i g m h p q. let w : (d h m ≡ false) × (d' h m ≡ false) = neither (d h m) (d' h m) q in b.waiting i g m h p w.1 ∙ a.waiting i g m h p w.0;
     }
@@ -123,7 +125,8 @@ pub link_held : (c : Content) → is_link c ≡ true → c ≢ Null
 link_held c l e = false≢true (sym (ap is_link e) ∙ l)
 
 -- so z lives there
-pub partner_lives : (qs : List ℕ) (ns : List Node) (x z n h i g m : ℕ) → AreRows qs ns → IsMirrored (finished (chart qs ns) x z n) → IsPartner (finished (chart qs ns) x z n) z h i g m → is_link ((chart qs ns).holds z h m) ≡ true × IsSlot qs ns z h m
+pub partner_lives : (qs : List ℕ) (ns : List Node) (x z n h i g m : ℕ) → AreRows qs ns → IsMirrored (finished (chart qs ns) x z n)
+    → IsPartner (finished (chart qs ns) x z n) z h i g m → is_link ((chart qs ns).holds z h m) ≡ true × IsSlot qs ns z h m
 partner_lives qs ns x z n h i g m all mir p =
     let w = chart qs ns in
     let l : is_link ((chart qs ns).holds z h m) ≡ true = ⊎_elim
@@ -135,17 +138,20 @@ partner_lives qs ns x z n h i g m all mir p =
 -- the partner of one segment
 module _ (qs : List ℕ) (ns : List Node) (x z s m : ℕ) (all : AreRows qs ns) (is : IsSlot qs ns z s m) (r : IsRenamable (chart qs ns) x z (begin_of qs ns z)) where
   pub late : begin_of qs ns z ≤ m
-  late = let d : Row = some_row ns z is.alive.there in let e : (row_at ns z (some_row ns z is.alive.there)).lo.0 ≡ lo_at ns z = lo_is ns z (some_row ns z is.alive.there) is.alive.there in subst (λ (p : ℕ). rank qs p ≤ m) e (is.alive.low (some_row ns z is.alive.there))
+  late = let d : Row = some_row ns z is.alive.there in let e : (row_at ns z (some_row ns z is.alive.there)).lo.0 ≡ lo_at ns z =
+      lo_is ns z (some_row ns z is.alive.there) is.alive.there in subst (λ (p : ℕ). rank qs p ≤ m) e (is.alive.low (some_row ns z is.alive.there))
 
   pub pointer_found : (y : ℕ) → (chart qs ns).holds z s m ≡ Target y → (t : ℕ) × (renamed x z ((chart qs ns).holds (moved x z y) t m) ≡ From z s) × IsAlive qs ns (moved x z y) m
   pointer_found y e =
       let fin = finished (chart qs ns) x z (begin_of qs ns z) in
-      let f : (t : ℕ) × ((finished (chart qs ns) x z (begin_of qs ns z)).holds (moved x z y) t m ≡ From z s) = r.mirrored.found z s m (moved x z y) (fin_late (chart qs ns) x z (begin_of qs ns z) z s m late ∙ ap (renamed x z) e) in
+      let f : (t : ℕ) × ((finished (chart qs ns) x z (begin_of qs ns z)).holds (moved x z y) t m ≡ From z s) =
+      r.mirrored.found z s m (moved x z y) (fin_late (chart qs ns) x z (begin_of qs ns z) z s m late ∙ ap (renamed x z) e) in
       let e' : renamed x z ((chart qs ns).holds (moved x z y) f.0 m) ≡ From z s = sym (fin_late (chart qs ns) x z (begin_of qs ns z) (moved x z y) f.0 m late) ∙ f.1 in
       let slot : IsSlot qs ns (moved x z y) f.0 m = named_slot qs ns (moved x z y) f.0 m x z s all e' in
       (f.0, e', slot.alive)
 
-  pub partner_of_pointer : (y t : ℕ) → renamed x z ((chart qs ns).holds (moved x z y) t m) ≡ From z s → IsPartnerOf qs ns x z s m (record { node = record { 0 = moved x z y }; slot = record { 0 = t }; content = From z s })
+  pub partner_of_pointer : (y t : ℕ) → renamed x z ((chart qs ns).holds (moved x z y) t m) ≡ From z s
+      → IsPartnerOf qs ns x z s m (record { node = record { 0 = moved x z y }; slot = record { 0 = t }; content = From z s })
   partner_of_pointer y t e =
       let e' : (finished (chart qs ns) x z (begin_of qs ns z)).holds (moved x z y) t m ≡ From z s = fin_late (chart qs ns) x z (begin_of qs ns z) (moved x z y) t m late ∙ e in
       record { partner = inl e'; content = sym e'; slot = named_slot qs ns (moved x z y) t m x z s all e }
@@ -171,7 +177,8 @@ partner_segment w z s a e i g st mir seg p =
 
 -- one segment done
 -- a segment that is replaced and covers the begin of a segment is that segment
-pub replaced_from : (qs : List ℕ) (old new : List Node) (i g a : ℕ) (c : Content) → IsSegmentReplaced qs old new i g a c → (e : ℕ) → IsSegmentOf (chart qs old) i g a e → IsReplacedOver (chart qs old) (chart qs new) i g a e c
+pub replaced_from : (qs : List ℕ) (old new : List Node) (i g a : ℕ) (c : Content) → IsSegmentReplaced qs old new i g a c → (e : ℕ)
+    → IsSegmentOf (chart qs old) i g a e → IsReplacedOver (chart qs old) (chart qs new) i g a e c
 replaced_from qs old new i g a c h e s =
     let low : h.low ≡ a = ⊎_elim
     (λ (l : h.low < a). absurd (false≢true (sym (h.segment.whole a l h.not_over) ∙ s.begins)))
@@ -186,7 +193,8 @@ replaced_from qs old new i g a c h e s =
     (cases_lt h.high e) in
     subst (λ (n : ℕ). IsReplacedOver (chart qs old) (chart qs new) i g n e c) low (subst (λ (n : ℕ). IsReplacedOver (chart qs old) (chart qs new) i g h.low n c) high h.replaced)
 
-pub segment_done : (old new : Chart) (x z n s a e i g : ℕ) (c : Content) → IsRenamable old x z n → IsSegmentOf old z s a e → IsPartner (finished old x z n) z s i g a → c ≡ (finished old x z n).holds i g a →
+pub segment_done : (old new : Chart) (x z n s a e i g : ℕ) (c : Content) → IsRenamable old x z n → IsSegmentOf old z s a e
+    → IsPartner (finished old x z n) z s i g a → c ≡ (finished old x z n).holds i g a →
     ((e : ℕ) → IsSegmentOf old i g a e → IsReplacedOver old new i g a e c) →
     IsHalfway old (finished old x z n) new z (one_more (λ _ _. false) s a e) × ((j t m : ℕ) → new.edge j t m ≡ old.edge j t m)
 segment_done old new x z n s a e i g c r seg p is set =
@@ -199,9 +207,11 @@ segment_done old new x z n s a e i g c r seg p is set =
       w.edges,
     )
 
-pub segment_passed : (old : Chart) (x z n s a e : ℕ) → IsRenamable old x z n → IsSegmentOf old z s a e → HasNoPartner (finished old x z n) z s a → IsHalfway old (finished old x z n) old z (one_more (λ _ _. false) s a e)
+pub segment_passed : (old : Chart) (x z n s a e : ℕ) → IsRenamable old x z n → IsSegmentOf old z s a e → HasNoPartner (finished old x z n) z s a
+    → IsHalfway old (finished old x z n) old z (one_more (λ _ _. false) s a e)
 segment_passed old x z n s a e r seg p =
-    no_partner_law old (finished old x z n) old z (λ _ _. false) s a e r.steady r.mirrored (start_law old x z n r.mirrored) (record { begins = seg.begins; ends = seg.ends; some = seg.some; whole = seg.whole }) p.no_pointer p.no_entry
+    no_partner_law old (finished old x z n) old z (λ _ _. false) s a e r.steady r.mirrored (start_law old x z n r.mirrored)
+    (record { begins = seg.begins; ends = seg.ends; some = seg.some; whole = seg.whole }) p.no_pointer p.no_entry
 
 -- replacing
 pub replaced_itself : (ns : List Node) → AreReplaced ns ns
@@ -229,7 +239,9 @@ replaced_touched old new x l t exact =
       hi = t.hi;
       width = t.width;
       stamped = λ i. ⊎_elim
-          (λ (p : i < length old). stamped_is new i (some_row old x l) (omega (arith, t.count)) ∙ ⊎_elim (λ (e : i ≡ x). rw e (exact (some_row old x l))) (λ (ne : i ≡ x → ⊥). ap stamped_count (t.others i (some_row old x l) ne)) (cases_eq i x) ∙ sym (stamped_is old i (some_row old x l) p))
+          (λ (p : i < length old). stamped_is new i (some_row old x l) (omega (arith, t.count))
+          ∙ ⊎_elim (λ (e : i ≡ x). rw e (exact (some_row old x l))) (λ (ne : i ≡ x → ⊥). ap stamped_count (t.others i (some_row old x l) ne))
+          (cases_eq i x) ∙ sym (stamped_is old i (some_row old x l) p))
           (λ (p : length old ≤ i). stamped_past new i (omega (arith, t.count)) ∙ sym (stamped_past old i p))
           (cases_lt i (length old));
     }
@@ -264,7 +276,8 @@ slots_done_more first index k m l =
     or_false false = refl
 
 pub slots_none : (first k : ℕ) → (leb first k && ltb k first) ≡ false
-slots_none first k = ⊎_elim (λ (l : k < first). and_left (leb first k) (ltb k first) (lt-leb first k l)) (λ (l : first ≤ k). and_right (leb first k) (ltb k first) (le-ltb k first l)) (cases_lt k first)
+slots_none first k = ⊎_elim (λ (l : k < first). and_left (leb first k) (ltb k first) (lt-leb first k l))
+    (λ (l : first ≤ k). and_right (leb first k) (ltb k first) (le-ltb k first l)) (cases_lt k first)
 
 -- the life of z
 module _ (qs : List ℕ) (ns : List Node) (z : ℕ) (l : z < length ns) (all : AreRows qs ns) where
@@ -275,13 +288,17 @@ module _ (qs : List ℕ) (ns : List Node) (z : ℕ) (l : z < length ns) (all : A
   begin_edge s =
       let d : Row = some_row ns z l in
       edges_in qs ns z (some_row ns z l) l s (begin_of qs ns z)
-      ∙ edge_here (stamps_of (rank qs) (row_at ns z (some_row ns z l)) s) (rank qs (row_at ns z (some_row ns z l)).lo.0) (rank qs (row_at ns z (some_row ns z l)).hi.0) (begin_of qs ns z) (inl (ap (rank qs) (sym (lo_is ns z (some_row ns z l) l))))
+      ∙ edge_here (stamps_of (rank qs) (row_at ns z (some_row ns z l)) s) (rank qs (row_at ns z (some_row ns z l)).lo.0)
+      (rank qs (row_at ns z (some_row ns z l)).hi.0) (begin_of qs ns z) (inl (ap (rank qs) (sym (lo_is ns z (some_row ns z l) l))))
 
   pub life : (begin_of qs ns z < rank qs (hi_at ns z)) × (rank qs (hi_at ns z) < length qs)
   life =
       let a : (row_at ns z (some_row ns z l)).lo.0 ≡ lo_at ns z = lo_is ns z (some_row ns z l) l in
-      let b : (row_at ns z (some_row ns z l)).hi.0 ≡ hi_at ns z = hi_is ns z (some_row ns z l) l in
-      (subst (λ (p : ℕ). rank qs p < rank qs (hi_at ns z)) a (subst (λ (p : ℕ). rank qs (row_at ns z (some_row ns z l)).lo.0 < rank qs p) b z_row.life), subst (λ (p : ℕ). rank qs p < length qs) b z_row.there)
+      let b : (row_at ns z (some_row ns z l)).hi.0 ≡ hi_at ns z = hi_is ns z (some_row ns z l) l in (
+        subst (λ (p : ℕ). rank qs p < rank qs (hi_at ns z)) a (subst (λ (p : ℕ). rank qs (row_at ns z (some_row ns z l)).lo.0 < rank qs p) b
+            z_row.life),
+        subst (λ (p : ℕ). rank qs p < length qs) b z_row.there,
+      )
 
   pub slot_in : (s m : ℕ) → ((d : Row) → s < width_of (row_at ns z d)) → begin_of qs ns z ≤ m → m < rank qs (hi_at ns z) → IsSlot qs ns z s m
   slot_in s m wide low high = record {
@@ -300,7 +317,8 @@ module _ (qs : List ℕ) (ns : List Node) (z : ℕ) (l : z < length ns) (all : A
       (subst (λ (p : ℕ). rank qs p ≤ m) a (is.alive.low (some_row ns z l)), subst (λ (p : ℕ). m < rank qs p) b (is.alive.high (some_row ns z l)))
 
   -- nothing is done before the life, and all is done at its end
-  pub half_none : (x s : ℕ) → IsRenamable (chart qs ns) x z (begin_of qs ns z) → IsHalfway (chart qs ns) (finished (chart qs ns) x z (begin_of qs ns z)) (chart qs ns) z (slot_done_to s (begin_of qs ns z))
+  pub half_none : (x s : ℕ) → IsRenamable (chart qs ns) x z (begin_of qs ns z)
+      → IsHalfway (chart qs ns) (finished (chart qs ns) x z (begin_of qs ns z)) (chart qs ns) z (slot_done_to s (begin_of qs ns z))
   half_none x s r =
       half_ext (chart qs ns) (finished (chart qs ns) x z (begin_of qs ns z)) (chart qs ns) z (λ h m. false) (slot_done_to s (begin_of qs ns z))
       (λ i g m h p.
@@ -308,7 +326,9 @@ module _ (qs : List ℕ) (ns : List Node) (z : ℕ) (l : z < length ns) (all : A
       sym (and_right (eqb h s) (ltb m (begin_of qs ns z)) (le-ltb m (begin_of qs ns z) (slot_life h m t.1).0)))
       (start_law (chart qs ns) x z (begin_of qs ns z) r.mirrored)
 
-  pub half_whole : (x s : ℕ) (new : Chart) → IsRenamable (chart qs ns) x z (begin_of qs ns z) → IsHalfway (chart qs ns) (finished (chart qs ns) x z (begin_of qs ns z)) new z (slot_done_to s (rank qs (hi_at ns z))) → IsHalfway (chart qs ns) (finished (chart qs ns) x z (begin_of qs ns z)) new z (slot_done s)
+  pub half_whole : (x s : ℕ) (new : Chart) → IsRenamable (chart qs ns) x z (begin_of qs ns z)
+      → IsHalfway (chart qs ns) (finished (chart qs ns) x z (begin_of qs ns z)) new z (slot_done_to s (rank qs (hi_at ns z)))
+      → IsHalfway (chart qs ns) (finished (chart qs ns) x z (begin_of qs ns z)) new z (slot_done s)
   half_whole x s new r h =
       half_ext (chart qs ns) (finished (chart qs ns) x z (begin_of qs ns z)) new z (slot_done_to s (rank qs (hi_at ns z))) (slot_done s)
       (λ i g m k p.
@@ -321,8 +341,10 @@ module _ (qs : List ℕ) (ns : List Node) (z : ℕ) (l : z < length ns) (all : A
       and-true false = refl
 
 -- what is replaced is renamable still
-pub renamable_after : (qs : List ℕ) (old now : List Node) (x z : ℕ) (done : ℕ → ℕ → Bool) → IsRenamable (chart qs old) x z (begin_of qs old z) → IsHalfway (chart qs old) (finished (chart qs old) x z (begin_of qs old z)) (chart qs now) z done →
-    ((i g m : ℕ) → (chart qs now).edge i g m ≡ (chart qs old).edge i g m) → AreReplaced old now → IsRenamable (chart qs now) x z (begin_of qs now z) × (finished (chart qs now) x z (begin_of qs now z) ≡ finished (chart qs old) x z (begin_of qs old z))
+pub renamable_after : (qs : List ℕ) (old now : List Node) (x z : ℕ) (done : ℕ → ℕ → Bool) → IsRenamable (chart qs old) x z (begin_of qs old z)
+    → IsHalfway (chart qs old) (finished (chart qs old) x z (begin_of qs old z)) (chart qs now) z done →
+    ((i g m : ℕ) → (chart qs now).edge i g m ≡ (chart qs old).edge i g m) → AreReplaced old now → IsRenamable (chart qs now) x z (begin_of qs now z)
+    × (finished (chart qs now) x z (begin_of qs now z) ≡ finished (chart qs old) x z (begin_of qs old z))
 renamable_after qs old now x z done r half edges same =
     let e : begin_of qs now z ≡ begin_of qs old z = ap (rank qs) (same.lo z) in
     let p : finished (chart qs now) x z (begin_of qs old z) ≡ finished (chart qs old) x z (begin_of qs old z) = fin_path (chart qs old) (chart qs now) x z (begin_of qs old z) done r half edges in (
@@ -331,7 +353,8 @@ renamable_after qs old now x z done r half edges same =
     )
 
 -- a segment found at a place where one begins begins there
-pub segment_here : (qs : List ℕ) (ns : List Node) (z s at a c : ℕ) → (chart qs ns).edge z s (rank qs at) ≡ true → IsSegmentAt qs ns z s (rank qs at) a c → IsSegmentOf (chart qs ns) z s (rank qs at) (rank qs c)
+pub segment_here : (qs : List ℕ) (ns : List Node) (z s at a c : ℕ) → (chart qs ns).edge z s (rank qs at) ≡ true
+    → IsSegmentAt qs ns z s (rank qs at) a c → IsSegmentOf (chart qs ns) z s (rank qs at) (rank qs c)
 segment_here qs ns z s at a c e seg =
     ⊎_elim
     (λ (l : rank qs a < rank qs at). absurd (false≢true (sym (seg.segment.whole (rank qs at) l seg.not_over) ∙ e)))

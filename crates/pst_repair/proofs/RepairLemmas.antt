@@ -25,7 +25,8 @@ use Rattle.pst_repair.proofs.CutLemmas.{queues_links, same_count}
 use Rattle.pst_repair.proofs.RoomLemmas.{same_chart, same_rows, same_lo, same_hi, same_stamped, same_lives}
 use Rattle.pst_repair.specs.Repair.{IsQueued}
 
-sound_by : (types : List TypeShape) (qs : List ℕ) (old new : List Node) → length new ≡ length old → AreRows qs new → chart qs new ≡ chart qs old → lives qs new ≡ lives qs old → frames_of new ≡ frames_of old → ((i : ℕ) (d : Row) → width_of (row_at new i d) ≡ width_of (row_at old i d)) →
+sound_by : (types : List TypeShape) (qs : List ℕ) (old new : List Node) → length new ≡ length old → AreRows qs new → chart qs new ≡ chart qs old
+    → lives qs new ≡ lives qs old → frames_of new ≡ frames_of old → ((i : ℕ) (d : Row) → width_of (row_at new i d) ≡ width_of (row_at old i d)) →
     IsSound types qs old → IsSound types qs new
 sound_by types qs old new count rows same lived frames wide s =
     let ty : (i : ℕ) → (frame_at new i).ty ≡ (frame_at old i).ty = λ i. ap (λ (fs : List Frame). (get_or fs i no_frame).ty) frames in
@@ -39,8 +40,10 @@ sound_by types qs old new count rows same lived frames wide s =
             there = subst (λ (y : ℕ). y < length types) (sym (ty i)) t.there;
             width = λ d. wide i d ∙ t.width d ∙ ap (λ (y : ℕ). slot_count (type_at types (record { 0 = y }))) (sym (ty i));
           };
-      one_type = subst (λ (fs : List Frame). (i j : ℕ) → i < length new → j < length new → (get_or fs i no_frame).name ≡ (get_or fs j no_frame).name → (get_or fs i no_frame).ty ≡ (get_or fs j no_frame).ty) (sym frames) (λ i j l m e. s.one_type i j (omega arith) (omega arith) e);
-      kinds = λ i k m h. subst (λ (fs : List Frame). HasKind (type_at types (record { 0 = (get_or fs i no_frame).ty })) (λ y. record { 0 = (get_or fs y no_frame).ty }) k ((chart qs new).holds i k m)) (sym frames)
+      one_type = subst (λ (fs : List Frame). (i j : ℕ) → i < length new → j < length new → (get_or fs i no_frame).name ≡ (get_or fs j no_frame).name
+          → (get_or fs i no_frame).ty ≡ (get_or fs j no_frame).ty) (sym frames) (λ i j l m e. s.one_type i j (omega arith) (omega arith) e);
+      kinds = λ i k m h. subst (λ (fs : List Frame). HasKind (type_at types (record { 0 = (get_or fs i no_frame).ty }))
+          (λ y. record { 0 = (get_or fs y no_frame).ty }) k ((chart qs new).holds i k m)) (sym frames)
           (subst (λ (w : Chart). HasKind (type_of types old i) (type_no old) k (w.holds i k m)) (sym same) (s.kinds i k m (subst (λ (w : Lives). IsIn w i m) lived h)));
     }
 
@@ -51,7 +54,8 @@ sound_rows types qs old new rows frames s =
 
 pub sound_same : (types : List TypeShape) (qs : List ℕ) (old new : List Node) → AreSameNodes old new → IsSound types qs old → IsSound types qs new
 sound_same types qs old new e s =
-    sound_by types qs old new e.count (same_rows old new e qs s.rows) (same_chart old new e qs) (same_lives qs old new e.count (same_lo old new e) (same_hi old new e) e.frames) e.frames (λ i d. (ap (λ w. width_in w) (e.rows i d))) s
+    sound_by types qs old new e.count (same_rows old new e qs s.rows) (same_chart old new e qs)
+    (same_lives qs old new e.count (same_lo old new e) (same_hi old new e) e.frames) e.frames (λ i d. (ap (λ w. width_in w) (e.rows i d))) s
 
 pub over_nodes : (types : List TypeShape) (old new : List Node) (i : ℕ) → AreSameNodes old new → IsOver types new i → IsOver types old i
 over_nodes types old new i e o =
@@ -74,7 +78,9 @@ pub record IsPopped (types : List TypeShape) (ns : List Node) (queue : Queue) (t
   pub over : (i : ℕ) → waits tl i ≡ true → IsOver types ns i
   pub all : (i : ℕ) → i ≢ id → IsOver types ns i → waits tl i ≡ true
 
-pub popped_some : (types : List TypeShape) (old new : List Node) (queue queue' : Queue) (xs : List ℕ) (id : NodeId) → IsQueued types old queue xs → Some id ≡ head_of xs → rows_of new ≡ rows_of old → frames_of new ≡ frames_of old → Queues new queue' (tail_of xs) → IsPopped types new queue' (tail_of xs) id.0
+pub popped_some : (types : List TypeShape) (old new : List Node) (queue queue' : Queue) (xs : List ℕ) (id : NodeId) → IsQueued types old queue xs
+    → Some id ≡ head_of xs → rows_of new ≡ rows_of old → frames_of new ≡ frames_of old → Queues new queue' (tail_of xs)
+    → IsPopped types new queue' (tail_of xs) id.0
 popped_some types old new queue queue' [] id q e rows frames h = absurd (none-some id (sym e))
 popped_some types old new queue queue' (x ∷ xs) id q e rows frames h =
     let same : x ≡ id.0 = sym (ap (λ (i : NodeId). i.0) (same_Some id (numbered x) e)) in
@@ -91,7 +97,9 @@ popped_some types old new queue queue' (x ∷ xs) id q e rows frames h =
     }
 
 -- it was split
-pub split_queued : (types : List TypeShape) (old new : List Node) (queue queue' : Queue) (tl : List ℕ) (id z : ℕ) → IsPopped types old queue tl id → KeepsQueue (λ i. (i ≡ id) ⊎ (i ≡ z)) types old new queue queue' → ((i : ℕ) → i ≢ id → IsOver types old i → IsOver types new i) → (xs : List ℕ) × IsQueued types new queue' xs
+pub split_queued : (types : List TypeShape) (old new : List Node) (queue queue' : Queue) (tl : List ℕ) (id z : ℕ) → IsPopped types old queue tl id
+    → KeepsQueue (λ i. (i ≡ id) ⊎ (i ≡ z)) types old new queue queue' → ((i : ℕ) → i ≢ id → IsOver types old i → IsOver types new i) → (xs : List ℕ)
+    × IsQueued types new queue' xs
 split_queued types old new queue queue' tl id z p k grown =
     let q = k tl p.held in (
       tl ++ q.0,
@@ -106,10 +114,13 @@ split_queued types old new queue queue' tl id z p k grown =
     )
 
 -- it could not be split, and waits again
-pub refused_held : (types : List TypeShape) (old new : List Node) (queue queue' : Queue) (tl : List ℕ) (id : ℕ) → IsPopped types old queue tl id → AreSameNodes old new → queue' ≡ queue → Queues new queue' tl
+pub refused_held : (types : List TypeShape) (old new : List Node) (queue queue' : Queue) (tl : List ℕ) (id : ℕ) → IsPopped types old queue tl id
+    → AreSameNodes old new → queue' ≡ queue → Queues new queue' tl
 refused_held types old new queue queue' tl id p e same = subst (λ (u : Queue). Queues new u tl) (sym same) (queues_links old new queue tl e.count e.links p.held)
 
-pub refused_queued : (types : List TypeShape) (old mid new : List Node) (queue queue' : Queue) (tl : List ℕ) (id : ℕ) → IsPopped types old queue tl id → AreSameNodes old mid → rows_of new ≡ rows_of mid → frames_of new ≡ frames_of mid → Queues new queue' (tl ++ id ∷ []) → IsQueued types new queue' (tl ++ id ∷ [])
+pub refused_queued : (types : List TypeShape) (old mid new : List Node) (queue queue' : Queue) (tl : List ℕ) (id : ℕ) → IsPopped types old queue tl id
+    → AreSameNodes old mid → rows_of new ≡ rows_of mid → frames_of new ≡ frames_of mid → Queues new queue' (tl ++ id ∷ [])
+    → IsQueued types new queue' (tl ++ id ∷ [])
 refused_queued types old mid new queue queue' tl id p e rows frames h =
     let up : (i : ℕ) → IsOver types old i → IsOver types new i = λ i o. over_same types new mid (sym rows) (sym frames) i (over_nodes' types old mid i e o) in
     let down : (i : ℕ) → IsOver types new i → IsOver types old i = λ i o. over_nodes types old mid i e (over_same types mid new rows frames i o) in

@@ -44,13 +44,17 @@ module _ (old new : List Node) (s : AreSameNodes old new) where
   pub same_lo : (i : ℕ) → lo_at new i ≡ lo_at old i
   same_lo i = ⊎_elim
       (λ (l : i < length old). sym (lo_is new i (some_row old i l) (omega (arith, s.count))) ∙ (ap (λ w. w.lo.0) (s.rows i (some_row old i l))) ∙ lo_is old i (some_row old i l) l)
-      (λ (l : length old ≤ i). get_or_past (map (λ (n : Node). n.row.lo.0) new) i 0 (omega (arith, length-map new (λ (n : Node). n.row.lo.0), s.count)) ∙ sym (get_or_past (map (λ (n : Node). n.row.lo.0) old) i 0 (omega (arith, length-map old (λ (n : Node). n.row.lo.0)))))
+      (λ (l : length old ≤ i). get_or_past (map (λ (n : Node). n.row.lo.0) new) i 0
+      (omega (arith, length-map new (λ (n : Node). n.row.lo.0), s.count))
+      ∙ sym (get_or_past (map (λ (n : Node). n.row.lo.0) old) i 0 (omega (arith, length-map old (λ (n : Node). n.row.lo.0)))))
       (cases_lt i (length old))
 
   pub same_hi : (i : ℕ) → hi_at new i ≡ hi_at old i
   same_hi i = ⊎_elim
       (λ (l : i < length old). sym (hi_is new i (some_row old i l) (omega (arith, s.count))) ∙ (ap (λ w. w.hi.0) (s.rows i (some_row old i l))) ∙ hi_is old i (some_row old i l) l)
-      (λ (l : length old ≤ i). get_or_past (map (λ (n : Node). n.row.hi.0) new) i 0 (omega (arith, length-map new (λ (n : Node). n.row.hi.0), s.count)) ∙ sym (get_or_past (map (λ (n : Node). n.row.hi.0) old) i 0 (omega (arith, length-map old (λ (n : Node). n.row.hi.0)))))
+      (λ (l : length old ≤ i). get_or_past (map (λ (n : Node). n.row.hi.0) new) i 0
+      (omega (arith, length-map new (λ (n : Node). n.row.hi.0), s.count))
+      ∙ sym (get_or_past (map (λ (n : Node). n.row.hi.0) old) i 0 (omega (arith, length-map old (λ (n : Node). n.row.hi.0)))))
       (cases_lt i (length old))
 
   pub same_stamped : (i : ℕ) → stamped_at new i ≡ stamped_at old i
@@ -102,7 +106,8 @@ named_there qs ns x s n j (FromOf ynode fslot) all mir e q =
     subst (λ (k : ℕ). k < length ns) (eqb-true y j q) slot.alive.there
 
 -- the lives of two lists
-pub same_lives : (qs : List ℕ) (old new : List Node) → length new ≡ length old → ((i : ℕ) → lo_at new i ≡ lo_at old i) → ((i : ℕ) → hi_at new i ≡ hi_at old i) → frames_of new ≡ frames_of old → lives qs new ≡ lives qs old
+pub same_lives : (qs : List ℕ) (old new : List Node) → length new ≡ length old → ((i : ℕ) → lo_at new i ≡ lo_at old i)
+    → ((i : ℕ) → hi_at new i ≡ hi_at old i) → frames_of new ≡ frames_of old → lives qs new ≡ lives qs old
 same_lives qs old new count lo hi frames =
     let make : ℕ → (ℕ → ℕ) → (ℕ → ℕ) → List Frame → Lives = λ c a b fs. record {
       count = c;

@@ -95,7 +95,8 @@ dead qs ns i g m e =
     (λ (l : i < length ns).
     let none : is_alive (rank qs) (shown (row_at ns i (some_row ns i l))) m ≡ false = ⊎_elim
     (λ (q : is_alive (rank qs) (shown (row_at ns i (some_row ns i l))) m ≡ true).
-    let q' : (leb (rank qs (lo_at ns i)) m && ltb m (rank qs (hi_at ns i))) ≡ true = ap₂ (λ u v. leb (rank qs u) m && ltb m (rank qs v)) (sym (lo_is ns i (some_row ns i l) l)) (sym (hi_is ns i (some_row ns i l) l)) ∙ q in
+    let q' : (leb (rank qs (lo_at ns i)) m && ltb m (rank qs (hi_at ns i))) ≡ true =
+    ap₂ (λ u v. leb (rank qs u) m && ltb m (rank qs v)) (sym (lo_is ns i (some_row ns i l) l)) (sym (hi_is ns i (some_row ns i l) l)) ∙ q in
     absurd (false≢true (sym e ∙ and_from (ltb i (length ns)) (leb (rank qs (lo_at ns i)) m && ltb m (rank qs (hi_at ns i))) (lt-ltb i (length ns) l) q')))
     (λ (q : is_alive (rank qs) (shown (row_at ns i (some_row ns i l))) m ≡ false). q)
     (cases_Bool (is_alive (rank qs) (shown (row_at ns i (some_row ns i l))) m)) in
@@ -127,10 +128,14 @@ census_by qs old new a b c =
     ap (λ (w : Chart). make w (lives qs new) (frames_of new)) a ∙ ap (λ (l : Lives). make (chart qs old) l (frames_of new)) b ∙ ap (λ (fs : List Frame). make (chart qs old) (lives qs old) fs) c
 
 pub shows_same : (qs : List ℕ) (old new : List Node) → AreSameNodes old new → ShowsAll qs old new
-shows_same qs old new s width n = subst (λ (w : Census). ShowsSame width (census qs old) w n) (sym (census_by qs old new (same_chart old new s qs) (same_lives qs old new s.count (same_lo old new s) (same_hi old new s) s.frames) s.frames)) (λ q t fields. (λ h. h, λ h. h))
+shows_same qs old new s width n = subst (λ (w : Census). ShowsSame width (census qs old) w n)
+    (sym (census_by qs old new (same_chart old new s qs) (same_lives qs old new s.count (same_lo old new s) (same_hi old new s) s.frames) s.frames))
+    (λ q t fields. (λ h. h, λ h. h))
 
 pub shows_rows : (qs : List ℕ) (old new : List Node) → rows_of new ≡ rows_of old → frames_of new ≡ frames_of old → ShowsAll qs old new
-shows_rows qs old new rows frames width n = subst (λ (w : Census). ShowsSame width (census qs old) w n) (sym (census_by qs old new (chart_same qs old new rows) (same_lives qs old new (same_count old new rows) (lo_same old new rows) (hi_same old new rows) frames) frames)) (λ q t fields. (λ h. h, λ h. h))
+shows_rows qs old new rows frames width n = subst (λ (w : Census). ShowsSame width (census qs old) w n)
+    (sym (census_by qs old new (chart_same qs old new rows) (same_lives qs old new (same_count old new rows) (lo_same old new rows)
+    (hi_same old new rows) frames) frames)) (λ q t fields. (λ h. h, λ h. h))
 
 pub shows_on : (qs : List ℕ) (old mid new : List Node) → ShowsAll qs old mid → ShowsAll qs mid new → ShowsAll qs old new
 shows_on qs old mid new a b width n q t fields = (λ h. (b width n q t fields).0 ((a width n q t fields).0 h), λ h. (a width n q t fields).1 ((b width n q t fields).1 h))

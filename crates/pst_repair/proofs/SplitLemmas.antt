@@ -1,7 +1,9 @@
 use Rattle.pst_rows.specs.Values.{before_in, after_in, width_in, count_in}
-use Rattle.pst_repair.proofs.LoadLemmas.{chart_same, rows_kept, stamped_is, stamped_past, stamped_read, stamped_le, only_none, only_weaker, only_on, excess_at, half_same, over_same, grown_same, potential_le, lo_same, hi_same, queue_on, queue_same}
+use Rattle.pst_repair.proofs.LoadLemmas.{chart_same, rows_kept, stamped_is, stamped_past, stamped_read, stamped_le, only_none, only_weaker, only_on, excess_at}
+use Rattle.pst_repair.proofs.LoadLemmas.{half_same, over_same, grown_same, potential_le, lo_same, hi_same, queue_on, queue_same}
 use Rattle.pst_nodes.specs.Arena.{values_of, no_frame, HasRoom, rows_of, row_at, Frame, frames_of, frame_at, link_at, lo_at, hi_at, AreRows, chart, lives, IsSlot, IsTyped, type_no, type_of}
-use Rattle.std.proofs.Common.{◌≡◌, ◌≢◌, ℕ, zero, suc, ◌+◌, ◌-◌, ◌*◌, ◌≤◌, ◌<◌, true, false, ◌||◌, ◌&&◌, cond, eqb, List, [], ◌∷◌, length, get_or, map, sum_by, refl, sym, ap, ap₂, ◌∙◌, subst, ⊎_elim, ◌⊎◌, inl, inr, arith}
+use Rattle.std.proofs.Common.{◌≡◌, ◌≢◌, ℕ, zero, suc, ◌+◌, ◌-◌, ◌*◌, ◌≤◌, ◌<◌, true, false, ◌||◌, ◌&&◌, cond, eqb, List, [], ◌∷◌, length, get_or, map, sum_by}
+use Rattle.std.proofs.Common.{refl, sym, ap, ap₂, ◌∙◌, subst, ⊎_elim, ◌⊎◌, inl, inr, arith}
 use Rattle.std.proofs.lemmas.Bool.{cases_eq, cases_lt, cases_Bool, eq-eqb, ne_eqb, false≢true}
 use Rattle.std.proofs.lemmas.List.Sums.{sum_by-cons}
 use Rattle.pst_rows.specs.declared.content.Content.{Content}
@@ -35,7 +37,8 @@ use Rattle.pst_base.specs.declared.shape.TypeShape.{TypeShape}
 use Rattle.pst_nodes.specs.Changes.{IsCutInTwo}
 use Rattle.pst_nodes.proofs.NodeLemmas.{lo_is, hi_is, some_row, row_in, in_of}
 use Rattle.pst_repair.specs.Load.{IsSound, IsOver, is_link, first_in, half_in, half_at, stamped_at, stamped_in_all, excess, potential_of}
-use Rattle.pst_repair.specs.Steps.{AreParted, IsOuter, ArePartnersCutUpTo, AreGrown, AreReplaced, HasRoomRound, IsParted, IsRenamable, IsRenamed, begin_of, Queues, KeepsQueue, HasQueuedOnly, WaitsIfOver}
+use Rattle.pst_repair.specs.Steps.{AreParted, IsOuter, ArePartnersCutUpTo, AreGrown, AreReplaced, HasRoomRound, IsParted, IsRenamable, IsRenamed, begin_of}
+use Rattle.pst_repair.specs.Steps.{Queues, KeepsQueue, HasQueuedOnly, WaitsIfOver}
 use Rattle.pst_repair.specs.Split.{IsSplit, IsHalfOrNeighbour}
 use Rattle.pst_repair.proofs.CutLemmas.{outer_is, queues_links, same_count}
 use Rattle.pst_repair.proofs.RoomLemmas.{same_chart, same_lo, same_hi, same_stamped, same_lives, named_there}
@@ -100,7 +103,12 @@ module _ (old n1 : Chart) (x z n : ℕ) (mir : IsMirrored old) (a : IsMovedApart
           let inside : (first ≤ p.0) × (p.0 < end) = linked p.0 held in
           let same : n1.holds i g n ≡ old.holds i g n = parted.holds i g nx nz in
           let same' : n1.holds z p.0 n ≡ old.holds x p.0 n = parted.z_holds p.0 in
-          let outer : IsOuter n1 x z p.0 i g n = record { not_x = nx; not_z = nz; pair = ⊎_elim (λ (u : old.holds i g n ≡ From x p.0). inl (same ∙ u)) (λ (u : old.holds x p.0 n ≡ From i g). inr (same' ∙ u)) p.1 } in
+          let outer : IsOuter n1 x z p.0 i g n = record {
+            not_x = nx;
+            not_z = nz;
+            pair =
+                ⊎_elim (λ (u : old.holds i g n ≡ From x p.0). inl (same ∙ u)) (λ (u : old.holds x p.0 n ≡ From i g). inr (same' ∙ u)) p.1;
+          } in
           let here : names x (old.holds i g m) ≡ true = ap (λ (k : ℕ). names x (old.holds i g k)) e ∙ q in
           ap (n2.edge i g) e ∙ c.cut p.0 i g inside.0 inside.1 outer ∙ (rw (ne_eqb i x nx, eq-eqb m n e, here) refl))
           (λ (q : names x (old.holds i g n) ≡ false).
@@ -132,7 +140,8 @@ module _ (old n1 : Chart) (x z n : ℕ) (mir : IsMirrored old) (a : IsMovedApart
     whole_after n3 r = split_body_law old (cut_chart old x n) n2 n3 x z n (record { partners = cut_before; row = cut_apart; holds = r.holds; edges = r.edges })
 
 -- sums, where one entry becomes two
-sum_last : (f : Node → ℕ) (old new : List Node) → length new ≡ suc (length old) → ((i : ℕ) → i ≢ length old → get_or (map f new) i 0 ≡ get_or (map f old) i 0) → sum_by f new ≡ sum_by f old + get_or (map f new) (length old) 0
+sum_last : (f : Node → ℕ) (old new : List Node) → length new ≡ suc (length old)
+    → ((i : ℕ) → i ≢ length old → get_or (map f new) i 0 ≡ get_or (map f old) i 0) → sum_by f new ≡ sum_by f old + get_or (map f new) (length old) 0
 sum_last f [] [] e same = absurd (omega arith)
 sum_last f [] (n ∷ []) e same = sum_by-cons f n [] ∙ (omega arith)
 sum_last f [] (n ∷ m ∷ new) e same = absurd (omega arith)
@@ -150,7 +159,8 @@ sum_two f (o ∷ old) (n ∷ new) zero l e same =
     let t : sum_by f new ≡ sum_by f old + get_or (map f new) (length old) 0 = sum_last f old new (omega arith) (λ i ne. same (suc i) (λ q. omega arith) (λ q. ne (omega arith))) in
     rw (sum_by-cons f n new, sum_by-cons f o old) (omega arith)
 sum_two f (o ∷ old) (n ∷ new) (suc x) l e same =
-    let ih : sum_by f new + get_or (map f old) x 0 ≡ sum_by f old + get_or (map f new) x 0 + get_or (map f new) (length old) 0 = sum_two f old new x (omega arith) (omega arith) (λ i a b. same (suc i) (λ q. a (omega arith)) (λ q. b (omega arith))) in
+    let ih : sum_by f new + get_or (map f old) x 0 ≡ sum_by f old + get_or (map f new) x 0 + get_or (map f new) (length old) 0 =
+    sum_two f old new x (omega arith) (omega arith) (λ i a b. same (suc i) (λ q. a (omega arith)) (λ q. b (omega arith))) in
     let here : f n ≡ f o = same 0 (λ q. omega arith) (λ q. omega arith) in
     rw (sum_by-cons f n new, sum_by-cons f o old) (omega arith)
 
@@ -158,7 +168,9 @@ sum_two f (o ∷ old) (n ∷ new) (suc x) l e same =
 pub excess_falls : (t l r h : ℕ) → h + h < t → 2 * l ≤ t → 2 * r ≤ t → l + r < t → (l - h) + (r - h) + h + 1 ≤ t - h
 excess_falls t l r h a b c d = omega arith
 
-pub potential_falls : (types : List TypeShape) (qs : List ℕ) (old new : List Node) (x z s : ℕ) → IsCutInTwo qs old new x z s → ((d : Row) → IsSplitStamp (rank qs) (row_at old x d) (rank qs s)) → IsOver types old x → potential_of types new + half_at types old x + 1 ≤ potential_of types old
+pub potential_falls : (types : List TypeShape) (qs : List ℕ) (old new : List Node) (x z s : ℕ) → IsCutInTwo qs old new x z s
+    → ((d : Row) → IsSplitStamp (rank qs) (row_at old x d) (rank qs s)) → IsOver types old x
+    → potential_of types new + half_at types old x + 1 ≤ potential_of types old
 potential_falls types qs old new x z s c m over =
     let d : Row = some_row old x c.there in
     let count : length new ≡ suc (length old) = c.life.count in
@@ -167,24 +179,29 @@ potential_falls types qs old new x z s c m over =
     let sm : IsSplitStamp (rank qs) (row_at old x (some_row old x c.there)) (rank qs s) = m (some_row old x c.there) in
     let t : stamped_at old x ≡ stamped_count (row_at old x (some_row old x c.there)) = stamped_is old x (some_row old x c.there) c.there in
     let l : stamped_at new x ≡ stamped_count (row_at new x (some_row old x c.there)) = stamped_is new x (some_row old x c.there) (omega (arith, c.there)) in
-    let r : stamped_at new (length old) ≡ stamped_count (row_at new z (some_row old x c.there)) = stamped_is new (length old) (some_row old x c.there) z' ∙ ap (λ (k : ℕ). stamped_count (row_at new k (some_row old x c.there))) (sym c.is_last) in
+    let r : stamped_at new (length old) ≡ stamped_count (row_at new z (some_row old x c.there)) =
+    stamped_is new (length old) (some_row old x c.there) z' ∙ ap (λ (k : ℕ). stamped_count (row_at new k (some_row old x c.there))) (sym c.is_last) in
     let hx : half_at types new x ≡ half_at types old x = ap (half_in types) (c.types x c.there) in
     let hz : half_at types new (length old) ≡ half_at types old x = ap (λ (k : ℕ). half_at types new k) (sym c.is_last) ∙ ap (half_in types) c.new_type in
     let others : (i : ℕ) → i ≢ x → i ≢ length old → get_or (map (excess types) new) i 0 ≡ get_or (map (excess types) old) i 0 = λ i a b.
     excess_at types new i ∙ ⊎_elim
-    (λ (p : i < length old). ap₂ (λ u v. u - v) (stamped_is new i (some_row old x c.there) (omega (arith, c.life.count)) ∙ ap stamped_count (c.others i (some_row old x c.there) a (λ q. b (q ∙ c.is_last))) ∙ sym (stamped_is old i (some_row old x c.there) p)) (ap (half_in types) (c.types i p)))
+    (λ (p : i < length old). ap₂ (λ u v. u - v) (stamped_is new i (some_row old x c.there) (omega (arith, c.life.count))
+    ∙ ap stamped_count (c.others i (some_row old x c.there) a (λ q. b (q ∙ c.is_last))) ∙ sym (stamped_is old i (some_row old x c.there) p))
+    (ap (half_in types) (c.types i p)))
     (λ (p : length old ≤ i).
     let u : stamped_at new i ≡ 0 = stamped_past new i (omega (arith, c.life.count)) in
     let v : stamped_at old i ≡ 0 = stamped_past old i p in
     omega arith)
     (cases_lt i (length old)) ∙ sym (excess_at types old i) in
-    let sum : sum_by (excess types) new + get_or (map (excess types) old) x 0 ≡ sum_by (excess types) old + get_or (map (excess types) new) x 0 + get_or (map (excess types) new) (length old) 0 = sum_two (excess types) old new x c.there c.life.count others in
+    let sum : sum_by (excess types) new + get_or (map (excess types) old) x 0 ≡ sum_by (excess types) old + get_or (map (excess types) new) x 0 +
+    get_or (map (excess types) new) (length old) 0 = sum_two (excess types) old new x c.there c.life.count others in
     let e : get_or (map (excess types) old) x 0 ≡ stamped_at old x - half_at types old x = excess_at types old x in
     let el : get_or (map (excess types) new) x 0 ≡ stamped_at new x - half_at types new x = excess_at types new x in
     let er : get_or (map (excess types) new) (length old) 0 ≡ stamped_at new (length old) - half_at types new (length old) = excess_at types new (length old) in
     let left : stamped_at new x ≡ _ = l ∙ c.left (some_row old x c.there) in
     let right : stamped_at new (length old) ≡ _ = r ∙ c.right (some_row old x c.there) in
-    let falls = excess_falls (stamped_at old x) (stamped_at new x) (stamped_at new (length old)) (half_at types old x) over (omega (arith, sm.few_before)) (omega (arith, sm.few_after)) (omega (arith, sm.stamped_there)) in
+    let falls = excess_falls (stamped_at old x) (stamped_at new x) (stamped_at new (length old)) (half_at types old x) over
+    (omega (arith, sm.few_before)) (omega (arith, sm.few_after)) (omega (arith, sm.stamped_there)) in
     omega arith
 
 -- what is stamped in all, where one node becomes two
@@ -197,7 +214,8 @@ cut_stamped qs old new x z s c d =
     (λ (p : length old ≤ i). stamped_past new i (omega (arith, c.life.count)) ∙ sym (stamped_past old i p))
     (cases_lt i (length old)) ∙ sym (stamped_read old i) in
     let l : stamped_at new x ≡ stamped_before (rank qs) (row_at old x d) (rank qs s) = stamped_is new x d (omega (arith, c.there, c.life.count)) ∙ c.left d in
-    let r : stamped_at new (length old) ≡ stamped_after (rank qs) (row_at old x d) (rank qs s) = stamped_is new (length old) d (omega (arith, c.life.count)) ∙ ap (λ (k : ℕ). stamped_count (row_at new k d)) (sym c.is_last) ∙ c.right d in
+    let r : stamped_at new (length old) ≡ stamped_after (rank qs) (row_at old x d) (rank qs s) =
+    stamped_is new (length old) d (omega (arith, c.life.count)) ∙ ap (λ (k : ℕ). stamped_count (row_at new k d)) (sym c.is_last) ∙ c.right d in
     omega (arith, sum_two (λ (n : Node). stamped_count n.row) old new x c.there c.life.count others, stamped_read old x, stamped_read new x, stamped_read new (length old), l, r)
 
 -- before the first step
@@ -240,7 +258,8 @@ module _ (types : List TypeShape) (qs : List ℕ) (old : List Node) (x at first 
       low = λ d. let i = a.inside d in omega (arith, i.low);
       high = λ d. (a.inside d).high;
     };
-    slot_there = λ d. let w : width_of (row_at old x d) ≡ first_in types (frame_at old x).ty + half_at types old x = width_typed types old x d (a.sound.typed x a.there) in omega (arith, a.first_is, a.end_is);
+    slot_there = λ d. let w : width_of (row_at old x d) ≡ first_in types (frame_at old x).ty + half_at types old x =
+        width_typed types old x d (a.sound.typed x a.there) in omega (arith, a.first_is, a.end_is);
   }
 
   module _ (n1 : List Node) (z : ℕ) (p : IsParted qs old n1 x z at first end (end - first)) (rows1 : AreRows qs n1) where
@@ -288,7 +307,8 @@ module _ (types : List TypeShape) (qs : List ℕ) (old : List Node) (x at first 
         let t : IsTyped types old x = a.sound.typed x a.there in
         record {
           there = subst (λ (y : ℕ). y < length types) (sym (ap (λ (k : ℕ). (frame_at n1 k).ty) e ∙ type_z)) t.there;
-          width = λ d. ap (λ (k : ℕ). width_of (row_at n1 k d)) e ∙ p.cut.right_width d ∙ (ap (λ w. width_in w) (p.same.rows x d)) ∙ t.width d ∙ ap (λ (y : ℕ). slot_count (type_at types (record { 0 = y }))) (sym (ap (λ (k : ℕ). (frame_at n1 k).ty) e ∙ type_z));
+          width = λ d. ap (λ (k : ℕ). width_of (row_at n1 k d)) e ∙ p.cut.right_width d ∙ (ap (λ w. width_in w) (p.same.rows x d)) ∙ t.width d
+              ∙ ap (λ (y : ℕ). slot_count (type_at types (record { 0 = y }))) (sym (ap (λ (k : ℕ). (frame_at n1 k).ty) e ∙ type_z));
         })
         (λ (nz : i ≡ z → ⊥).
         let lt : i < length old = omega (arith, count1, z_is) in
@@ -304,7 +324,8 @@ module _ (types : List TypeShape) (qs : List ℕ) (old : List Node) (x at first 
 
     -- links of x stand in its slots for links
     pub linked_x : (s m : ℕ) → is_link ((chart qs old).holds x s m) ≡ true → (first ≤ s) × (s < end)
-    linked_x s m e = let t : (first_in types (frame_at old x).ty ≤ s) × (s < first_in types (frame_at old x).ty + half_at types old x) = links_in types qs old x s m a.sound e in (omega (arith, t.0, a.first_is), omega (arith, t.1, a.first_is, a.end_is))
+    linked_x s m e = let t : (first_in types (frame_at old x).ty ≤ s) × (s < first_in types (frame_at old x).ty + half_at types old x) =
+        links_in types qs old x s m a.sound e in (omega (arith, t.0, a.first_is), omega (arith, t.1, a.first_is, a.end_is))
 
     pub room1 : HasRoomRound qs n1 z x (rank qs at) (end - first)
     room1 s j d e ne =
@@ -357,9 +378,12 @@ module _ (types : List TypeShape) (qs : List ℕ) (old : List Node) (x at first 
         ⊎_elim
         (λ (e : i ≡ x).
         let sm = a.inside (some_row old i l) in
-        let left : stamped_count (row_at n1 i (some_row old i l)) ≤ stamped_count (row_at p.mid i (some_row old i l)) = subst (λ (k : ℕ). stamped_count (row_at n1 k (some_row old i l)) ≤ stamped_count (row_at p.mid k (some_row old i l))) (sym e) (fewer (some_row old i l)) in
+        let left : stamped_count (row_at n1 i (some_row old i l)) ≤ stamped_count (row_at p.mid i (some_row old i l)) =
+        subst (λ (k : ℕ). stamped_count (row_at n1 k (some_row old i l)) ≤ stamped_count (row_at p.mid k (some_row old i l))) (sym e)
+        (fewer (some_row old i l)) in
         omega arith)
-        (λ (nx : i ≡ x → ⊥). let s : stamped_count (row_at n1 i (some_row old i l)) ≡ stamped_count (row_at p.mid i (some_row old i l)) = ap stamped_count (p.cut.others i (some_row old i l) nx nz) in omega arith)
+        (λ (nx : i ≡ x → ⊥). let s : stamped_count (row_at n1 i (some_row old i l)) ≡ stamped_count (row_at p.mid i (some_row old i l)) =
+        ap stamped_count (p.cut.others i (some_row old i l) nx nz) in omega arith)
         (cases_eq i x))
         (λ (l : length old ≤ i).
         let e : stamped_at n1 i ≡ 0 = stamped_past n1 i (omega (arith, count1, z_is)) in
@@ -397,13 +421,16 @@ module _ (types : List TypeShape) (qs : List ℕ) (old : List Node) (x at first 
       linked2 s m e =
           ⊎_elim
           (λ (l : m < rank qs at). absurd (false≢true (sym (ap is_link (cut.holds z s m ∙ apart1.early z s m l ∙ apart1.fresh s m)) ∙ e)))
-          (λ (l : rank qs at ≤ m). linked_x s m (ap is_link (sym (cut.holds z s m ∙ ap (λ (k : ℕ). (chart qs n1).holds k s m) (sym (moved_x (chart qs old) (chart qs n1) x z (rank qs at) a.sound.mirrored apart1)) ∙ apart1.late x s m l apart1.other)) ∙ e))
+          (λ (l : rank qs at ≤ m). linked_x s m (ap is_link (sym
+          (cut.holds z s m ∙ ap (λ (k : ℕ). (chart qs n1).holds k s m)
+          (sym (moved_x (chart qs old) (chart qs n1) x z (rank qs at) a.sound.mirrored apart1)) ∙ apart1.late x s m l apart1.other)) ∙ e))
           (cases_lt m (rank qs at))
 
       -- the partners renamed
       module _ (n3 : List Node) (renamed3 : IsRenamed (chart qs n2) (chart qs n3) x z (begin_of qs n2 z)) (rows3 : AreRows qs n3) (same3 : AreReplaced n2 n3) where
         pub whole3 : IsSplitWhole (chart qs old) (chart qs n3) x z (rank qs at)
-        whole3 = whole_after (chart qs old) (chart qs n1) x z (rank qs at) a.sound.mirrored apart1 (chart qs n2) first end cut here (chart qs n3) (subst (λ (n : ℕ). IsRenamed (chart qs n2) (chart qs n3) x z n) begin2 renamed3)
+        whole3 = whole_after (chart qs old) (chart qs n1) x z (rank qs at) a.sound.mirrored apart1 (chart qs n2) first end cut here (chart qs n3)
+            (subst (λ (n : ℕ). IsRenamed (chart qs n2) (chart qs n3) x z n) begin2 renamed3)
 
         pub frames3 : frames_of n3 ≡ frames_of n1
         frames3 = same3.frames ∙ grown.frames
@@ -429,17 +456,26 @@ module _ (types : List TypeShape) (qs : List ℕ) (old : List Node) (x at first 
             let h : half_at types p.mid x ≡ half_at types old x = half_same types old p.mid p.same.frames x in omega (arith, a.over) in
             let f : potential_of types n1 + half_at types p.mid x + 1 ≤ potential_of types p.mid = potential_falls types qs p.mid n1 x z at p.cut (λ d. inside_mid d) over in
             let h : half_at types p.mid x ≡ half_at types old x = half_same types old p.mid p.same.frames x in
-            let m : potential_of types p.mid ≤ potential_of types old + 0 = potential_le types old p.mid 0 0 p.same.count p.same.frames (λ k ne. same_stamped old p.mid p.same k) (let s : stamped_at p.mid 0 ≡ stamped_at old 0 = same_stamped old p.mid p.same 0 in omega arith) in
-            let r : potential_of types n3 ≤ potential_of types n2 + 0 = potential_le types n2 n3 0 0 same3.count same3.frames (λ k ne. same3.stamped k) (let s : stamped_at n3 0 ≡ stamped_at n2 0 = same3.stamped 0 in omega arith) in
+            let m : potential_of types p.mid ≤ potential_of types old + 0 =
+            potential_le types old p.mid 0 0 p.same.count p.same.frames (λ k ne. same_stamped old p.mid p.same k)
+            (let s : stamped_at p.mid 0 ≡ stamped_at old 0 = same_stamped old p.mid p.same 0 in omega arith) in
+            let r : potential_of types n3 ≤ potential_of types n2 + 0 =
+            potential_le types n2 n3 0 0 same3.count same3.frames (λ k ne. same3.stamped k)
+            (let s : stamped_at n3 0 ≡ stamped_at n2 0 = same3.stamped 0 in omega arith) in
             omega (arith, grown.potential, a.end_is)
 
-        few3 : (d : Row) → stamped_in_all n3 + stamped_at old x ≤ stamped_in_all old + (stamped_before (rank qs) (row_at old x d) (rank qs at) + stamped_after (rank qs) (row_at old x d) (rank qs at)) + half_at types old x
+        few3 : (d : Row) → stamped_in_all n3 + stamped_at old x ≤ stamped_in_all old +
+            (stamped_before (rank qs) (row_at old x d) (rank qs at) + stamped_after (rank qs) (row_at old x d) (rank qs at)) + half_at types old x
         few3 d =
-            let b : stamped_before (rank qs) (row_at p.mid x d) (rank qs at) ≡ stamped_before (rank qs) (row_at old x d) (rank qs at) = ap (λ w. before_in (rank qs) w (rank qs at)) (p.same.rows x d) in
+            let b : stamped_before (rank qs) (row_at p.mid x d) (rank qs at) ≡ stamped_before (rank qs) (row_at old x d) (rank qs at) =
+            ap (λ w. before_in (rank qs) w (rank qs at)) (p.same.rows x d) in
             let e : stamped_after (rank qs) (row_at p.mid x d) (rank qs at) ≡ stamped_after (rank qs) (row_at old x d) (rank qs at) = ap (λ w. after_in (rank qs) w (rank qs at)) (p.same.rows x d) in
             let was : stamped_at p.mid x ≡ stamped_at old x = same_stamped old p.mid p.same x in
-            let m : stamped_in_all p.mid ≤ stamped_in_all old + 0 = stamped_le old p.mid 0 0 p.same.count (λ k ne. same_stamped old p.mid p.same k) (let s : stamped_at p.mid 0 ≡ stamped_at old 0 = same_stamped old p.mid p.same 0 in omega arith) in
-            let r : stamped_in_all n3 ≤ stamped_in_all n2 + 0 = stamped_le n2 n3 0 0 same3.count (λ k ne. same3.stamped k) (let s : stamped_at n3 0 ≡ stamped_at n2 0 = same3.stamped 0 in omega arith) in
+            let m : stamped_in_all p.mid ≤ stamped_in_all old + 0 =
+            stamped_le old p.mid 0 0 p.same.count (λ k ne. same_stamped old p.mid p.same k)
+            (let s : stamped_at p.mid 0 ≡ stamped_at old 0 = same_stamped old p.mid p.same 0 in omega arith) in
+            let r : stamped_in_all n3 ≤ stamped_in_all n2 + 0 =
+            stamped_le n2 n3 0 0 same3.count (λ k ne. same3.stamped k) (let s : stamped_at n3 0 ≡ stamped_at n2 0 = same3.stamped 0 in omega arith) in
             omega (arith, cut_stamped qs p.mid n1 x z at p.cut d, grown.few, a.end_is)
 
         -- the queue asked for both halves, with the rows as they are
@@ -458,7 +494,8 @@ module _ (types : List TypeShape) (qs : List ℕ) (old : List Node) (x at first 
 
           life5 : IsSplitLife (lives qs old) (lives qs n5) x (rank qs at)
           life5 = subst (λ (w : Lives). IsSplitLife (lives qs old) w x (rank qs at))
-              (sym (same_lives qs n1 n5 (same_count n3 n5 rows5 ∙ same3.count ∙ grown.count) (λ i. lo_same n3 n5 rows5 i ∙ same3.lo i ∙ grown.lo i) (λ i. hi_same n3 n5 rows5 i ∙ same3.hi i ∙ grown.hi i) (frames5 ∙ frames3))) life1
+              (sym (same_lives qs n1 n5 (same_count n3 n5 rows5 ∙ same3.count ∙ grown.count) (λ i. lo_same n3 n5 rows5 i ∙ same3.lo i ∙ grown.lo i)
+              (λ i. hi_same n3 n5 rows5 i ∙ same3.hi i ∙ grown.hi i) (frames5 ∙ frames3))) life1
 
           over5 : (i : ℕ) → i ≢ x → IsOver types old i → IsOver types n5 i
           over5 i nx o =
@@ -466,8 +503,10 @@ module _ (types : List TypeShape) (qs : List ℕ) (old : List Node) (x at first 
               (λ (l : i < length old).
               let d : Row = some_row old i l in
               let nz : i ≡ z → ⊥ = λ q. omega (arith, z_is) in
-              let was : stamped_at old i ≡ stamped_count (row_at p.mid i (some_row old i l)) = stamped_is old i (some_row old i l) l ∙ sym ((ap (λ w. count_in w) (p.same.rows i (some_row old i l)))) in
-              let here : stamped_at n1 i ≡ stamped_count (row_at p.mid i (some_row old i l)) = stamped_is n1 i (some_row old i l) (omega (arith, count1)) ∙ ap stamped_count (p.cut.others i (some_row old i l) nx nz) in
+              let was : stamped_at old i ≡ stamped_count (row_at p.mid i (some_row old i l)) = stamped_is old i (some_row old i l) l
+              ∙ sym ((ap (λ w. count_in w) (p.same.rows i (some_row old i l)))) in
+              let here : stamped_at n1 i ≡ stamped_count (row_at p.mid i (some_row old i l)) =
+              stamped_is n1 i (some_row old i l) (omega (arith, count1)) ∙ ap stamped_count (p.cut.others i (some_row old i l) nx nz) in
               let up : stamped_at n1 i ≤ stamped_at n2 i = grown.stamped i in
               let on : stamped_at n3 i ≡ stamped_at n2 i = same3.stamped i in
               let end : stamped_at n5 i ≡ stamped_at n3 i = ap (λ ws. get_or (map stamped_count ws) i 0) rows5 in
@@ -508,7 +547,9 @@ module _ (types : List TypeShape) (qs : List ℕ) (old : List Node) (x at first 
 
           type_moved : (j : ℕ) → j < length old → type_no n5 (moved x z j) ≡ type_no old j
           type_moved j l = ⊎_elim
-              (λ (e : j ≡ x). ap (λ (k : ℕ). type_no n5 (moved x z k)) e ∙ ap (type_no n5) (moved_x (chart qs old) (chart qs n1) x z (rank qs at) a.sound.mirrored apart1) ∙ ap numbered (type5 z ∙ type_z) ∙ ap (type_no old) (sym e))
+              (λ (e : j ≡ x). ap (λ (k : ℕ). type_no n5 (moved x z k)) e
+              ∙ ap (type_no n5) (moved_x (chart qs old) (chart qs n1) x z (rank qs at) a.sound.mirrored apart1) ∙ ap numbered (type5 z ∙ type_z)
+              ∙ ap (type_no old) (sym e))
               (λ (ne : j ≡ x → ⊥). ap (type_no n5) (moved_other (chart qs old) (chart qs n1) x z (rank qs at) a.sound.mirrored apart1 j ne) ∙ type_kept j l)
               (cases_eq j x)
 
@@ -519,11 +560,13 @@ module _ (types : List TypeShape) (qs : List ℕ) (old : List Node) (x at first 
           of_type : (i j s : ℕ) (c d : Content) → type_no n5 i ≡ type_no old j → c ≡ d → HasKind (type_of types old j) (type_no n5) s d → HasKind (type_of types n5 i) (type_no n5) s c
           of_type i j s c d e q k = subst (λ (b : Content). HasKind (type_of types n5 i) (type_no n5) s b) (sym q) (subst (λ (t : TypeNo). HasKind (type_at types t) (type_no n5) s d) (sym e) k)
 
-          kind_renamed : (i j s m : ℕ) → type_no n5 i ≡ type_no old j → IsIn (lives qs old) j m → (chart qs n5).holds i s m ≡ renamed x z ((chart qs old).holds j s m) → HasKind (type_of types n5 i) (type_no n5) s ((chart qs n5).holds i s m)
+          kind_renamed : (i j s m : ℕ) → type_no n5 i ≡ type_no old j → IsIn (lives qs old) j m
+              → (chart qs n5).holds i s m ≡ renamed x z ((chart qs old).holds j s m) → HasKind (type_of types n5 i) (type_no n5) s ((chart qs n5).holds i s m)
           kind_renamed i j s m e h q = of_type i j s ((chart qs n5).holds i s m) (renamed x z ((chart qs old).holds j s m)) e q
               (kind-renamed (type_of types old j) (type_no old) (type_no n5) x z s ((chart qs old).holds j s m) (λ y k. type_moved y (target_there j s m y k)) (a.sound.kinds j s m h))
 
-          kind_kept : (i j s m : ℕ) → type_no n5 i ≡ type_no old j → IsIn (lives qs old) j m → (chart qs n5).holds i s m ≡ (chart qs old).holds j s m → HasKind (type_of types n5 i) (type_no n5) s ((chart qs n5).holds i s m)
+          kind_kept : (i j s m : ℕ) → type_no n5 i ≡ type_no old j → IsIn (lives qs old) j m → (chart qs n5).holds i s m ≡ (chart qs old).holds j s m
+              → HasKind (type_of types n5 i) (type_no n5) s ((chart qs n5).holds i s m)
           kind_kept i j s m e h q = of_type i j s ((chart qs n5).holds i s m) ((chart qs old).holds j s m) e q
               (kind-types (type_of types old j) (type_no old) (type_no n5) s ((chart qs old).holds j s m) (λ y k. type_kept y (target_there j s m y k)) (a.sound.kinds j s m h))
 
@@ -535,7 +578,9 @@ module _ (types : List TypeShape) (qs : List ℕ) (old : List Node) (x at first 
               let low : rank qs at ≤ m = let q : rank qs (lo_at n5 i) ≡ rank qs at = ap (λ (k : ℕ). rank qs (lo_at n5 k)) (e ∙ z_is) ∙ life5.lo_z in omega (arith, in'.low) in
               let high : m < rank qs (hi_at old x) = let q : rank qs (hi_at n5 i) ≡ rank qs (hi_at old x) = ap (λ (k : ℕ). rank qs (hi_at n5 k)) (e ∙ z_is) ∙ life5.hi_z in omega (arith, in'.high) in
               let ty : type_no n5 i ≡ type_no old x = ap numbered (ap (λ (k : ℕ). (frame_at n5 k).ty) e ∙ type5 z ∙ type_z) in
-              let new : (chart qs n5).holds i s m ≡ renamed x z ((chart qs old).holds x s m) = ap (λ (k : ℕ). (chart qs n5).holds k s m) (e ∙ sym (moved_x (chart qs old) (chart qs n1) x z (rank qs at) a.sound.mirrored apart1)) ∙ whole5.late x s m low apart1.other in
+              let new : (chart qs n5).holds i s m ≡ renamed x z ((chart qs old).holds x s m) =
+              ap (λ (k : ℕ). (chart qs n5).holds k s m) (e ∙ sym (moved_x (chart qs old) (chart qs n1) x z (rank qs at) a.sound.mirrored apart1))
+              ∙ whole5.late x s m low apart1.other in
               kind_renamed i x s m ty (record { there = a.there; low = omega (arith, life5.low); high = high }) new)
               (λ (nz : i ≡ z → ⊥).
               let l : i < length old = omega (arith, count5, z_is) in
@@ -550,7 +595,9 @@ module _ (types : List TypeShape) (qs : List ℕ) (old : List Node) (x at first 
               (λ (k : rank qs at ≤ m). ⊎_elim
               (λ (q : i ≡ x). absurd (let t : rank qs (hi_at n5 i) ≡ rank qs at = ap (λ (y : ℕ). rank qs (hi_at n5 y)) q ∙ life5.hi_x in omega (arith, in'.high)))
               (λ (q : i ≡ x → ⊥).
-              let new : (chart qs n5).holds i s m ≡ renamed x z ((chart qs old).holds i s m) = ap (λ (y : ℕ). (chart qs n5).holds y s m) (sym (moved_other (chart qs old) (chart qs n1) x z (rank qs at) a.sound.mirrored apart1 i q)) ∙ whole5.late i s m k nz in
+              let new : (chart qs n5).holds i s m ≡ renamed x z ((chart qs old).holds i s m) =
+              ap (λ (y : ℕ). (chart qs n5).holds y s m) (sym
+              (moved_other (chart qs old) (chart qs n1) x z (rank qs at) a.sound.mirrored apart1 i q)) ∙ whole5.late i s m k nz in
               kind_renamed i i s m ty (record { there = l; low = omega (arith, life5.lo i l, in'.low); high = omega (arith, life5.hi i l q, in'.high) }) new)
               (cases_eq i x))
               (cases_lt m (rank qs at)))
@@ -592,11 +639,14 @@ module _ (types : List TypeShape) (qs : List ℕ) (old : List Node) (x at first 
               )
 
 -- the queue after the steps
-pub queue_steps : (types : List TypeShape) (n1 n2 n3 n4 n5 : List Node) (q0 q1 q2 q3 : Queue) (x z : ℕ) → KeepsQueue (λ _. ⊥) types n1 n2 q0 q1 → AreReplaced n2 n3 → rows_of n4 ≡ rows_of n3 → frames_of n4 ≡ frames_of n3 → KeepsQueue (λ i. i ≡ x) types n3 n4 q1 q2 →
+pub queue_steps : (types : List TypeShape) (n1 n2 n3 n4 n5 : List Node) (q0 q1 q2 q3 : Queue) (x z : ℕ) → KeepsQueue (λ _. ⊥) types n1 n2 q0 q1
+    → AreReplaced n2 n3 → rows_of n4 ≡ rows_of n3 → frames_of n4 ≡ frames_of n3 → KeepsQueue (λ i. i ≡ x) types n3 n4 q1 q2 →
     rows_of n5 ≡ rows_of n4 → frames_of n5 ≡ frames_of n4 → KeepsQueue (λ i. i ≡ z) types n4 n5 q2 q3 → KeepsQueue (λ i. (i ≡ x) ⊎ (i ≡ z)) types n1 n5 q0 q3
 queue_steps types n1 n2 n3 n4 n5 q0 q1 q2 q3 x z cut same rows4 frames4 one rows5 frames5 two xs h =
-    let over3 : (i : ℕ) → IsOver types n3 i → IsOver types n2 i = λ i o. let s : stamped_at n3 i ≡ stamped_at n2 i = same.stamped i in let e : half_at types n3 i ≡ half_at types n2 i = half_same types n2 n3 same.frames i in omega arith in
-    let over3' : (i : ℕ) → IsOver types n2 i → IsOver types n3 i = λ i o. let s : stamped_at n3 i ≡ stamped_at n2 i = same.stamped i in let e : half_at types n3 i ≡ half_at types n2 i = half_same types n2 n3 same.frames i in omega arith in
+    let over3 : (i : ℕ) → IsOver types n3 i → IsOver types n2 i = λ i o. let s : stamped_at n3 i ≡ stamped_at n2 i = same.stamped i in
+    let e : half_at types n3 i ≡ half_at types n2 i = half_same types n2 n3 same.frames i in omega arith in
+    let over3' : (i : ℕ) → IsOver types n2 i → IsOver types n3 i = λ i o. let s : stamped_at n3 i ≡ stamped_at n2 i = same.stamped i in
+    let e : half_at types n3 i ≡ half_at types n2 i = half_same types n2 n3 same.frames i in omega arith in
     let never = λ (i : ℕ). ⊥ in
     let a = queue_on never never types n1 n2 n3 q0 q1 q1 over3' cut (queue_same never types n2 n3 q1 (λ i v. v) (λ zs k. queues_links n2 n3 q1 zs same.count same.links k) over3) in
     let b = queue_on (λ i. (never i) ⊎ (never i)) (λ i. i ≡ x) types n1 n3 n4 q0 q1 q2 (λ i o. over_same types n4 n3 (sym rows4) (sym frames4) i o) a one in
@@ -605,11 +655,15 @@ queue_steps types n1 n2 n3 n4 n5 q0 q1 q2 q3 x z cut same rows4 frames4 one rows
     (q.0, q.1, λ i o. q.2 i (⊎_elim (λ (u : (i ≡ x) ⊎ (i ≡ z)). inl (⊎_elim (λ (v : i ≡ x). inl (inr v)) (λ (v : i ≡ z). inr v) u)) (λ (u : WaitsIfOver types n1 xs i). inr u) o))
 
 -- and which nodes it got
-pub named_steps : (qs : List ℕ) (old n1 n2 n3 n4 n5 : List Node) (q0 q1 q2 q3 : Queue) (x z n : ℕ) → ((xs : List ℕ) → Queues old q0 xs → Queues n1 q0 xs) → ((s : ℕ) → (chart qs n1).holds z s n ≡ (chart qs old).holds x s n) →
-    HasQueuedOnly (λ i. (s : ℕ) × (names i ((chart qs n1).holds z s n) ≡ true)) n1 n2 q0 q1 → AreReplaced n2 n3 → HasQueuedOnly (λ i. i ≡ x) n3 n4 q1 q2 → HasQueuedOnly (λ i. i ≡ z) n4 n5 q2 q3 → HasQueuedOnly (IsHalfOrNeighbour qs old x z) old n5 q0 q3
+pub named_steps : (qs : List ℕ) (old n1 n2 n3 n4 n5 : List Node) (q0 q1 q2 q3 : Queue) (x z n : ℕ)
+    → ((xs : List ℕ) → Queues old q0 xs → Queues n1 q0 xs) → ((s : ℕ) → (chart qs n1).holds z s n ≡ (chart qs old).holds x s n) →
+    HasQueuedOnly (λ i. (s : ℕ) × (names i ((chart qs n1).holds z s n) ≡ true)) n1 n2 q0 q1 → AreReplaced n2 n3
+    → HasQueuedOnly (λ i. i ≡ x) n3 n4 q1 q2 → HasQueuedOnly (λ i. i ≡ z) n4 n5 q2 q3 → HasQueuedOnly (IsHalfOrNeighbour qs old x z) old n5 q0 q3
 named_steps qs old n1 n2 n3 n4 n5 q0 q1 q2 q3 x z n start held cut same one two =
     only_on (IsHalfOrNeighbour qs old x z) old n1 n5 q0 q0 q3 (only_none (IsHalfOrNeighbour qs old x z) old n1 q0 start)
-    (only_on (IsHalfOrNeighbour qs old x z) n1 n2 n5 q0 q1 q3 (only_weaker (λ i. (s : ℕ) × (names i ((chart qs n1).holds z s n) ≡ true)) (IsHalfOrNeighbour qs old x z) n1 n2 q0 q1 (λ i t. inr (inr (t.0, n, ap (names i) (sym (held t.0)) ∙ t.1))) cut)
+    (only_on (IsHalfOrNeighbour qs old x z) n1 n2 n5 q0 q1 q3
+    (only_weaker (λ i. (s : ℕ) × (names i ((chart qs n1).holds z s n) ≡ true)) (IsHalfOrNeighbour qs old x z) n1 n2 q0 q1
+    (λ i t. inr (inr (t.0, n, ap (names i) (sym (held t.0)) ∙ t.1))) cut)
     (only_on (IsHalfOrNeighbour qs old x z) n2 n3 n5 q1 q1 q3 (only_none (IsHalfOrNeighbour qs old x z) n2 n3 q1 (λ xs h. queues_links n2 n3 q1 xs same.count same.links h))
     (only_on (IsHalfOrNeighbour qs old x z) n3 n4 n5 q1 q2 q3 (only_weaker (λ i. i ≡ x) (IsHalfOrNeighbour qs old x z) n3 n4 q1 q2 (λ i e. inl e) one)
     (only_weaker (λ i. i ≡ z) (IsHalfOrNeighbour qs old x z) n4 n5 q2 q3 (λ i e. inr (inl e)) two))))

@@ -28,7 +28,8 @@ past f d (n ∷ ns) zero l = absurd (omega arith)
 past f d (n ∷ ns) (suc i) l = past f d ns i (omega arith)
 
 -- what a node weighs
-load_at : (types : List TypeShape) (ns : List Node) (i : ℕ) (d : Load) (w : Row) → i < length ns → get_or (map (load_of types) (seen ns)) i d ≡ record { stamped = stamped_count (row_at ns i w); half = half_in types (frame_at ns i).ty }
+load_at : (types : List TypeShape) (ns : List Node) (i : ℕ) (d : Load) (w : Row) → i < length ns
+    → get_or (map (load_of types) (seen ns)) i d ≡ record { stamped = stamped_count (row_at ns i w); half = half_in types (frame_at ns i).ty }
 load_at types [] i d w l = absurd (omega arith)
 load_at types (n ∷ ns) zero d w l = refl
 load_at types (n ∷ ns) (suc i) d w l = load_at types ns i d w (omega arith)
@@ -37,7 +38,8 @@ loads_count : (types : List TypeShape) (ns : List Node) → length (map (load_of
 loads_count types [] = refl
 loads_count types (n ∷ ns) = ap suc (loads_count types ns)
 
-grown_from : (xs ys : List Load) → length ys ≡ length xs → ((i : ℕ) (d : Load) → i < length xs → ((get_or xs i d).half ≡ (get_or ys i d).half) × ((get_or xs i d).stamped ≤ (get_or ys i d).stamped)) → HasGrown xs ys
+grown_from : (xs ys : List Load) → length ys ≡ length xs → ((i : ℕ) (d : Load) → i < length xs → ((get_or xs i d).half ≡ (get_or ys i d).half)
+    × ((get_or xs i d).stamped ≤ (get_or ys i d).stamped)) → HasGrown xs ys
 grown_from [] [] l h = tt
 grown_from [] (y ∷ ys) l h = absurd (omega arith)
 grown_from (x ∷ xs) [] l h = absurd (omega arith)
@@ -52,7 +54,9 @@ all_same (x ∷ xs) (y ∷ ys) l h =
     let ih : stamped_in_all ys ≡ stamped_in_all xs = all_same xs ys (omega arith) (λ i d k. h (suc i) d (omega arith)) in
     rw (sum_by-cons (λ (l : Load). l.stamped) x xs, sum_by-cons (λ (l : Load). l.stamped) y ys) (omega arith)
 
-one_more : (xs ys : List Load) (x k : ℕ) → length ys ≡ length xs → ((i : ℕ) (d : Load) → i < length xs → i ≢ x → (get_or ys i d).stamped ≡ (get_or xs i d).stamped) → ((d : Load) → x < length xs → (get_or ys x d).stamped ≤ (get_or xs x d).stamped + k) → stamped_in_all ys ≤ stamped_in_all xs + k
+one_more : (xs ys : List Load) (x k : ℕ) → length ys ≡ length xs
+    → ((i : ℕ) (d : Load) → i < length xs → i ≢ x → (get_or ys i d).stamped ≡ (get_or xs i d).stamped)
+    → ((d : Load) → x < length xs → (get_or ys x d).stamped ≤ (get_or xs x d).stamped + k) → stamped_in_all ys ≤ stamped_in_all xs + k
 one_more [] [] x k l h m = omega arith
 one_more [] (b ∷ ys) x k l h m = absurd (omega arith)
 one_more (a ∷ xs) [] x k l h m = absurd (omega arith)
@@ -75,7 +79,8 @@ module _ (types : List TypeShape) (qs : List ℕ) (k : ℕ) (old new : List Node
   counts : length (seen new) ≡ length (seen old)
   counts = seen_count new ∙ t.count ∙ sym (seen_count old)
 
-  same_place : (f : Seen → ℕ) (at : List Node → ℕ → ℕ) → ((ns : List Node) (i : ℕ) → i < length ns → of_node f 0 (seen ns) i ≡ r (at ns i)) → ((i : ℕ) → at new i ≡ at old i) → (i : ℕ) → of_node f 0 (seen new) i ≡ of_node f 0 (seen old) i
+  same_place : (f : Seen → ℕ) (at : List Node → ℕ → ℕ) → ((ns : List Node) (i : ℕ) → i < length ns → of_node f 0 (seen ns) i ≡ r (at ns i))
+      → ((i : ℕ) → at new i ≡ at old i) → (i : ℕ) → of_node f 0 (seen new) i ≡ of_node f 0 (seen old) i
   same_place f at is e i = ⊎_elim
       (λ (l : i < length old). is new i (omega (arith, t.count)) ∙ ap r (e i) ∙ sym (is old i l))
       (λ (l : length old ≤ i). past f 0 (seen new) i (omega (arith, seen_count new, t.count)) ∙ sym (past f 0 (seen old) i (omega (arith, seen_count old))))
@@ -110,7 +115,8 @@ module _ (types : List TypeShape) (qs : List ℕ) (k : ℕ) (old new : List Node
     touched_grown = grown_from (map (load_of types) (seen old)) (map (load_of types) (seen new)) load_lengths (λ i d l.
         let here : i < length old = omega (arith, loads_count types old) in
         let a : get_or (map (load_of types) (seen old)) i d ≡ record { stamped = stamped_count (row_at old i w); half = half_in types (frame_at old i).ty } = load_at types old i d w here in
-        let b : get_or (map (load_of types) (seen new)) i d ≡ record { stamped = stamped_count (row_at new i w); half = half_in types (frame_at new i).ty } = load_at types new i d w (omega (arith, t.count)) in
+        let b : get_or (map (load_of types) (seen new)) i d ≡ record
+        { stamped = stamped_count (row_at new i w); half = half_in types (frame_at new i).ty } = load_at types new i d w (omega (arith, t.count)) in
         let up : stamped_count (row_at old i w) ≤ stamped_count (row_at new i w) = ⊎_elim
         (λ (e : i ≡ x). rw e more)
         (λ (ne : i ≡ x → ⊥). omega (arith, same_stamped i ne))
@@ -137,7 +143,8 @@ numbers_are_set types qs old new x f b v p typed =
       wide = seen_wide types new (touched_wide types qs 2 old new x p.touched typed);
       set = record {
         nodes = touched_nodes types qs 2 old new x p.touched;
-        set = subst (λ (c : Chart). IsSlotSet (arena_of (rank qs) (seen old)).chart c x f b (Number v)) (sym (seen_chart qs new)) (subst (λ (c : Chart). IsSlotSet c (chart qs new) x f b (Number v)) (sym (seen_chart qs old)) p.set);
+        set = subst (λ (c : Chart). IsSlotSet (arena_of (rank qs) (seen old)).chart c x f b (Number v)) (sym (seen_chart qs new))
+            (subst (λ (c : Chart). IsSlotSet c (chart qs new) x f b (Number v)) (sym (seen_chart qs old)) p.set);
       };
       grown = record {
         each = touched_grown types qs 2 old new x p.touched w more;

@@ -14,11 +14,11 @@ use pst_nodes::node::Nodes;
 use pst_nodes::queue::Queue;
 use pst_order::Order;
 
-/// Splits the node that waits first, and gives whether one waited: then there is one node more, and the potential is lower
-/// by at least 1. Where none waits nothing changes. No heap changes. After `NoMemory` no node was split, one that is over
-/// its capacity waits, and all that the call needs still holds.
+// Splits the node that waits first, and gives whether one waited: then there is one node more, and the potential is lower
+// by at least 1. Where none waits nothing changes. No heap changes. After `NoMemory` no node was split, one that is over
+// its capacity waits, and all that the call needs still holds.
 #[inline(always)]
-pub fn split_next<O: Order>(
+fn split_next<O: Order>(
     order: &O,
     shape: &Shape,
     nodes: &mut Nodes,

@@ -3,7 +3,8 @@ use Rattle.std.proofs.Common.{◌≡◌, ℕ, ◌+◌, ◌≤◌, [], ◌∷◌,
 use Rattle.pst_script.specs.declared.command.Command.{Command}
 use Rattle.pst_script.specs.declared.command.Command.TheVariants as command
 use Rattle.pst_history.specs.Meaning.{Meaning, kinds_refusal}
-use Rattle.pst_history.specs.History.{History, refusal, first, run_refusal, calls_refusal, run_at, next_run, opened, new_run, call_of, called_more, granted_more, dropped_run, closed, with_run, changed, is_open}
+use Rattle.pst_history.specs.History.{History, refusal, first, run_refusal, calls_refusal, run_at, next_run, opened, new_run, call_of, called_more}
+use Rattle.pst_history.specs.History.{granted_more, dropped_run, closed, with_run, changed, is_open}
 use Rattle.pst_history.proofs.Sums.{unit_of}
 use Rattle.pst_history.proofs.Refusals.{first-none, accepted_run, IsOpenRun}
 use Rattle.pst_history.proofs.After.{run_at-new}
@@ -25,7 +26,8 @@ unfolding refusal
 counted-after m h (command.Run call) e =
     let new = opened h call.version (call_of call ∷ []) in
     let one : open_count new ≡ open_count h + 1 = open_count-opened h call.version (call_of call ∷ []) in
-    let two : open_count (closed m new (next_run h)) + 1 ≡ open_count new = open_count-closed m new (next_run h) (new_run h call.version (call_of call ∷ [])) (run_at-new h call.version (call_of call ∷ [])) refl in
+    let two : open_count (closed m new (next_run h)) + 1 ≡ open_count new =
+    open_count-closed m new (next_run h) (new_run h call.version (call_of call ∷ [])) (run_at-new h call.version (call_of call ∷ [])) refl in
     omega arith
 counted-after m h (command.Query call) e = refl
 counted-after m h (command.OpenRun call) e = sym (open_count-opened h call.version (call_of call ∷ []))

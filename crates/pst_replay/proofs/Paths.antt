@@ -30,10 +30,12 @@ pub record IsMade (m : Meaning) (h : History) (k : ℕ) (v : Descent) (run : Run
   pub ready : CanBeDone m (work_of v.run.0 run) (heap_of m h (parent_in h.versions k))
   pub heap : heap_of m h k ≡ made_by m v.run.0 (Some run) (heap_of m h (parent_in h.versions k))
 
-pub version-run : (m : Meaning) (s : Since) → IsSoundHistory m (since (opening m.shape) s) → (k : ℕ) (v : Descent) → slice_get s.versions (k - 1) ≡ Some v → IsSome (run_at (since (opening m.shape) s) v.run.0)
+pub version-run : (m : Meaning) (s : Since) → IsSoundHistory m (since (opening m.shape) s) → (k : ℕ) (v : Descent)
+    → slice_get s.versions (k - 1) ≡ Some v → IsSome (run_at (since (opening m.shape) s) v.run.0)
 version-run m s sound k v e = let x = sound.versions (k - 1) v e in let P : Option Run → Type 0 = λ o. IsSome o in subst P (sym x.found) refl
 
-pub version-made : (m : Meaning) → IsLawful m → (s : Since) → IsSoundHistory m (since (opening m.shape) s) → (k : ℕ) (v : Descent) (run : Run) → slice_get s.versions (k - 1) ≡ Some v → run_at (since (opening m.shape) s) v.run.0 ≡ Some run → 0 < k → IsMade m (since (opening m.shape) s) k v run
+pub version-made : (m : Meaning) → IsLawful m → (s : Since) → IsSoundHistory m (since (opening m.shape) s) → (k : ℕ) (v : Descent) (run : Run)
+    → slice_get s.versions (k - 1) ≡ Some v → run_at (since (opening m.shape) s) v.run.0 ≡ Some run → 0 < k → IsMade m (since (opening m.shape) s) k v run
 version-made m law s sound k v run e found above =
     let h : History = since (opening m.shape) s in
     let x = sound.versions (k - 1) v e in
@@ -44,11 +46,14 @@ version-made m law s sound k v run e found above =
     let number : run.parent.0 ≡ parent_in s.versions k = ap (λ y. y.0) same ∙ parent in
     record {
       ready = let P : ℕ → Type 0 = λ p. CanBeDone m (work_of v.run.0 run) (heap_of m h p) in subst P number (run-ready m law h sound v.run.0 run found);
-      heap = ap (heap_of m h) (sym at) ∙ heap_of-made m h (k - 1) v e x.parent ∙ ap (λ o. made_by m v.run.0 o (heap_of m h v.parent.0)) found ∙ ap (λ p. made_by m v.run.0 (Some run) (heap_of m h p)) parent;
+      heap = ap (heap_of m h) (sym at) ∙ heap_of-made m h (k - 1) v e x.parent ∙ ap (λ o. made_by m v.run.0 o (heap_of m h v.parent.0)) found
+          ∙ ap (λ p. made_by m v.run.0 (Some run) (heap_of m h p)) parent;
     }
 
 -- one more version at the end of a path that is being made
-pub path-longer : (versions : List Descent) (at to : ℕ) (path longer : List ℕ) (v : Descent) → slice_get versions (at - 1) ≡ Some v → 0 < at → at ≤ length versions → longer ≡ path ++ at ∷ [] → ((rest : List ℕ) → IsPath versions 0 at rest → IsPath versions 0 to (path ++ rest)) → (rest : List ℕ) → IsPath versions 0 v.parent.0 rest → IsPath versions 0 to (longer ++ rest)
+pub path-longer : (versions : List Descent) (at to : ℕ) (path longer : List ℕ) (v : Descent) → slice_get versions (at - 1) ≡ Some v → 0 < at
+    → at ≤ length versions → longer ≡ path ++ at ∷ [] → ((rest : List ℕ) → IsPath versions 0 at rest → IsPath versions 0 to (path ++ rest))
+    → (rest : List ℕ) → IsPath versions 0 v.parent.0 rest → IsPath versions 0 to (longer ++ rest)
 path-longer versions at to path longer v e above there is whole rest p =
     let here : IsPath versions 0 at (at ∷ rest) = (refl, above, there, subst (λ k. IsPath versions 0 k rest) (sym (version-at versions at v e above)) p) in
     let P : List ℕ → Type 0 = λ xs. IsPath versions 0 to xs in

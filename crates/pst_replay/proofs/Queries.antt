@@ -19,7 +19,10 @@ query_run h call calls = record { parent = call.version; calls = calls; budget =
 pub query_fits : (m : Meaning) (h : History) (call : Call) → IsAccepted h (m.query call.procedure) call → AllFit m.query (call_of call ∷ [])
 query_fits m h call a = one_fits (record m { proc = m.query }) (call_of call) a.fits
 
-pub query-answered : (m : Meaning) (h : History) (call : Call) (n : ℕ) (calls : List NamedCall) (o : Told) → n ≡ next_run h → calls ≡ call_of call ∷ [] → IsEnd (outcome_of m h n (query_run h call calls) h.budget) o → queried o.printed o.ended ≡ answered m h (command.Query call)
+pub query-answered : (m : Meaning) (h : History) (call : Call) (n : ℕ) (calls : List NamedCall) (o : Told) → n ≡ next_run h
+    → calls ≡ call_of call ∷ [] → IsEnd (outcome_of m h n (query_run h call calls) h.budget) o → queried o.printed o.ended ≡ answered m h (command.Query call)
 query-answered m h call n calls o number same is =
     let out = outcome_of m h n (query_run h call calls) h.budget in
-    ap (λ p. queried p o.ended) is.printed ∙ ap (queried out.printed) is.end ∙ ap (λ x. let y = outcome_of m h n (query_run h call x) h.budget in queried y.printed y.end) same ∙ ap (λ k. let y = outcome_of m h k (query_run h call (call_of call ∷ [])) h.budget in queried y.printed y.end) number
+    ap (λ p. queried p o.ended) is.printed ∙ ap (queried out.printed) is.end
+    ∙ ap (λ x. let y = outcome_of m h n (query_run h call x) h.budget in queried y.printed y.end) same
+    ∙ ap (λ k. let y = outcome_of m h k (query_run h call (call_of call ∷ [])) h.budget in queried y.printed y.end) number

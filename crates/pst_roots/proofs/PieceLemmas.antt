@@ -1,5 +1,6 @@
 -- Lists in pieces: where each piece starts, an element put into a piece, and a piece that is cut in two.
-use Rattle.std.proofs.Common.{◌≡◌, ℕ, zero, suc, ◌+◌, ◌-◌, ◌*◌, ◌^◌, ◌<◌, ◌≤◌, Bool, true, false, cond, List, [], ◌∷◌, ◌++◌, length, get_or, map, take, drop, set, insert, All, ⊎_elim, leb, leb-true, leb-false, refl, sym, ap, ◌∙◌, subst, add-one, arith}
+use Rattle.std.proofs.Common.{◌≡◌, ℕ, zero, suc, ◌+◌, ◌-◌, ◌*◌, ◌^◌, ◌<◌, ◌≤◌, Bool, true, false, cond, List, [], ◌∷◌, ◌++◌, length, get_or, map, take, drop}
+use Rattle.std.proofs.Common.{set, insert, All, ⊎_elim, leb, leb-true, leb-false, refl, sym, ap, ◌∙◌, subst, add-one, arith}
 use Rattle.std.specs.List.{concat}
 use Rattle.std.specs.Vec.{vec_capacity}
 use Rattle.std.specs.declared.vec.Vec.{Vec}
@@ -7,7 +8,8 @@ use Rattle.std.specs.declared.alloc.Global.{Global}
 use Rattle.std.specs.List.Sorted.{IsPartitionPoint, IsNonDecreasing}
 use Rattle.std.proofs.lemmas.List.Sorted.{IsNonDecreasingBy-from_default}
 use Rattle.std.proofs.lemmas.Bool.{cases_lt}
-use Rattle.std.proofs.lemmas.List.{append_assoc, length-append, length-set, length-drop, length-take-le, get_or_append_left, get_or-append-add, take-append-drop, nil_from_length, get_or_read, get_or_default}
+use Rattle.std.proofs.lemmas.List.{append_assoc, length-append, length-set, length-drop, length-take-le, get_or_append_left, get_or-append-add}
+use Rattle.std.proofs.lemmas.List.{take-append-drop, nil_from_length, get_or_read, get_or_default}
 use Rattle.std.proofs.lemmas.List.Elements.{All-head, All-tail, All-cons, All-append, All-set, All-take, All-drop}
 use Rattle.std.proofs.lemmas.List.Edits.{length-insert, insert-append_left, insert-append_right}
 use Rattle.pst_roots.specs.Pieces.{starts_from, IsPiece, AreCut, IsStartBefore, IsPieceAt, FallsInto, halved}
@@ -93,7 +95,8 @@ starts_suc n (p ∷ ps) =
     ap (λ (qs : List ℕ). suc n ∷ qs) (ap (λ (m : ℕ). starts_from m ps) next ∙ starts_suc (n + length p) ps)
 
 -- the starts where a piece gets one element more
-pub starts_grown : (n : ℕ) (ps : List (List ℕ)) (k : ℕ) (q : List ℕ) → k < length ps → length q ≡ length (get_or ps k []) + 1 → starts_from n (set ps k q) ≡ take (suc k) (starts_from n ps) ++ map suc (drop (suc k) (starts_from n ps))
+pub starts_grown : (n : ℕ) (ps : List (List ℕ)) (k : ℕ) (q : List ℕ) → k < length ps → length q ≡ length (get_or ps k []) + 1
+    → starts_from n (set ps k q) ≡ take (suc k) (starts_from n ps) ++ map suc (drop (suc k) (starts_from n ps))
 starts_grown n [] k q l e = absurd (omega arith)
 starts_grown n (p ∷ ps) zero q l e =
     let next : n + length q ≡ suc (n + length p) = omega (arith, e) in
@@ -130,7 +133,8 @@ module _ (a b : List ℕ) where
   length_cut (p ∷ ps) (suc k) l = ap suc (length_cut ps k (omega arith))
 
   -- the starts of them
-  pub starts_cut : (n : ℕ) (ps : List (List ℕ)) (k : ℕ) → k < length ps → length a + length b ≡ length (get_or ps k []) → starts_from n (insert (set ps k a) (suc k) b) ≡ insert (starts_from n ps) (suc k) (get_or (starts_from n ps) k 0 + length a)
+  pub starts_cut : (n : ℕ) (ps : List (List ℕ)) (k : ℕ) → k < length ps → length a + length b ≡ length (get_or ps k [])
+      → starts_from n (insert (set ps k a) (suc k) b) ≡ insert (starts_from n ps) (suc k) (get_or (starts_from n ps) k 0 + length a)
   starts_cut n [] k l e = absurd (omega arith)
   starts_cut n (p ∷ ps) zero l e =
       let next : (n + length a) + length b ≡ n + length p = omega (arith, e) in
@@ -138,7 +142,7 @@ module _ (a b : List ℕ) where
   starts_cut n (p ∷ ps) (suc k) l e = ap (λ (qs : List ℕ). n ∷ qs) (starts_cut (n + length p) ps k (omega arith) e)
 
 -- how much pieces hold
-pub few_held : (ps : List (List ℕ)) → All IsPiece ps → length (concat ps) ≤ 256 * length ps
+pub few_held : (ps : List (List ℕ)) → All IsPiece ps → length (concat ps) ≤ 1024 * length ps
 few_held [] each = omega arith
 few_held (p ∷ ps) each =
     let head : IsPiece p = All-head IsPiece p ps each in
@@ -236,9 +240,9 @@ All-insert P xs i y each p = All-append P (take i xs) (y ∷ drop i xs) (All-tak
 
 module _ (pieces pieces' : Vec (List ℕ) Global) (starts starts' : Vec ℕ Global) (pool pool' : Vec (List ℕ) Global) (cut : AreCut pieces starts pool) (at : ℕ) (there : at < length pieces.items) where
   -- the pieces where a full one is cut in two
-  pub still_cut : length (get_or pieces.items at []) ≡ 256
+  pub still_cut : length (get_or pieces.items at []) ≡ 1024
       → pieces'.items ≡ halved pieces.items at
-      → starts'.items ≡ insert starts.items (suc at) (get_or starts.items at 0 + 128)
+      → starts'.items ≡ insert starts.items (suc at) (get_or starts.items at 0 + 512)
       → length pool.items ≡ length pool'.items + 1
       → All (λ piece. piece ≡ []) pool'.items
       → vec_capacity pieces ≤ vec_capacity pieces'
@@ -246,17 +250,23 @@ module _ (pieces pieces' : Vec (List ℕ) Global) (starts starts' : Vec ℕ Glob
       → AreCut pieces' starts' pool'
   still_cut full pieces_are starts_are pool_is empty pieces_room starts_room =
       let part : List ℕ = get_or pieces.items at [] in
-      let first : length (take 128 part) ≡ 128 = length-take-le 128 part (omega (arith, full)) in
-      let second : length (drop 128 part) ≡ 128 = omega (arith, length-drop 128 part, full) in
-      let more : length pieces'.items ≡ length pieces.items + 1 = ap length pieces_are ∙ length-insert (set pieces.items at (take 128 part)) (suc at) (drop 128 part) (omega (arith, length-set pieces.items at (take 128 part))) ∙ ap (λ (n : ℕ). n + 1) (length-set pieces.items at (take 128 part)) in
-      let more_starts : length starts'.items ≡ length starts.items + 1 = ap length starts_are ∙ length-insert starts.items (suc at) (get_or starts.items at 0 + 128) (omega (arith, many_starts pieces.items starts.items cut.starts_are)) in
-      let each : All IsPiece (halved pieces.items at) = All-insert IsPiece (set pieces.items at (take 128 part)) (suc at) (drop 128 part) (All-set IsPiece pieces.items at (take 128 part) (record { some = omega (arith, first); most = omega (arith, first) }) cut.each) (record { some = omega (arith, second); most = omega (arith, second) }) in
+      let first : length (take 512 part) ≡ 512 = length-take-le 512 part (omega (arith, full)) in
+      let second : length (drop 512 part) ≡ 512 = omega (arith, length-drop 512 part, full) in
+      let same : length (set pieces.items at (take 512 part)) ≡ length pieces.items = length-set pieces.items at (take 512 part) in
+      let more : length pieces'.items ≡ length pieces.items + 1 = ap length pieces_are
+      ∙ length-insert (set pieces.items at (take 512 part)) (suc at) (drop 512 part) (omega (arith, same)) ∙ ap (λ (n : ℕ). n + 1) same in
+      let more_starts : length starts'.items ≡ length starts.items + 1 = ap length starts_are
+      ∙ length-insert starts.items (suc at) (get_or starts.items at 0 + 512) (omega (arith, many_starts pieces.items starts.items cut.starts_are)) in
+      let is_first : IsPiece (take 512 part) = record { some = omega (arith, first); most = omega (arith, first) } in
+      let is_second : IsPiece (drop 512 part) = record { some = omega (arith, second); most = omega (arith, second) } in
+      let each : All IsPiece (halved pieces.items at) =
+      All-insert IsPiece (set pieces.items at (take 512 part)) (suc at) (drop 512 part) (All-set IsPiece pieces.items at (take 512 part) is_first cut.each) is_second in
       record {
         each = subst (λ (ps : List (List ℕ)). All IsPiece ps) (sym pieces_are) each;
         starts_are = starts_are
-            ∙ ap (λ (xs : List ℕ). insert xs (suc at) (get_or xs at 0 + 128)) cut.starts_are
+            ∙ ap (λ (xs : List ℕ). insert xs (suc at) (get_or xs at 0 + 512)) cut.starts_are
             ∙ ap (λ (n : ℕ). insert (starts_from 0 pieces.items) (suc at) (get_or (starts_from 0 pieces.items) at 0 + n)) (sym first)
-            ∙ sym (starts_cut (take 128 part) (drop 128 part) 0 pieces.items at there (omega (arith, first, second, full)))
+            ∙ sym (starts_cut (take 512 part) (drop 512 part) 0 pieces.items at there (omega (arith, first, second, full)))
             ∙ ap (starts_from 0) (sym pieces_are);
         empty = empty;
         few = omega (arith, more, pool_is, cut.few);
@@ -265,7 +275,7 @@ module _ (pieces pieces' : Vec (List ℕ) Global) (starts starts' : Vec ℕ Glob
       }
 
   -- the pieces where one that is not full gets one element more
-  pub still_grown : (q : List ℕ) → length (get_or pieces.items at []) < 256
+  pub still_grown : (q : List ℕ) → length (get_or pieces.items at []) < 1024
       → length q ≡ length (get_or pieces.items at []) + 1
       → pieces'.items ≡ set pieces.items at q
       → starts'.items ≡ take (suc at) starts.items ++ map suc (drop (suc at) starts.items)
@@ -281,7 +291,8 @@ module _ (pieces pieces' : Vec (List ℕ) Global) (starts starts' : Vec ℕ Glob
       ∙ ap (starts_from 0) (sym pieces_are) in
       let same_starts : length starts'.items ≡ length starts.items = many_starts pieces'.items starts'.items are ∙ same ∙ sym (many_starts pieces.items starts.items cut.starts_are) in
       record {
-        each = subst (λ (ps : List (List ℕ)). All IsPiece ps) (sym pieces_are) (All-set IsPiece pieces.items at q (record { some = omega (arith, longer); most = omega (arith, longer, room) }) cut.each);
+        each = subst (λ (ps : List (List ℕ)). All IsPiece ps) (sym pieces_are)
+            (All-set IsPiece pieces.items at q (record { some = omega (arith, longer); most = omega (arith, longer, room) }) cut.each);
         starts_are = are;
         empty = subst (λ (ps : List (List ℕ)). All (λ piece. piece ≡ []) ps) (sym pool_is) cut.empty;
         few = omega (arith, same, ap length pool_is, cut.few);
@@ -295,7 +306,9 @@ pub record IsPutBehind (ps : List (List ℕ)) (index at y : ℕ) (piece : List �
   pub longer : length piece ≡ length (get_or ps at []) + 1
 
 -- a node put into the piece that an index falls into, by the piece and the start that were read
-pub put_behind : (ps : List (List ℕ)) (starts : List ℕ) → starts ≡ starts_from 0 ps → (index at y : ℕ) → FallsInto ps starts index at → (old : List ℕ) → old ≡ get_or ps at old → (start : ℕ) → start ≡ get_or starts at start → (piece : List ℕ) → piece ≡ insert old ((index - start) + 1) y → IsPutBehind ps index at y piece
+pub put_behind : (ps : List (List ℕ)) (starts : List ℕ) → starts ≡ starts_from 0 ps → (index at y : ℕ) → FallsInto ps starts index at → (old : List ℕ)
+    → old ≡ get_or ps at old → (start : ℕ) → start ≡ get_or starts at start → (piece : List ℕ) → piece ≡ insert old ((index - start) + 1) y
+    → IsPutBehind ps index at y piece
 put_behind ps starts are index at y falls old old_read start read piece is =
     let part : List ℕ = get_or ps at [] in
     let start_is : start ≡ get_or starts at 0 = start_read ps starts are at start falls.there read in
@@ -311,41 +324,51 @@ put_behind ps starts are index at y falls old old_read start read piece is =
 pub record AreHalves (ps ps' : List (List ℕ)) (starts' : List ℕ) (index at : ℕ) : Type 0 where
   pub there : at + 1 < length starts'
   pub first : index < get_or starts' (at + 1) 0 → FallsInto ps' starts' index at
-  pub first_room : length (get_or ps' at []) < 256
+  pub first_room : length (get_or ps' at []) < 1024
   pub second : get_or starts' (at + 1) 0 ≤ index → FallsInto ps' starts' index (at + 1)
-  pub second_room : length (get_or ps' (at + 1) []) < 256
+  pub second_room : length (get_or ps' (at + 1) []) < 1024
   pub held : concat ps' ≡ concat ps
 
-module _ (ps ps' : List (List ℕ)) (starts starts' : List ℕ) (are : starts ≡ starts_from 0 ps) (are' : starts' ≡ starts_from 0 ps') (index at : ℕ) (falls : FallsInto ps starts index at) (full : length (get_or ps at []) ≡ 256) (halves : ps' ≡ halved ps at) where
+module _ (ps ps' : List (List ℕ)) (starts starts' : List ℕ) (are : starts ≡ starts_from 0 ps) (are' : starts' ≡ starts_from 0 ps') (index at : ℕ)
+    (falls : FallsInto ps starts index at) (full : length (get_or ps at []) ≡ 1024) (halves : ps' ≡ halved ps at) where
   part : List ℕ
   part = get_or ps at []
 
-  first_is : length (get_or ps' at []) ≡ 128
+  first_is : length (get_or ps' at []) ≡ 512
   unfolding part
-  first_is = ap (λ (qs : List (List ℕ)). length (get_or qs at [])) halves ∙ ap length (first_part (take 128 part) (drop 128 part) ps at falls.there) ∙ length-take-le 128 part (omega (arith, full))
+  first_is = ap (λ (qs : List (List ℕ)). length (get_or qs at [])) halves ∙ ap length (first_part (take 512 part) (drop 512 part) ps at falls.there) ∙ length-take-le 512 part (omega (arith, full))
 
-  second_is : length (get_or ps' (suc at) []) ≡ 128
+  second_is : length (get_or ps' (suc at) []) ≡ 512
   unfolding part
-  second_is = ap (λ (qs : List (List ℕ)). length (get_or qs (suc at) [])) halves ∙ ap length (second_part (take 128 part) (drop 128 part) ps at falls.there) ∙ length-drop 128 part ∙ ap (λ (n : ℕ). n - 128) full
+  second_is =
+      ap (λ (qs : List (List ℕ)). length (get_or qs (suc at) [])) halves ∙ ap length (second_part (take 512 part) (drop 512 part) ps at falls.there)
+      ∙ length-drop 512 part ∙ ap (λ (n : ℕ). n - 512) full
 
   more : length ps' ≡ suc (length ps)
   unfolding part
-  more = ap length halves ∙ length_cut (take 128 part) (drop 128 part) ps at falls.there
+  more = ap length halves ∙ length_cut (take 512 part) (drop 512 part) ps at falls.there
 
   first_start : get_or starts' at 0 ≡ get_or starts at 0
   unfolding part
   first_start =
       start_at ps' starts' are' at (omega (arith, more, falls.there))
       ∙ ap (λ (qs : List (List ℕ)). length (concat (take at qs))) halves
-      ∙ ap (λ (qs : List (List ℕ)). length (concat qs)) (take_cut (take 128 part) (drop 128 part) ps at falls.there)
+      ∙ ap (λ (qs : List (List ℕ)). length (concat qs)) (take_cut (take 512 part) (drop 512 part) ps at falls.there)
       ∙ sym (start_at ps starts are at falls.there)
 
-  second_start : get_or starts' (suc at) 0 ≡ get_or starts at 0 + 128
-  second_start = omega (arith, start_at ps' starts' are' (suc at) (omega (arith, more, falls.there)), before_next ps' at (omega (arith, more, falls.there)), start_at ps' starts' are' at (omega (arith, more, falls.there)), first_is, first_start)
+  second_start : get_or starts' (suc at) 0 ≡ get_or starts at 0 + 512
+  second_start = omega (
+    arith,
+    start_at ps' starts' are' (suc at) (omega (arith, more, falls.there)),
+    before_next ps' at (omega (arith, more, falls.there)),
+    start_at ps' starts' are' at (omega (arith, more, falls.there)),
+    first_is,
+    first_start,
+  )
 
   same_held : concat ps' ≡ concat ps
   unfolding part
-  same_held = ap concat halves ∙ concat_cut (take 128 part) (drop 128 part) ps at falls.there (take-append-drop 128 part)
+  same_held = ap concat halves ∙ concat_cut (take 512 part) (drop 512 part) ps at falls.there (take-append-drop 512 part)
 
   first_falls : index < get_or starts' (suc at) 0 → FallsInto ps' starts' index at
   first_falls l = record { there = omega (arith, more, falls.there); early = omega (arith, first_start, falls.early); within = omega (arith, l, second_start, first_start, first_is) }
@@ -359,18 +382,21 @@ module _ (ps ps' : List (List ℕ)) (starts starts' : List ℕ) (are : starts �
     first = subst (λ (i : ℕ). index < get_or starts' i 0 → FallsInto ps' starts' index at) (sym (add-one at)) first_falls;
     first_room = omega (arith, first_is);
     second = subst (λ (i : ℕ). get_or starts' i 0 ≤ index → FallsInto ps' starts' index i) (sym (add-one at)) second_falls;
-    second_room = subst (λ (i : ℕ). length (get_or ps' i []) < 256) (sym (add-one at)) (omega (arith, second_is));
+    second_room = subst (λ (i : ℕ). length (get_or ps' i []) < 1024) (sym (add-one at)) (omega (arith, second_is));
     held = same_held;
   }
 
 -- a piece that was read, and is not below its most, is full
-pub full_read : (ps : List (List ℕ)) → All IsPiece ps → (at : ℕ) → at < length ps → (piece : List ℕ) → piece ≡ get_or ps at piece → (n : ℕ) → n ≡ length piece → 256 ≤ n → length (get_or ps at []) ≡ 256
+pub full_read : (ps : List (List ℕ)) → All IsPiece ps → (at : ℕ) → at < length ps → (piece : List ℕ) → piece ≡ get_or ps at piece → (n : ℕ) → n ≡ length piece
+    → 1024 ≤ n → length (get_or ps at []) ≡ 1024
 full_read ps each at l piece e n count many =
     let most : IsPiece (get_or ps at []) = each at [] l in
     omega (arith, ap length (get_or_read ps at piece l e []), most.most, count, many)
 
 -- the same, by what was read of the starts and of the piece
-pub cut_halves : (ps ps' : List (List ℕ)) (starts starts' : List ℕ) → starts ≡ starts_from 0 ps → starts' ≡ starts_from 0 ps' → All IsPiece ps → (seen : List ℕ) → seen ≡ starts → (index at : ℕ) → index < length (concat ps) → IsPieceAt seen index at → (piece : List ℕ) → piece ≡ get_or ps at piece → (n : ℕ) → n ≡ length piece → 256 ≤ n → ps' ≡ halved ps at → AreHalves ps ps' starts' index at
+pub cut_halves : (ps ps' : List (List ℕ)) (starts starts' : List ℕ) → starts ≡ starts_from 0 ps → starts' ≡ starts_from 0 ps' → All IsPiece ps → (seen : List ℕ) → seen ≡ starts
+    → (index at : ℕ) → index < length (concat ps) → IsPieceAt seen index at → (piece : List ℕ) → piece ≡ get_or ps at piece → (n : ℕ)
+    → n ≡ length piece → 1024 ≤ n → ps' ≡ halved ps at → AreHalves ps ps' starts' index at
 cut_halves ps ps' starts starts' are are' each seen same index at l found piece e n count many halves =
     let falls = falls_into ps starts are seen same index at l found in
     are_halves ps ps' starts starts' are are' index at falls (full_read ps each at falls.there piece e n count many) halves

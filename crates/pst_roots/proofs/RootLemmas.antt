@@ -133,7 +133,9 @@ module _ (list : List ℕ) (nodes : List Node) (held : List ℕ) (at : ℕ) (are
     }
 
 -- where a stretch in which the node stands is cut in two
-module _ (list : List ℕ) (nodes : List Node) (held : Held) (at : ℕ) (are : AreRoots list nodes held.nodes at) (stretch : Stretch) (left old new : ℕ) (b : IsBetween list nodes held.nodes at stretch.low stretch.high left old new) (two : 1 < stretch.high - stretch.low) (cut : Halves) (halves : AreHalvesOf held stretch ((1 * 2 ^ (left - 1)) % 2 ^ 64) cut) where
+module _ (list : List ℕ) (nodes : List Node) (held : Held) (at : ℕ) (are : AreRoots list nodes held.nodes at) (stretch : Stretch) (left old new : ℕ)
+    (b : IsBetween list nodes held.nodes at stretch.low stretch.high left old new) (two : 1 < stretch.high - stretch.low) (cut : Halves)
+    (halves : AreHalvesOf held stretch ((1 * 2 ^ (left - 1)) % 2 ^ 64) cut) where
   there : cut.second.low < length held.nodes
   there = omega (arith, halves.second.ordered, halves.second.within)
 
@@ -159,7 +161,8 @@ module _ (list : List ℕ) (nodes : List Node) (held : Held) (at : ℕ) (are : A
       called
       (omega (arith, halves.first_most, halves.low, halves.meet, shift))
       (subst (λ (p : ℕ). rank list at < rank list p) begins h) in
-      subst (λ (i : ℕ). IsBetween list nodes held.nodes at i cut.first.high (left - 1) old new') (sym halves.low) (subst (λ (i : ℕ). IsBetween list nodes held.nodes at stretch.low i (left - 1) old new') (sym halves.meet) found)
+      subst (λ (i : ℕ). IsBetween list nodes held.nodes at i cut.first.high (left - 1) old new') (sym halves.low)
+      (subst (λ (i : ℕ). IsBetween list nodes held.nodes at stretch.low i (left - 1) old new') (sym halves.meet) found)
 
   pub in_second : (new' : ℕ) → new' ≡ new + 1 → rank list (lo_at nodes cut.node.0) ≤ rank list at → IsBetween list nodes held.nodes at cut.second.low cut.second.high (left - 1) old new'
   in_second new' called h =
@@ -173,7 +176,9 @@ module _ (list : List ℕ) (nodes : List Node) (held : Held) (at : ℕ) (are : A
       subst (λ (i : ℕ). IsBetween list nodes held.nodes at cut.second.low i (left - 1) old new') (sym halves.high) found
 
 -- a held node does not begin after the place, and the next one does
-pub last_beside : (list : List ℕ) (nodes : List Node) (held : List ℕ) (at k : ℕ) → AreRoots list nodes held at → suc k < length held → rank list (get_or (begins_of nodes held) k 0) ≤ rank list at → rank list at < rank list (get_or (begins_of nodes held) (suc k) 0) → IsLastIndex list nodes held at k
+pub last_beside : (list : List ℕ) (nodes : List Node) (held : List ℕ) (at k : ℕ) → AreRoots list nodes held at → suc k < length held
+    → rank list (get_or (begins_of nodes held) k 0) ≤ rank list at → rank list at < rank list (get_or (begins_of nodes held) (suc k) 0)
+    → IsLastIndex list nodes held at k
 last_beside list nodes held at k are l early next =
     let begin_is : (i : ℕ) → i < length held → get_or (begins_of nodes held) i 0 ≡ lo_at nodes (get_or held i 0) = λ i l. get_or-map (lo_at nodes) held i 0 0 l in
     record {
@@ -192,7 +197,8 @@ abbrev pub last_before : (list : List ℕ) (nodes : List Node) (held : List ℕ)
 last_before list nodes held at k last = record { index = k; within = last.within; held_there = refl; early = last.early; late = last.late }
 
 -- the list with a node behind that one
-pub added_root : (list : List ℕ) (nodes : List Node) (old new : List ℕ) (right k : ℕ) → IsLastIndex list nodes old (lo_at nodes right) k → new ≡ insert old (suc k) right → IsAddedRoot list nodes old new right
+pub added_root : (list : List ℕ) (nodes : List Node) (old new : List ℕ) (right k : ℕ) → IsLastIndex list nodes old (lo_at nodes right) k
+    → new ≡ insert old (suc k) right → IsAddedRoot list nodes old new right
 added_root list nodes old new right k last is = record { left = get_or old k 0; before = last_before list nodes old (lo_at nodes right) k last; held = is }
 
 module _ {A : Type 0} (f : A → ℕ) where

@@ -14,7 +14,8 @@ pub record IsRead (nodes : List ℕ) (index start : ℕ) (part : List ℕ) : Typ
   pub element : get_or part (index - start) 0 ≡ get_or nodes index 0
 
 module _ (held : Held) (ps : List (List ℕ)) (starts : List ℕ) (are : starts ≡ starts_from 0 ps) (each : All IsPiece ps) (nodes : concat ps ≡ held.nodes) (same : starts ≡ held.starts) where
-  pub read_at : (index at : ℕ) → index < length held.nodes → IsPieceAt held.starts index at → (start : ℕ) → start ≡ get_or starts at start → (part : List ℕ) → part ≡ get_or ps at part → IsRead held.nodes index start part
+  pub read_at : (index at : ℕ) → index < length held.nodes → IsPieceAt held.starts index at → (start : ℕ) → start ≡ get_or starts at start
+      → (part : List ℕ) → part ≡ get_or ps at part → IsRead held.nodes index start part
   read_at index at l found start start_is part part_is =
       let falls : FallsInto ps starts index at = falls_into ps starts are held.starts (sym same) index at (omega (arith, ap length nodes, l)) found in
       let first : start ≡ get_or starts at 0 = start_read ps starts are at start falls.there start_is in
@@ -59,7 +60,8 @@ module _ (held : Held) (ps : List (List ℕ)) (starts : List ℕ) (are : starts 
 
   module _ (stretch : Stretch) (is : IsStretch held stretch) where
     -- it is cut where one of its pieces starts that is not the first one
-    pub start_cut : (most start k : ℕ) → stretch.piece < k → k < stretch.end → start ≡ get_or starts k start → start - stretch.low ≤ most → stretch.high - start ≤ most → IsCut held stretch most (record { index = start; piece = k })
+    pub start_cut : (most start k : ℕ) → stretch.piece < k → k < stretch.end → start ≡ get_or starts k start → start - stretch.low ≤ most
+        → stretch.high - start ≤ most → IsCut held stretch most (record { index = start; piece = k })
     start_cut most start k a b start_is first second =
         let there : k < length held.starts = omega (arith, is.there) in
         let at : get_or held.starts k 0 ≡ start = ap (λ (xs : List ℕ). get_or xs k 0) (sym same) ∙ sym (start_read ps starts are k start (omega (arith, many_held)) start_is) in

@@ -15,10 +15,10 @@ abbrev pub starts_from : ℕ → List (List ℕ) → List ℕ
 starts_from n [] = []
 starts_from n (piece ∷ pieces) = n ∷ starts_from (n + length piece) pieces
 
--- A piece has something in it, and at most 256.
+-- A piece has something in it, and at most 1024.
 pub record IsPiece (piece : List ℕ) : Type 0 where
   pub some : 0 < length piece
-  pub most : length piece ≤ 256
+  pub most : length piece ≤ 1024
 
 -- Pieces, with the starts of them, and room for each empty piece.
 pub record AreCut (pieces : Vec (List ℕ) Global) (starts : Vec ℕ Global) (pool : Vec (List ℕ) Global) : Type 0 where
@@ -53,4 +53,4 @@ pub record FallsInto (pieces : List (List ℕ)) (starts : List ℕ) (index at : 
 
 -- the pieces with a full one cut in two
 abbrev pub halved : List (List ℕ) → ℕ → List (List ℕ)
-halved pieces at = insert (set pieces at (take 128 (get_or pieces at []))) (suc at) (drop 128 (get_or pieces at []))
+halved pieces at = insert (set pieces at (take 512 (get_or pieces at []))) (suc at) (drop 512 (get_or pieces at []))

@@ -1,7 +1,7 @@
 //! The index of the root record's nodes: which of them covers a place.
 //!
 //! Model: the list of the numbers of the nodes that are held, in the order of where they begin, and how many more there is room
-//! for. (Inside, the list stands in pieces of at most 256 nodes, beside the index at which each piece starts.)
+//! for. (Inside, the list stands in pieces of at most 1,024 nodes, beside the index at which each piece starts.)
 //!
 //! Contract: `at` gives the last held node that does not begin after a place; `at_with` finds it in at most `s` comparisons,
 //! where `2 ^ s` is at most `2 * n + 1` for the `n` nodes held. `add` puts a node directly behind the last one that does
@@ -18,7 +18,5 @@
 mod piece;
 mod pieces;
 mod roots;
-#[cfg(test)]
-mod tests;
 
 pub use roots::RootIndex;

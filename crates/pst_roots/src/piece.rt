@@ -5,10 +5,10 @@ use std::alloc::Global;
 use std::marker::Model;
 
 /// How many nodes a piece has room for.
-pub const PIECE: usize = 256;
+pub const PIECE: usize = 1024;
 
 /// How many nodes a full piece keeps when it is cut in two.
-pub const HALF: usize = 128;
+pub const HALF: usize = 512;
 
 /// At most `PIECE` nodes, in memory that was taken when the piece was made.
 #[derive(Drop)]
@@ -24,7 +24,7 @@ impl Model for Piece {
 
     ghost view = { λ p. numbers p.nodes.items };
 
-    ghost invariant = { λ p. (length p.nodes.items ≤ 256) × (256 ≤ vec_capacity p.nodes) };
+    ghost invariant = { λ p. (length p.nodes.items ≤ 1024) × (1024 ≤ vec_capacity p.nodes) };
 }
 
 impl Piece {
@@ -43,7 +43,7 @@ impl Piece {
     #[inline]
     pub fn len(&self) -> usize
         ensures count { result ≡ length self.now }
-        ensures most { result ≤ 256 }
+        ensures most { result ≤ 1024 }
     {
         self.nodes.len()
     }
@@ -72,7 +72,7 @@ impl Piece {
     /// Puts a node at an index.
     pub fn insert(&mut self, index: usize, id: NodeId)
         requires index { index ≤ length self.old }
-        requires room { length self.old < 256 }
+        requires room { length self.old < 1024 }
         ensures { self.new ≡ insert self.old index id.0 }
     {
         let _there_is_room = self.nodes.insert(index, id);
@@ -80,10 +80,10 @@ impl Piece {
 
     /// Moves the second half of a full piece into an empty one.
     pub fn halve(&mut self, second: &mut Piece)
-        requires full { length self.old ≡ 256 }
+        requires full { length self.old ≡ 1024 }
         requires empty { second.old ≡ [] }
-        ensures first { self.new ≡ take 128 self.old }
-        ensures second { second.new ≡ drop 128 self.old }
+        ensures first { self.new ≡ take 512 self.old }
+        ensures second { second.new ≡ drop 512 self.old }
     {
         let _there_is_room = second.nodes.extend_from_slice(&self.nodes[HALF..]);
         self.nodes.truncate(HALF);

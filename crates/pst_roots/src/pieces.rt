@@ -288,7 +288,7 @@ fn piece_with_room(
     ensures nodes { concat pieces.new.items ≡ concat pieces.old.items }
     ensures spare { length pool.old.items ≤ length pool.new.items + 1 }
     ensures falls { FallsInto pieces.new.items starts.new.items index result }
-    ensures room { length (get_or pieces.new.items result []) < 256 }
+    ensures room { length (get_or pieces.new.items result []) < 1024 }
 {
     let at = piece_at(starts, index);
     if pieces[at].len() < PIECE {
@@ -302,7 +302,7 @@ fn piece_with_room(
 fn cut_in_two(pieces: &mut Vec<Piece>, starts: &mut Vec<usize>, pool: &mut Vec<Piece>, at: usize)
     requires cut { AreCut pieces.old starts.old pool.old }
     requires at { at < length pieces.old.items }
-    requires full { length (get_or pieces.old.items at []) ≡ 256 }
+    requires full { length (get_or pieces.old.items at []) ≡ 1024 }
     requires spare { 1 ≤ length pool.old.items }
     ensures cut { AreCut pieces.new starts.new pool.new }
     ensures pieces { pieces.new.items ≡ halved pieces.old.items at }

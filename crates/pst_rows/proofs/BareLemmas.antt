@@ -28,5 +28,6 @@ read_bare list row slot at is l bare =
     let begins : start ≡ before_slot row.cells.stamps slot = part_start row slot start start parts l bare in
     let ends : start ≡ before_slot row.cells.stamps (slot + 1) = part_stop row slot start start parts l bare in
     read_base (rank list) (length list) row slot (rank list at) start start start is
-    (part_located list (rank list row.lo.0) (rank list row.hi.0) (length row.cells.slots) row.cells.stamps is.stamps is.there slot start start begins ends at start (empty_partition list _ start start at (omega arith) (omega arith)))
+    (part_located list (rank list row.lo.0) (rank list row.hi.0) (length row.cells.slots) row.cells.stamps is.stamps is.there slot start start begins
+    ends at start (empty_partition list _ start start at (omega arith) (omega arith)))
     row.cells.slots slot no_slot refl refl l refl

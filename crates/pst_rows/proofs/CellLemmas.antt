@@ -54,17 +54,21 @@ list-set (h ∷ hs) xs zero k e q = absurd (omega arith)
 list-set (h ∷ hs) xs (suc i) k e q = ap (λ (ys : List Stamp). h ∷ ys) (list-set hs xs i k e (omega arith))
 
 -- the slot with a number, in the head or behind it
-pub slot-head : (w : ℕ) (hs xs : List Stamp) (i : ℕ) (d : Stamp) (e : Slot) → length hs ≡ head_size → w ≤ head_size + length xs → i < w → i < head_size → slot_kept (get_or hs i d) ≡ get_or (slots_in w (hs ++ xs)) i e
+pub slot-head : (w : ℕ) (hs xs : List Stamp) (i : ℕ) (d : Stamp) (e : Slot) → length hs ≡ head_size → w ≤ head_size + length xs → i < w
+    → i < head_size → slot_kept (get_or hs i d) ≡ get_or (slots_in w (hs ++ xs)) i e
 slot-head w hs xs i d e n there l m = sym (slot_at w (hs ++ xs) i d e l (omega (arith, length-append hs xs)) ∙ ap slot_kept (head-at hs xs i d (omega arith)))
 
-pub slot-list : (w : ℕ) (hs xs : List Stamp) (i : ℕ) (d : Stamp) (e : Slot) → length hs ≡ head_size → w ≤ head_size + length xs → i < w → head_size ≤ i → slot_kept (get_or xs (i - head_size) d) ≡ get_or (slots_in w (hs ++ xs)) i e
+pub slot-list : (w : ℕ) (hs xs : List Stamp) (i : ℕ) (d : Stamp) (e : Slot) → length hs ≡ head_size → w ≤ head_size + length xs → i < w
+    → head_size ≤ i → slot_kept (get_or xs (i - head_size) d) ≡ get_or (slots_in w (hs ++ xs)) i e
 slot-list w hs xs i d e n there l m = sym (slot_at w (hs ++ xs) i d e l (omega (arith, length-append hs xs)) ∙ ap slot_kept (list-at hs xs i (i - head_size) d (omega arith)))
 
 -- a slot is written, in the head or behind it
-pub write-head : (w : ℕ) (hs xs : List Stamp) (i : ℕ) (e : Stamp) (s : Slot) → length hs ≡ head_size → slot_kept e ≡ s → i < w → i < head_size → slots_in w (set hs i e ++ xs) ≡ set (slots_in w (hs ++ xs)) i s
+pub write-head : (w : ℕ) (hs xs : List Stamp) (i : ℕ) (e : Stamp) (s : Slot) → length hs ≡ head_size → slot_kept e ≡ s → i < w → i < head_size
+    → slots_in w (set hs i e ++ xs) ≡ set (slots_in w (hs ++ xs)) i s
 write-head w hs xs i e s n is l m = ap (slots_in w) (head-set hs xs i e (omega arith)) ∙ slots-set w (hs ++ xs) i e l ∙ ap (set (slots_in w (hs ++ xs)) i) is
 
-pub write-list : (w : ℕ) (hs xs : List Stamp) (i : ℕ) (e : Stamp) (s : Slot) → length hs ≡ head_size → slot_kept e ≡ s → i < w → head_size ≤ i → slots_in w (hs ++ set xs (i - head_size) e) ≡ set (slots_in w (hs ++ xs)) i s
+pub write-list : (w : ℕ) (hs xs : List Stamp) (i : ℕ) (e : Stamp) (s : Slot) → length hs ≡ head_size → slot_kept e ≡ s → i < w → head_size ≤ i
+    → slots_in w (hs ++ set xs (i - head_size) e) ≡ set (slots_in w (hs ++ xs)) i s
 write-list w hs xs i e s n is l m = ap (slots_in w) (list-set hs xs i (i - head_size) e (omega arith)) ∙ slots-set w (hs ++ xs) i e l ∙ ap (set (slots_in w (hs ++ xs)) i) is
 
 -- where a stamp comes in behind the slots
@@ -107,7 +111,8 @@ stamps-set (suc v) (x ∷ xs) (suc i) k e q = stamps-set v xs i k e (omega arith
 none_left : (v : ℕ) (xs : List Stamp) → v ≤ length xs → drop v xs ≡ [] → length xs ≡ v
 none_left v xs l none = omega (arith, ap length none, length-drop v xs)
 
-pub push-list : (w : ℕ) (hs xs : List Stamp) (e : Stamp) → length hs ≡ head_size → w ≤ head_size + length xs → head_size ≤ w → drop (w - head_size) xs ≡ [] → slots_in (w + 1) (hs ++ (xs ++ e ∷ [])) ≡ slots_in w (hs ++ xs) ++ slot_kept e ∷ []
+pub push-list : (w : ℕ) (hs xs : List Stamp) (e : Stamp) → length hs ≡ head_size → w ≤ head_size + length xs → head_size ≤ w
+    → drop (w - head_size) xs ≡ [] → slots_in (w + 1) (hs ++ (xs ++ e ∷ [])) ≡ slots_in w (hs ++ xs) ++ slot_kept e ∷ []
 push-list w hs xs e n there l none =
     let k : length xs ≡ w - head_size = none_left (w - head_size) xs (omega arith) none in
     let all : take (w + 1) ((hs ++ xs) ++ e ∷ []) ≡ (hs ++ xs) ++ e ∷ [] = take_all (w + 1) ((hs ++ xs) ++ e ∷ []) (omega (arith, length-append hs xs, length-append (hs ++ xs) (e ∷ []))) in
@@ -117,7 +122,8 @@ push-list w hs xs e n there l none =
     ∙ map-append slot_kept (take w (hs ++ xs)) (e ∷ [])
 
 -- a stamp with another content
-pub set-content : (xs : List Stamp) (i : ℕ) (d : Stamp) (c : Content) → i < length xs → set xs i (record { slot = (get_or xs i d).slot; place = (get_or xs i d).place; content = c }) ≡ with_content xs i c
+pub set-content : (xs : List Stamp) (i : ℕ) (d : Stamp) (c : Content) → i < length xs
+    → set xs i (record { slot = (get_or xs i d).slot; place = (get_or xs i d).place; content = c }) ≡ with_content xs i c
 set-content [] i d c l = absurd (omega arith)
 set-content (x ∷ xs) zero d c l = refl
 set-content (x ∷ xs) (suc i) d c l = ap (λ (ys : List Stamp). x ∷ ys) (set-content xs i d c (omega arith))

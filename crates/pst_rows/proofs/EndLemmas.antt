@@ -23,7 +23,8 @@ head-kept (suc w) (h ∷ hs) (k ∷ ks) xs n e =
     cc
 
 -- the slots stay where the head keeps them and what comes into the list comes in behind them
-pub slots-kept : (cells : CellsValue) (w : ℕ) (hs ks xs ys : List Stamp) (cap : ℕ) → shown_cells w hs xs cap ≡ cells → length ks ≡ length hs → take w ks ≡ take w hs → take w (hs ++ ys) ≡ take w (hs ++ xs) → slots_in w (ks ++ ys) ≡ cells.slots
+pub slots-kept : (cells : CellsValue) (w : ℕ) (hs ks xs ys : List Stamp) (cap : ℕ) → shown_cells w hs xs cap ≡ cells → length ks ≡ length hs
+    → take w ks ≡ take w hs → take w (hs ++ ys) ≡ take w (hs ++ xs) → slots_in w (ks ++ ys) ≡ cells.slots
 slots-kept cells w hs ks xs ys cap is n e kept = ap (map slot_kept) (head-kept w hs ks ys n e ∙ kept) ∙ ap (λ (v : CellsValue). v.slots) is
 
 -- the slots at the front of the list are kept
@@ -35,13 +36,15 @@ front-kept (suc w) [] (x ∷ xs) zs (suc b) q l = ap (λ (ys : List Stamp). x �
 front-kept (suc w) (h ∷ hs) xs zs b q l = ap (λ (ys : List Stamp). h ∷ ys) (front-kept w hs xs zs b (omega arith) l)
 
 -- where a stamp of an index stands in the list: behind the slots
-pub stamp-behind : (cells : CellsValue) (w b z : ℕ) (hs xs : List Stamp) (cap i : ℕ) → AreSound w b z hs xs cap → shown_cells w hs xs cap ≡ cells → i ≤ length cells.stamps → (b + i ≡ (w - head_size) + i) × (w ≤ length hs + (b + i)) × (b + i ≤ length xs)
+pub stamp-behind : (cells : CellsValue) (w b z : ℕ) (hs xs : List Stamp) (cap i : ℕ) → AreSound w b z hs xs cap → shown_cells w hs xs cap ≡ cells
+    → i ≤ length cells.stamps → (b + i ≡ (w - head_size) + i) × (w ≤ length hs + (b + i)) × (b + i ≤ length xs)
 stamp-behind cells w b z hs xs cap i sound is l =
     let few : i + (w - head_size) ≤ length xs = omega (arith, l, ap (λ (v : CellsValue). length v.stamps) is, length-drop (w - head_size) xs, sound.there) in
     (omega (arith, sound.rest), omega (arith, sound.rest, sound.whole), omega (arith, sound.rest, few))
 
 -- where a slot is put into the head
-pub push-head : (w : ℕ) (hs ks xs : List Stamp) (e : Stamp) → length hs ≡ head_size → w < head_size → length ks ≡ length (set hs w e) → take (w + 1) ks ≡ take (w + 1) (set hs w e) → slots_in (w + 1) (ks ++ xs) ≡ slots_in w (hs ++ xs) ++ slot_kept e ∷ []
+pub push-head : (w : ℕ) (hs ks xs : List Stamp) (e : Stamp) → length hs ≡ head_size → w < head_size → length ks ≡ length (set hs w e)
+    → take (w + 1) ks ≡ take (w + 1) (set hs w e) → slots_in (w + 1) (ks ++ xs) ≡ slots_in w (hs ++ xs) ++ slot_kept e ∷ []
 push-head w hs ks xs e n l m kept =
     let longs : length (set hs w e) ≡ length hs = length-set hs w e in
     let long : w + 1 ≤ length ks = omega arith in
@@ -50,7 +53,8 @@ push-head w hs ks xs e n l m kept =
     ∙ map-append slot_kept (take w (hs ++ xs)) (e ∷ [])
 
 -- a slot of the head that is not its last has its stamps up to the begin of the next cell
-pub head-part : (w b z : ℕ) (hs xs : List Stamp) (cap i : ℕ) (d e : Stamp) → AreSound w b z hs xs cap → i < w → i + 1 < head_size → IsPart (shown_cells w hs xs cap) i (get_or hs i d).place.0 (get_or hs (i + 1) e).place.0
+pub head-part : (w b z : ℕ) (hs xs : List Stamp) (cap i : ℕ) (d e : Stamp) → AreSound w b z hs xs cap → i < w → i + 1 < head_size
+    → IsPart (shown_cells w hs xs cap) i (get_or hs i d).place.0 (get_or hs (i + 1) e).place.0
 head-part w b z hs xs cap i d e sound l m = record {
   begin = ap (λ (s : Slot). s.start) (slot-head w hs xs i d no_slot sound.whole sound.there l (omega arith));
   next = λ k.
@@ -63,7 +67,8 @@ head-part w b z hs xs cap i d e sound l m = record {
 }
 
 -- the same, of cells that show these
-pub head-part-in : (cells : CellsValue) (w b z : ℕ) (hs xs : List Stamp) (cap i j : ℕ) (d e : Stamp) (p q : Pos) → AreSound w b z hs xs cap → shown_cells w hs xs cap ≡ cells → i < length cells.slots → j ≡ i → j + 1 < head_size →
+pub head-part-in : (cells : CellsValue) (w b z : ℕ) (hs xs : List Stamp) (cap i j : ℕ) (d e : Stamp) (p q : Pos) → AreSound w b z hs xs cap
+    → shown_cells w hs xs cap ≡ cells → i < length cells.slots → j ≡ i → j + 1 < head_size →
     p ≡ (get_or hs j d).place → q ≡ (get_or hs (j + 1) e).place → IsPart cells i p.0 q.0
 head-part-in cells w b z hs xs cap i j d e p q sound is l k m first last =
     let width : length (slots_in w (hs ++ xs)) ≡ w = width-is w hs xs sound.whole sound.there in
@@ -75,7 +80,8 @@ head-part-in cells w b z hs xs cap i j d e p q sound is l k m first last =
     (subst (λ (a : Pos). IsPart (shown_cells w hs xs cap) j (get_or hs j d).place.0 a.0) (sym last) part)))
 
 -- the last slot of the head has its stamps up to the end
-pub full-part-in : (cells : CellsValue) (w b z : ℕ) (hs xs : List Stamp) (cap i j : ℕ) (d : Stamp) (p : Pos) → AreSound w b z hs xs cap → shown_cells w hs xs cap ≡ cells → i < length cells.slots → j ≡ i → head_size ≡ j + 1 →
+pub full-part-in : (cells : CellsValue) (w b z : ℕ) (hs xs : List Stamp) (cap i j : ℕ) (d : Stamp) (p : Pos) → AreSound w b z hs xs cap
+    → shown_cells w hs xs cap ≡ cells → i < length cells.slots → j ≡ i → head_size ≡ j + 1 →
     p ≡ (get_or hs j d).place → IsPart cells i p.0 z
 full-part-in cells w b z hs xs cap i j d p sound is l k m first =
     let width : length (slots_in w (hs ++ xs)) ≡ w = width-is w hs xs sound.whole sound.there in
@@ -110,12 +116,14 @@ list-part cells w b z hs xs cap i start stop sound is l m begin ends =
       last = λ k. ends-last cells w b z hs xs cap i stop sound is (omega arith) ends;
     }
   where
-    ends-next : (cells : CellsValue) (w b z : ℕ) (hs xs : List Stamp) (cap i stop : ℕ) → AreSound w b z hs xs cap → shown_cells w hs xs cap ≡ cells → head_size ≤ i + 1 → i + 1 < w → EndsBehind b xs i stop → stop ≡ (get_or cells.slots (i + 1) no_slot).start
+    ends-next : (cells : CellsValue) (w b z : ℕ) (hs xs : List Stamp) (cap i stop : ℕ) → AreSound w b z hs xs cap → shown_cells w hs xs cap ≡ cells
+        → head_size ≤ i + 1 → i + 1 < w → EndsBehind b xs i stop → stop ≡ (get_or cells.slots (i + 1) no_slot).start
     ends-next cells w b z hs xs cap i stop sound is m k (Next l d e) =
         e ∙ ap (λ (s : Slot). s.start) (slot-list w hs xs (i + 1) d no_slot sound.whole sound.there k m) ∙ ap (λ (v : CellsValue). (get_or v.slots (i + 1) no_slot).start) is
     ends-next cells w b z hs xs cap i stop sound is m k (Last l e) = absurd (omega (arith, sound.rest))
 
-    ends-last : (cells : CellsValue) (w b z : ℕ) (hs xs : List Stamp) (cap i stop : ℕ) → AreSound w b z hs xs cap → shown_cells w hs xs cap ≡ cells → i + 1 ≡ w → EndsBehind b xs i stop → stop ≡ length cells.stamps
+    ends-last : (cells : CellsValue) (w b z : ℕ) (hs xs : List Stamp) (cap i stop : ℕ) → AreSound w b z hs xs cap → shown_cells w hs xs cap ≡ cells
+        → i + 1 ≡ w → EndsBehind b xs i stop → stop ≡ length cells.stamps
     ends-last cells w b z hs xs cap i stop sound is k (Next l d e) = absurd (omega (arith, sound.rest))
     ends-last cells w b z hs xs cap i stop sound is k (Last l e) = omega (arith, e, sound.rest, length-drop (w - head_size) xs, ap (λ (v : CellsValue). length v.stamps) is)
 
@@ -132,7 +140,8 @@ pub slot-in : (cells : CellsValue) (w b z : ℕ) (hs xs : List Stamp) (cap i : �
 slot-in cells w b z hs xs cap i sound is l = omega (arith, ap (λ (v : CellsValue). length v.slots) is, width-is w hs xs sound.whole sound.there)
 
 -- the end stays where a slot before it is written
-pub end-kept : (w : ℕ) (hs : List Stamp) (i n : ℕ) (e : Stamp) → (w < head_size → (s : Stamp) → (get_or hs w s).place.0 ≡ n) → i < w → w < head_size → (s : Stamp) → (get_or (set hs i e) w s).place.0 ≡ n
+pub end-kept : (w : ℕ) (hs : List Stamp) (i n : ℕ) (e : Stamp) → (w < head_size → (s : Stamp) → (get_or hs w s).place.0 ≡ n) → i < w → w < head_size
+    → (s : Stamp) → (get_or (set hs i e) w s).place.0 ≡ n
 end-kept w hs i n e end l m s =
     let ne : w ≢ i = λ q. omega arith in
     ap (λ (t : Stamp). t.place.0) (get_or-set_other hs i w e s ne) ∙ end m s
@@ -153,7 +162,8 @@ start-set : (ss : List Slot) (i start : ℕ) (s : Slot) → i < length ss → s.
 start-set ss i start s l content is = record {
   count = length-set ss i s;
   contents = λ g. ⊎_elim
-      (λ (e : g ≡ i). ap (λ (j : ℕ). (get_or (set ss i s) j no_slot).content) e ∙ ap (λ (t : Slot). t.content) (get_or-set_same ss i s no_slot l) ∙ content ∙ ap (λ (j : ℕ). (get_or ss j no_slot).content) (sym e))
+      (λ (e : g ≡ i). ap (λ (j : ℕ). (get_or (set ss i s) j no_slot).content) e ∙ ap (λ (t : Slot). t.content) (get_or-set_same ss i s no_slot l)
+      ∙ content ∙ ap (λ (j : ℕ). (get_or ss j no_slot).content) (sym e))
       (λ (ne : g ≡ i → ⊥). ap (λ (t : Slot). t.content) (get_or-set_other ss i g s no_slot ne))
       (cases_eq g i);
   there = ap (λ (t : Slot). t.start) (get_or-set_same ss i s no_slot l) ∙ is;
@@ -161,13 +171,15 @@ start-set ss i start s l content is = record {
 }
 
 -- in the head, or behind it
-pub start-head : (w : ℕ) (hs xs : List Stamp) (i : ℕ) (d : Stamp) (p : Pos) → length hs ≡ head_size → w ≤ head_size + length xs → i < w → i < head_size → HasStart (slots_in w (hs ++ xs)) (slots_in w (set hs i (at_place (get_or hs i d) p) ++ xs)) i p.0
+pub start-head : (w : ℕ) (hs xs : List Stamp) (i : ℕ) (d : Stamp) (p : Pos) → length hs ≡ head_size → w ≤ head_size + length xs → i < w
+    → i < head_size → HasStart (slots_in w (hs ++ xs)) (slots_in w (set hs i (at_place (get_or hs i d) p) ++ xs)) i p.0
 start-head w hs xs i d p n there l m =
     let e : Stamp = at_place (get_or hs i d) p in
     subst (λ (ss : List Slot). HasStart (slots_in w (hs ++ xs)) ss i p.0) (sym (write-head w hs xs i e (slot_kept e) n refl l m))
     (start-set (slots_in w (hs ++ xs)) i p.0 (slot_kept e) (omega (arith, width-is w hs xs n there)) (ap (λ (s : Slot). s.content) (slot-head w hs xs i d no_slot n there l m)) refl)
 
-pub start-list : (w : ℕ) (hs xs : List Stamp) (i : ℕ) (p : Pos) → length hs ≡ head_size → w ≤ head_size + length xs → i < w → head_size ≤ i → HasStart (slots_in w (hs ++ xs)) (slots_in w (hs ++ set xs (i - head_size) (at_place (get_or xs (i - head_size) no_cell) p))) i p.0
+pub start-list : (w : ℕ) (hs xs : List Stamp) (i : ℕ) (p : Pos) → length hs ≡ head_size → w ≤ head_size + length xs → i < w → head_size ≤ i
+    → HasStart (slots_in w (hs ++ xs)) (slots_in w (hs ++ set xs (i - head_size) (at_place (get_or xs (i - head_size) no_cell) p))) i p.0
 start-list w hs xs i p n there l m =
     let e : Stamp = at_place (get_or xs (i - head_size) no_cell) p in
     subst (λ (ss : List Slot). HasStart (slots_in w (hs ++ xs)) ss i p.0) (sym (write-list w hs xs i e (slot_kept e) n refl l m))

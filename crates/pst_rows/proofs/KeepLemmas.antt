@@ -1,4 +1,5 @@
-use Rattle.std.proofs.Common.{◌≡◌, ℕ, zero, suc, refl, ◌+◌, ◌-◌, ◌<◌, ◌≤◌, Bool, true, false, List, [], ◌∷◌, ◌++◌, length, get_or, set, take, drop, filter, sym, ap, ◌∙◌, subst, ⊎_elim, append_assoc, length-drop, arith}
+use Rattle.std.proofs.Common.{◌≡◌, ℕ, zero, suc, refl, ◌+◌, ◌-◌, ◌<◌, ◌≤◌, Bool, true, false, List, [], ◌∷◌, ◌++◌, length, get_or, set, take, drop, filter, sym}
+use Rattle.std.proofs.Common.{ap, ◌∙◌, subst, ⊎_elim, append_assoc, length-drop, arith}
 use Rattle.std.specs.Prelude.{All}
 use Rattle.std.proofs.lemmas.Bool.{false≢true, cases_lt}
 use Rattle.std.proofs.lemmas.List.{take_more, take_more_set, length-set, drop-set-lt, get_or-drop}
@@ -37,7 +38,8 @@ same_cell old new index d rest =
     ap (λ (j : ℕ). get_or new j d) (sym e) ∙ sym (get_or-drop index new 0 d) ∙ ap (λ (xs : List Stamp). get_or xs 0 d) rest ∙ get_or-drop index old 0 d ∙ ap (λ (j : ℕ). get_or old j d) e
 
 -- what is so of all cells behind the front is so of the one at the index
-pub kept_one : (Q : Stamp → Type 0) (p : Stamp → Bool) (front : ℕ) (old new : List Stamp) (kept index : ℕ) (d : Stamp) → AreKept p front old new kept index → All Q (drop front old) → index < length new → Q (get_or new index d)
+pub kept_one : (Q : Stamp → Type 0) (p : Stamp → Bool) (front : ℕ) (old new : List Stamp) (kept index : ℕ) (d : Stamp)
+    → AreKept p front old new kept index → All Q (drop front old) → index < length new → Q (get_or new index d)
 kept_one Q p front old new kept index d h all l =
     let back : front + (index - front) ≡ index = omega (arith, h.low, h.high) in
     subst Q (get_or-drop front old (index - front) d ∙ ap (λ (j : ℕ). get_or old j d) back ∙ sym (same_cell old new index d h.rest))
@@ -58,7 +60,8 @@ behind old new index rest = sym (drop-add index 1 new) ∙ ap (drop 1) rest ∙ 
     drop-add (suc n) m [] = nothing m ∙ sym (nothing (suc n + m))
     drop-add (suc n) m (x ∷ xs) = let e : suc (n + m) ≡ suc n + m = omega arith in drop-add n m xs ∙ ap (λ (j : ℕ). drop j (x ∷ xs)) e
 
-pub keep_more : (p : Stamp → Bool) (front : ℕ) (old new : List Stamp) (kept index : ℕ) (d : Stamp) → AreKept p front old new kept index → index < length new → p (get_or new index d) ≡ true → AreKept p front old (set new kept (get_or new index d)) (kept + 1) (index + 1)
+pub keep_more : (p : Stamp → Bool) (front : ℕ) (old new : List Stamp) (kept index : ℕ) (d : Stamp) → AreKept p front old new kept index
+    → index < length new → p (get_or new index d) ≡ true → AreKept p front old (set new kept (get_or new index d)) (kept + 1) (index + 1)
 keep_more p front old new kept index d h l passes =
     let e : Stamp = get_or new index d in
     let same : e ≡ get_or old index d = same_cell old new index d h.rest in
@@ -71,11 +74,13 @@ keep_more p front old new kept index d h l passes =
           take_more_set new kept e (omega (arith, h.high))
           ∙ ap (λ (ys : List Stamp). ys ++ e ∷ []) h.done
           ∙ append_assoc (take front old) (filter p (take (index - front) (drop front old))) (e ∷ [])
-          ∙ ap (λ (ys : List Stamp). take front old ++ ys) (ap (λ (ys : List Stamp). filter p (take (index - front) (drop front old)) ++ ys) (sym there) ∙ sym (one_more p front old index d (omega (arith, h.low, h.high)) (omega (arith, h.count))));
+          ∙ ap (λ (ys : List Stamp). take front old ++ ys) (ap (λ (ys : List Stamp). filter p (take (index - front) (drop front old)) ++ ys)
+          (sym there) ∙ sym (one_more p front old index d (omega (arith, h.low, h.high)) (omega (arith, h.count))));
       rest = drop-set-lt (index + 1) new kept e (omega (arith, h.high)) ∙ behind old new index h.rest;
     }
 
-pub keep_less : (p : Stamp → Bool) (front : ℕ) (old new : List Stamp) (kept index : ℕ) (d : Stamp) → AreKept p front old new kept index → index < length new → p (get_or new index d) ≡ false → AreKept p front old new kept (index + 1)
+pub keep_less : (p : Stamp → Bool) (front : ℕ) (old new : List Stamp) (kept index : ℕ) (d : Stamp) → AreKept p front old new kept index
+    → index < length new → p (get_or new index d) ≡ false → AreKept p front old new kept (index + 1)
 keep_less p front old new kept index d h l fails =
     let same : get_or new index d ≡ get_or old index d = same_cell old new index d h.rest in
     let none : filter p (get_or old index d ∷ []) ≡ [] = subst (λ (x : Stamp). filter p (x ∷ []) ≡ []) same (rw fails refl) in
@@ -84,6 +89,8 @@ keep_less p front old new kept index d h l fails =
       low = h.low;
       high = omega (arith, h.high);
       count = h.count;
-      done = h.done ∙ ap (λ (ys : List Stamp). take front old ++ ys) (sym (append-nil before) ∙ ap (λ (ys : List Stamp). before ++ ys) (sym none) ∙ sym (one_more p front old index d (omega (arith, h.low, h.high)) (omega (arith, h.count))));
+      done = h.done ∙ ap (λ (ys : List Stamp). take front old ++ ys)
+          (sym (append-nil before) ∙ ap (λ (ys : List Stamp). before ++ ys) (sym none)
+          ∙ sym (one_more p front old index d (omega (arith, h.low, h.high)) (omega (arith, h.count))));
       rest = behind old new index h.rest;
     }

@@ -18,7 +18,8 @@ before_none [] = refl
 before_none (x ∷ xs) = rw (before_slot-cons 0 x xs, le-ltb x.slot.0 0 (omega arith)) (omega (arith, before_none xs))
 
 -- one slot more
-pub added_more : (old mid new : List Slot) (stamps : List Stamp) (slot before : ℕ) → before ≡ before_slot stamps slot → AreAddedTo old mid stamps slot → HasStart mid new slot before → AreAddedTo old new stamps (slot + 1)
+pub added_more : (old mid new : List Slot) (stamps : List Stamp) (slot before : ℕ) → before ≡ before_slot stamps slot → AreAddedTo old mid stamps slot
+    → HasStart mid new slot before → AreAddedTo old new stamps (slot + 1)
 added_more old mid new stamps slot before e h k = record {
   count = k.count ∙ h.count;
   contents = λ g. k.contents g ∙ h.contents g;
@@ -35,13 +36,16 @@ pub record IsSumMore (stamps : List Stamp) (slot before own : ℕ) : Type 0 wher
   pub next : before + own ≡ before_slot stamps (slot + 1)
   pub few : before + own ≤ length stamps
 
-pub sum_more : (old mid : List Slot) (stamps : List Stamp) (slot before own : ℕ) → slot < length old → before ≡ before_slot stamps slot → AreAddedTo old mid stamps slot → own ≡ (get_or mid slot no_slot).start → IsSumMore stamps slot before own
+pub sum_more : (old mid : List Slot) (stamps : List Stamp) (slot before own : ℕ) → slot < length old → before ≡ before_slot stamps slot
+    → AreAddedTo old mid stamps slot → own ≡ (get_or mid slot no_slot).start → IsSumMore stamps slot before own
 sum_more old mid stamps slot before own l e h o =
     let s : before + own ≡ before_slot stamps (slot + 1) = omega (arith, before_slot_step stamps slot, o ∙ h.rest slot (omega arith) l) in
     record { next = s; few = omega (arith, s, before_slot_le stamps (slot + 1)) }
 
 -- slots that hold these contents and know where their stamps begin are those of the definition
-made : (stamps : List Stamp) (k : ℕ) (bases : List Content) (slots : List Slot) → length slots ≡ length bases → ((g : ℕ) → g < length bases → (get_or slots g no_slot).content ≡ get_or bases g Null) → ((g : ℕ) → g < length bases → (get_or slots g no_slot).start ≡ before_slot stamps (k + g)) → slots ≡ slots_from stamps k bases
+made : (stamps : List Stamp) (k : ℕ) (bases : List Content) (slots : List Slot) → length slots ≡ length bases
+    → ((g : ℕ) → g < length bases → (get_or slots g no_slot).content ≡ get_or bases g Null)
+    → ((g : ℕ) → g < length bases → (get_or slots g no_slot).start ≡ before_slot stamps (k + g)) → slots ≡ slots_from stamps k bases
 made stamps k [] [] n c s = refl
 made stamps k [] (x ∷ xs) n c s = absurd (omega arith)
 made stamps k (b ∷ bs) [] n c s = absurd (omega arith)

@@ -1,4 +1,5 @@
-use Rattle.std.proofs.Common.{◌≡◌, ℕ, zero, suc, ◌+◌, ◌-◌, ◌<◌, ◌≤◌, Bool, true, false, eqb, is_some, List, [], ◌∷◌, ◌++◌, length, get_or, take, drop, set, refl, sym, ap, ◌∙◌, subst, ◌⊎◌, inl, inr, ⊎_elim, arith}
+use Rattle.std.proofs.Common.{◌≡◌, ℕ, zero, suc, ◌+◌, ◌-◌, ◌<◌, ◌≤◌, Bool, true, false, eqb, is_some, List, [], ◌∷◌, ◌++◌, length, get_or, take, drop, set}
+use Rattle.std.proofs.Common.{refl, sym, ap, ◌∙◌, subst, ◌⊎◌, inl, inr, ⊎_elim, arith}
 use Rattle.std.specs.List.{insert, CopiedTo, SameBelow}
 use Rattle.std.proofs.lemmas.Bool.{cases_eq, cases_lt, eq-eqb, eqb-true, false≢true}
 use Rattle.std.proofs.lemmas.List.{ext_get_or, length-set, get_or_append_left, get_or-set_same, get_or-set_other}
@@ -19,7 +20,8 @@ use Rattle.pst_rows.proofs.StampLemmas.{stamp_inside, gap_none}
 use Rattle.pst_rows.proofs.CellLemmas.{head-insert, stamps-insert}
 use Rattle.pst_rows.proofs.PartLemmas.{last_le, located_gap, content_base, content_last}
 use Rattle.pst_rows.proofs.ReadLemmas.{Begins, Ends, begins_low, begins_last, ends_high, ends_next}
-use Rattle.pst_rows.proofs.RowLemmas.{IsRowRestored, IsRowBegun, inner_edge, based_row, based_begun, written_row, written_put, written_more, more_none, more_inner, restored_row, begun_put, set_steps, set_more}
+use Rattle.pst_rows.proofs.RowLemmas.{IsRowRestored, IsRowBegun, inner_edge, based_row, based_begun, written_row, written_put, written_more, more_none}
+use Rattle.pst_rows.proofs.RowLemmas.{more_inner, restored_row, begun_put, set_steps, set_more}
 use Rattle.pst_rows.proofs.CallLemmas.{cut_is, base_replaced, stamp_replaced, stamp_replaced_more, there_more, there_restored, new_put, new_row, new_more, new_restored}
 
 -- the position of a place that is another one, and of one that is not
@@ -63,7 +65,9 @@ module _ (xs moved : List Stamp) (i : ℕ) (a b : Stamp) (within : i ≤ length 
       ∙ behind (j + 2) no_stamp (omega arith) (omega arith)
       ∙ ap (λ (k : ℕ). get_or (xs ++ a ∷ b ∷ []) k no_stamp) back
       ∙ get_or_append_left xs (a ∷ b ∷ []) no_stamp j l
-      ∙ sym (ap (λ (k : ℕ). get_or (insert (insert xs i b) i a) k no_stamp) (sym twice) ∙ get_or-insert_above (insert xs i b) i a no_stamp (j + 1) (omega arith) (omega (arith, once, within)) ∙ get_or-insert_above xs i b no_stamp j p within)
+      ∙ sym (ap (λ (k : ℕ). get_or (insert (insert xs i b) i a) k no_stamp) (sym twice)
+      ∙ get_or-insert_above (insert xs i b) i a no_stamp (j + 1) (omega arith) (omega (arith, once, within))
+      ∙ get_or-insert_above xs i b no_stamp j p within)
 
   at_each : (k : ℕ) → k < length xs + 2 → get_or (set (set moved i a) (i + 1) b) k no_stamp ≡ get_or (insert (insert xs i b) i a) k no_stamp
   at_each k l =
@@ -195,7 +199,9 @@ module _ (r : ℕ → ℕ) (xs : List Stamp) (k slot n : ℕ) (e : Stamp) (gap :
       (λ (q : i ≡ k). subst P (sym (ap (λ (j : ℕ). get_or (insert xs k e) j no_stamp) q ∙ get_or-insert_at xs k e no_stamp gap.within)) here)
       (λ (q : i ≡ k → ⊥).
       let back : (i - 1) + 1 ≡ i = omega (arith, q) in
-      subst P (sym (ap (λ (j : ℕ). get_or (insert xs k e) j no_stamp) (sym back) ∙ get_or-insert_above xs k e no_stamp (i - 1) (omega (arith, q)) gap.within)) (behind (i - 1) (omega (arith, q)) (omega (arith, q, length-insert xs k e gap.within))))
+      subst P (sym (ap (λ (j : ℕ). get_or (insert xs k e) j no_stamp) (sym back)
+      ∙ get_or-insert_above xs k e no_stamp (i - 1) (omega (arith, q)) gap.within))
+      (behind (i - 1) (omega (arith, q)) (omega (arith, q, length-insert xs k e gap.within))))
       (cases_eq i k)
 
   gap_kept : IsGap r (insert xs k e) k slot n
@@ -230,7 +236,8 @@ pub record IsBegunThere (r : ℕ → ℕ) (places : ℕ) (old new : Row) (f n : 
   pub row : IsRow r places new
   pub more : HasMore (missing (row_edge r old f n)) old new
 
-steps_done : (r : ℕ → ℕ) (places : ℕ) (old mid new : Row) (f n : ℕ) (v c : Content) → IsRow r places old → r old.lo.0 ≤ n → n < r old.hi.0 → v ≡ content_at r old f n → IsRestoredStep r places old mid f (n + 1) v → IsBegunStep r places mid new f n c → IsSetDone r places old new f n c
+steps_done : (r : ℕ → ℕ) (places : ℕ) (old mid new : Row) (f n : ℕ) (v c : Content) → IsRow r places old → r old.lo.0 ≤ n → n < r old.hi.0
+    → v ≡ content_at r old f n → IsRestoredStep r places old mid f (n + 1) v → IsBegunStep r places mid new f n c → IsSetDone r places old new f n c
 steps_done r places old mid new f n v c row low high is one two = record {
   set = set_steps r places old mid new f n v c row low high is one.restored two.begun;
   row = two.row;
@@ -252,14 +259,16 @@ end_kept r places old f t v row e = record {
   more = edge_more r old old f t (inr e) (more_none old);
 }
 
-there_kept : (r : ℕ → ℕ) (places : ℕ) (old : Row) (i f t : ℕ) (v : Content) → IsRow r places old → IsStampAt r old.cells.stamps i f t → r old.lo.0 < t → t < r old.hi.0 → IsRestoredStep r places old old f t v
+there_kept : (r : ℕ → ℕ) (places : ℕ) (old : Row) (i f t : ℕ) (v : Content) → IsRow r places old → IsStampAt r old.cells.stamps i f t → r old.lo.0 < t
+    → t < r old.hi.0 → IsRestoredStep r places old old f t v
 there_kept r places old i f t v row s low high = record {
   restored = restored_row r old old f t v high (there_restored r places old i f t row s v);
   row = row;
   more = more_inner r old old f t low high (there_more r places old i f t row s old (more_none old));
 }
 
-new_there : (r : ℕ → ℕ) (places : ℕ) (old mid : Row) (index f t : ℕ) (e : Stamp) → IsRow r places old → IsGap r old.cells.stamps index f t → f < width_of old → r old.lo.0 < t → t < r old.hi.0 → e.slot.0 ≡ f → r e.place.0 ≡ t → IsInserted old mid index e → 1 ≤ spare_of old →
+new_there : (r : ℕ → ℕ) (places : ℕ) (old mid : Row) (index f t : ℕ) (e : Stamp) → IsRow r places old → IsGap r old.cells.stamps index f t
+    → f < width_of old → r old.lo.0 < t → t < r old.hi.0 → e.slot.0 ≡ f → r e.place.0 ≡ t → IsInserted old mid index e → 1 ≤ spare_of old →
     IsRestoredStep r places old mid f t e.content
 new_there r places old mid index f t e row gap there low high is_slot is_place ins spare = record {
   restored = restored_row r old mid f t e.content high (new_restored r places old mid index f t e row gap there low high is_slot is_place ins);
@@ -268,7 +277,8 @@ new_there r places old mid index f t e row gap there low high is_slot is_place i
 }
 
 -- the content begins with a new stamp
-new_begun : (r : ℕ → ℕ) (places : ℕ) (mid new : Row) (index f n : ℕ) (e : Stamp) → IsRow r places mid → IsGap r mid.cells.stamps index f n → f < width_of mid → r mid.lo.0 < n → n < r mid.hi.0 → e.slot.0 ≡ f → r e.place.0 ≡ n → IsInserted mid new index e → 1 ≤ spare_of mid →
+new_begun : (r : ℕ → ℕ) (places : ℕ) (mid new : Row) (index f n : ℕ) (e : Stamp) → IsRow r places mid → IsGap r mid.cells.stamps index f n
+    → f < width_of mid → r mid.lo.0 < n → n < r mid.hi.0 → e.slot.0 ≡ f → r e.place.0 ≡ n → IsInserted mid new index e → 1 ≤ spare_of mid →
     IsBegunStep r places mid new f n e.content
 new_begun r places mid new index f n e row gap there low high is_slot is_place ins spare = record {
   begun = begun_put r mid new f n e.content low (new_put r places mid new index f n e row gap there low high is_slot is_place ins);
@@ -277,7 +287,8 @@ new_begun r places mid new index f n e row gap there low high is_slot is_place i
 }
 
 -- it begins in the place of what is held from the position on
-module _ (r : ℕ → ℕ) (places : ℕ) (mid new : Row) (f n start index : ℕ) (c : Content) (row : IsRow r places mid) (there : f < width_of mid) (high : n < r mid.hi.0) (w : IsWrittenBefore mid new f start index c) where
+module _ (r : ℕ → ℕ) (places : ℕ) (mid new : Row) (f n start index : ℕ) (c : Content) (row : IsRow r places mid) (there : f < width_of mid)
+    (high : n < r mid.hi.0) (w : IsWrittenBefore mid new f start index c) where
   base_begun : index ≡ start → n ≡ r mid.lo.0 → IsBegunStep r places mid new f n c
   base_begun i e =
       let slots : new.cells.slots ≡ with_base mid.cells.slots f c = (w.first i).0 in
@@ -300,7 +311,8 @@ module _ (r : ℕ → ℕ) (places : ℕ) (mid new : Row) (f n start index : ℕ
       }
 
 -- what a search for one position tells of it and of the next one
-module _ (r : ℕ → ℕ) (places : ℕ) (old : Row) (f n start index stop : ℕ) (row : IsRow r places old) (loc : IsLocated r old.cells.stamps f n start index stop) (low : r old.lo.0 ≤ n) (high : n < r old.hi.0) where
+module _ (r : ℕ → ℕ) (places : ℕ) (old : Row) (f n start index stop : ℕ) (row : IsRow r places old)
+    (loc : IsLocated r old.cells.stamps f n start index stop) (low : r old.lo.0 ≤ n) (high : n < r old.hi.0) where
   pub begins_of : (p : Pos) → IsBeginPlace old start index p → Begins r places old f n start index stop row loc (r p.0)
   begins_of p b =
       ⊎_elim (λ (i : index ≡ start). begins_low r places old f n start index stop row loc p (b.first i) low i)
@@ -383,18 +395,23 @@ module _ (r : ℕ → ℕ) (places : ℕ) (old : Row) (f n start index stop : �
       stamp_begun r places old new f n start index c row there high w l s.0 s.1)
       (cases_eq index start)
 
-  pub set_written : (new : Row) (c : Content) (p q : Pos) → f < width_of old → IsBeginPlace old start index p → r p.0 ≡ n → IsEndPlace old index stop q → r q.0 ≡ n + 1 → IsWrittenBefore old new f start index c → IsSetDone r places old new f n c
+  pub set_written : (new : Row) (c : Content) (p q : Pos) → f < width_of old → IsBeginPlace old start index p → r p.0 ≡ n
+      → IsEndPlace old index stop q → r q.0 ≡ n + 1 → IsWrittenBefore old new f start index c → IsSetDone r places old new f n c
   set_written new c p q there b e d e' w =
       steps_done r places old old new f n (content_at r old f n) c row low high refl (ends_kept q d e' (content_at r old f n)) (written_begun new c p there b e w)
 
-  pub set_inserted : (new : Row) (t : Stamp) (p q : Pos) → f < width_of old → IsBeginPlace old start index p → (r p.0 ≡ n → ⊥) → IsEndPlace old index stop q → r q.0 ≡ n + 1 → t.slot.0 ≡ f → r t.place.0 ≡ n → IsInserted old new index t → 1 ≤ spare_of old →
+  pub set_inserted : (new : Row) (t : Stamp) (p q : Pos) → f < width_of old → IsBeginPlace old start index p → (r p.0 ≡ n → ⊥)
+      → IsEndPlace old index stop q → r q.0 ≡ n + 1 → t.slot.0 ≡ f → r t.place.0 ≡ n → IsInserted old new index t → 1 ≤ spare_of old →
       IsSetDone r places old new f n t.content
   set_inserted new t p q there b ne d e' is_slot is_place ins spare =
       let g = begins_gap p b ne in
-      steps_done r places old old new f n (content_at r old f n) t.content row low high refl (ends_kept q d e' (content_at r old f n)) (new_begun r places old new index f n t row g.0 there g.1 high is_slot is_place ins spare)
+      steps_done r places old old new f n (content_at r old f n) t.content row low high refl (ends_kept q d e' (content_at r old f n))
+      (new_begun r places old new index f n t row g.0 there g.1 high is_slot is_place ins spare)
 
   -- what was held comes in behind
-  module _ (mid : Row) (u : Stamp) (q : Pos) (there : f < width_of old) (d : IsEndPlace old index stop q) (off : r q.0 ≡ n + 1 → ⊥) (held : IsHeldBefore old f start index u.content) (is_slot : u.slot.0 ≡ f) (is_place : r u.place.0 ≡ n + 1) (ins : IsInserted old mid index u) (spare : 2 ≤ spare_of old) where
+  module _ (mid : Row) (u : Stamp) (q : Pos) (there : f < width_of old) (d : IsEndPlace old index stop q) (off : r q.0 ≡ n + 1 → ⊥)
+      (held : IsHeldBefore old f start index u.content) (is_slot : u.slot.0 ≡ f) (is_place : r u.place.0 ≡ n + 1) (ins : IsInserted old mid index u)
+      (spare : 2 ≤ spare_of old) where
     mid_there : IsRestoredStep r places old mid f (n + 1) u.content
     mid_there = let g = ends_gap q d off in new_there r places old mid index f (n + 1) u row g.0 there (omega arith) g.1 is_slot is_place ins (omega arith)
 
@@ -419,21 +436,25 @@ module _ (r : ℕ → ℕ) (places : ℕ) (old : Row) (f n start index stop : �
         (λ (ne : index ≡ start → ⊥).
         let l : start < index = omega (arith, ne, loc.low) in
         let s = begins_stamp p b e l in
-        stamp_begun r places mid new f n start index c mid_there.row there' high' w l (rw ins.items (stamp_kept r old.cells.stamps (index - 1) index f n u (omega arith) index_within s.0)) (omega (arith, mid_lo, s.1)))
+        stamp_begun r places mid new f n start index c mid_there.row there' high' w l
+        (rw ins.items (stamp_kept r old.cells.stamps (index - 1) index f n u (omega arith) index_within s.0)) (omega (arith, mid_lo, s.1)))
         (cases_eq index start))
 
-    pub set_both : (new : Row) (t : Stamp) (p : Pos) → IsBeginPlace old start index p → (r p.0 ≡ n → ⊥) → t.slot.0 ≡ f → r t.place.0 ≡ n → IsInserted mid new index t → IsSetDone r places old new f n t.content
+    pub set_both : (new : Row) (t : Stamp) (p : Pos) → IsBeginPlace old start index p → (r p.0 ≡ n → ⊥) → t.slot.0 ≡ f → r t.place.0 ≡ n
+        → IsInserted mid new index t → IsSetDone r places old new f n t.content
     set_both new t p b ne is_slot' is_place' ins' =
         let g = begins_gap p b ne in
         let gap : IsGap r mid.cells.stamps index f n = rw ins.items (gap_kept r old.cells.stamps index f n u g.0 is_slot (omega arith)) in
         steps_done r places old mid new f n u.content t.content row low high (held_is u.content held) mid_there
         (new_begun r places mid new index f n t mid_there.row gap (omega (arith, ins.slots.count)) (omega (arith, mid_lo, g.1)) (omega (arith, mid_hi)) is_slot' is_place' ins' mid_spare)
 
-  pub set_two : (new : Row) (t u : Stamp) (p q : Pos) → f < width_of old → IsBeginPlace old start index p → (r p.0 ≡ n → ⊥) → IsEndPlace old index stop q → (r q.0 ≡ n + 1 → ⊥) → IsHeldBefore old f start index u.content →
+  pub set_two : (new : Row) (t u : Stamp) (p q : Pos) → f < width_of old → IsBeginPlace old start index p → (r p.0 ≡ n → ⊥)
+      → IsEndPlace old index stop q → (r q.0 ≡ n + 1 → ⊥) → IsHeldBefore old f start index u.content →
       t.slot.0 ≡ f → r t.place.0 ≡ n → u.slot.0 ≡ f → r u.place.0 ≡ n + 1 → AreInserted old new index t u → 2 ≤ spare_of old → IsSetDone r places old new f n t.content
   set_two new t u p q there b ne d off held is_slot is_place is_slot' is_place' ins spare =
       let same : t.slot.0 ≡ u.slot.0 = is_slot ∙ sym is_slot' in
-      set_both (between old new index t u ins same) u q there d off held is_slot' is_place' (second_inserted old new index t u ins same) spare new t p b ne is_slot is_place (first_inserted old new index t u ins same)
+      set_both (between old new index t u ins same) u q there d off held is_slot' is_place' (second_inserted old new index t u ins same) spare new t p
+      b ne is_slot is_place (first_inserted old new index t u ins same)
 
   -- the segment gets another content
   pub replaced_before : (new : Row) (c : Content) → f < width_of old → IsWrittenBefore old new f start index c → IsRowReplaced r old new f n c × IsRow r places new × HasMore 0 old new
@@ -464,7 +485,9 @@ module _ (r : ℕ → ℕ) (places : ℕ) (old : Row) (f n start index stop : �
       let begin : Begins r places old f n start index stop row loc (r p.0) = begins_of p b in
       subst (λ (m : ℕ). row_edge r old f m ≡ true) e begin.edge
 
-  pub begun_there : (new : Row) (t : Stamp) (p : Pos) → f < width_of old → IsBeginPlace old start index p → (r p.0 ≡ n → ⊥) → IsHeldBefore old f start index t.content → t.slot.0 ≡ f → r t.place.0 ≡ n → IsInserted old new index t → 1 ≤ spare_of old → IsBegunThere r places old new f n
+  pub begun_there : (new : Row) (t : Stamp) (p : Pos) → f < width_of old → IsBeginPlace old start index p → (r p.0 ≡ n → ⊥)
+      → IsHeldBefore old f start index t.content → t.slot.0 ≡ f → r t.place.0 ≡ n → IsInserted old new index t → 1 ≤ spare_of old
+      → IsBegunThere r places old new f n
   begun_there new t p there b ne held is_slot is_place ins spare =
       let g = begins_gap p b ne in
       let free : row_edge r old f n ≡ false = inner_edge (stamps_of r old f) (r old.lo.0) (r old.hi.0) n g.1 high ∙ ap is_some (gap_none r old.cells.stamps index f n g.0) in

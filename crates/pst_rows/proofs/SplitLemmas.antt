@@ -22,12 +22,16 @@ use Rattle.pst_rows.proofs.MedianLemmas.{middle_law, middle_counts_law}
 
 pub places_in : (r : ℕ → ℕ) (places : ℕ) (row : Row) → IsRow r places row → All (λ (e : Stamp). r e.place.0 < places) row.cells.stamps
 places_in r places row h k d l =
-    let p : ((get_or row.cells.stamps k no_stamp).slot.0 < length row.cells.slots) × (r row.lo.0 < r (get_or row.cells.stamps k no_stamp).place.0) × (r (get_or row.cells.stamps k no_stamp).place.0 < r row.hi.0) = stamp_inside r (r row.lo.0) (r row.hi.0) (length row.cells.slots) row.cells.stamps h.stamps k l in
+    let p : ((get_or row.cells.stamps k no_stamp).slot.0 < length row.cells.slots) × (r row.lo.0 < r (get_or row.cells.stamps k no_stamp).place.0)
+    × (r (get_or row.cells.stamps k no_stamp).place.0 < r row.hi.0) =
+    stamp_inside r (r row.lo.0) (r row.hi.0) (length row.cells.slots) row.cells.stamps h.stamps k l in
     subst (λ (e : Stamp). r e.place.0 < places) (get_or_default row.cells.stamps k no_stamp d l) (omega (arith, p.2, h.there))
 
 module _ (r : ℕ → ℕ) (places : ℕ) (old left right : Row) (s : Pos) (row : IsRow r places old) (low : r old.lo.0 < r s.0) (high : r s.0 < r old.hi.0)
-    (left_lo : left.lo ≡ old.lo) (left_hi : left.hi ≡ s) (left_slots : AreRecounted old.cells.slots left.cells.slots left.cells.stamps) (left_stamps : left.cells.stamps ≡ filter (λ e. ltb (r e.place.0) (r s.0)) old.cells.stamps)
-    (right_lo : right.lo ≡ s) (right_hi : right.hi ≡ old.hi) (right_slots : AreSlotsAt r old (r s.0) right.cells.stamps right.cells.slots) (right_stamps : right.cells.stamps ≡ filter (λ e. ltb (r s.0) (r e.place.0)) old.cells.stamps) where
+    (left_lo : left.lo ≡ old.lo) (left_hi : left.hi ≡ s) (left_slots : AreRecounted old.cells.slots left.cells.slots left.cells.stamps)
+    (left_stamps : left.cells.stamps ≡ filter (λ e. ltb (r e.place.0) (r s.0)) old.cells.stamps)
+    (right_lo : right.lo ≡ s) (right_hi : right.hi ≡ old.hi) (right_slots : AreSlotsAt r old (r s.0) right.cells.stamps right.cells.slots)
+    (right_stamps : right.cells.stamps ≡ filter (λ e. ltb (r s.0) (r e.place.0)) old.cells.stamps) where
   left_is : (g n : ℕ) → stamps_of r left g n ≡ cond (ltb n (r s.0)) (stamps_of r old g n) None
   left_is g n = ap (λ (xs : List Stamp). stamp_at r xs g n) left_stamps ∙ stamp_at-filter r (λ m. ltb m (r s.0)) old.cells.stamps g n
 
@@ -102,11 +106,13 @@ position_at r (x ∷ xs) (suc i) l = position_at r xs i (omega arith)
 
 below_is : (r : ℕ → ℕ) (xs : List Stamp) (n : ℕ) → below n (positions r xs) ≡ count_by (λ (e : Stamp). ltb (r e.place.0) n) xs
 below_is r [] n = refl
-below_is r (x ∷ xs) n = sum_by-cons (λ (y : ℕ). cond (ltb y n) 1 0) (r x.place.0) (positions r xs) ∙ ap (λ (t : ℕ). cond (ltb (r x.place.0) n) 1 0 + t) (below_is r xs n) ∙ sym (sum_by-cons (λ (e : Stamp). cond (ltb (r e.place.0) n) 1 0) x xs)
+below_is r (x ∷ xs) n = sum_by-cons (λ (y : ℕ). cond (ltb y n) 1 0) (r x.place.0) (positions r xs)
+    ∙ ap (λ (t : ℕ). cond (ltb (r x.place.0) n) 1 0 + t) (below_is r xs n) ∙ sym (sum_by-cons (λ (e : Stamp). cond (ltb (r e.place.0) n) 1 0) x xs)
 
 above_is : (r : ℕ → ℕ) (xs : List Stamp) (n : ℕ) → above n (positions r xs) ≡ count_by (λ (e : Stamp). ltb n (r e.place.0)) xs
 above_is r [] n = refl
-above_is r (x ∷ xs) n = sum_by-cons (λ (y : ℕ). cond (ltb n y) 1 0) (r x.place.0) (positions r xs) ∙ ap (λ (t : ℕ). cond (ltb n (r x.place.0)) 1 0 + t) (above_is r xs n) ∙ sym (sum_by-cons (λ (e : Stamp). cond (ltb n (r e.place.0)) 1 0) x xs)
+above_is r (x ∷ xs) n = sum_by-cons (λ (y : ℕ). cond (ltb n y) 1 0) (r x.place.0) (positions r xs)
+    ∙ ap (λ (t : ℕ). cond (ltb n (r x.place.0)) 1 0 + t) (above_is r xs n) ∙ sym (sum_by-cons (λ (e : Stamp). cond (ltb n (r e.place.0)) 1 0) x xs)
 
 -- one of the stamps is such
 pub some_half : (r : ℕ → ℕ) (xs : List Stamp) → 0 < length xs → ((i : ℕ) → i < length xs → IsHalf r xs (r (get_or xs i no_stamp).place.0) → ⊥) → ⊥
@@ -120,13 +126,16 @@ some_half r xs l f =
     let a : 2 * above n (positions r xs) ≤ length (positions r xs) = rw at at t.1.few_above in
     f t.0 there (record { few_before = omega (arith, b, below_is r xs n, length-positions r xs); few_after = omega (arith, a, above_is r xs n, length-positions r xs) })
 
-pub split_stamp_is : (r : ℕ → ℕ) (places : ℕ) (row : Row) (i : ℕ) → IsRow r places row → i < length row.cells.stamps → IsHalf r row.cells.stamps (r (get_or row.cells.stamps i no_stamp).place.0) → IsSplitStamp r row (r (get_or row.cells.stamps i no_stamp).place.0)
+pub split_stamp_is : (r : ℕ → ℕ) (places : ℕ) (row : Row) (i : ℕ) → IsRow r places row → i < length row.cells.stamps
+    → IsHalf r row.cells.stamps (r (get_or row.cells.stamps i no_stamp).place.0) → IsSplitStamp r row (r (get_or row.cells.stamps i no_stamp).place.0)
 split_stamp_is r places row i h l half =
     let xs : List Stamp = row.cells.stamps in
-    let p : ((get_or xs i no_stamp).slot.0 < length row.cells.slots) × (r row.lo.0 < r (get_or xs i no_stamp).place.0) × (r (get_or xs i no_stamp).place.0 < r row.hi.0) = stamp_inside r (r row.lo.0) (r row.hi.0) (length row.cells.slots) xs h.stamps i l in
+    let p : ((get_or xs i no_stamp).slot.0 < length row.cells.slots) × (r row.lo.0 < r (get_or xs i no_stamp).place.0)
+    × (r (get_or xs i no_stamp).place.0 < r row.hi.0) = stamp_inside r (r row.lo.0) (r row.hi.0) (length row.cells.slots) xs h.stamps i l in
     let n : ℕ = r (get_or xs i no_stamp).place.0 in
     let at : get_or (positions r xs) i 0 ≡ n = position_at r xs i l in
-    let c : below (get_or (positions r xs) i 0) (positions r xs) + above (get_or (positions r xs) i 0) (positions r xs) < length (positions r xs) = middle_counts_law (positions r xs) i (omega (arith, length-positions r xs)) in
+    let c : below (get_or (positions r xs) i 0) (positions r xs) + above (get_or (positions r xs) i 0) (positions r xs) < length (positions r xs) =
+    middle_counts_law (positions r xs) i (omega (arith, length-positions r xs)) in
     let c' : below n (positions r xs) + above n (positions r xs) < length (positions r xs) = rw at at c in
     record {
       low = p.1;
@@ -160,7 +169,8 @@ after_falls r xs m n l =
 half_before : (r : ℕ → ℕ) (xs : List Stamp) (m n : ℕ) → length xs < 2 * count_by (λ (e : Stamp). ltb (r e.place.0) n) xs → IsHalf r xs m → m < n
 half_before r xs m n many half =
     ⊎_elim (λ (l : m < n). l)
-    (λ (l : n ≤ m). let rises : count_by (λ (e : Stamp). ltb (r e.place.0) n) xs ≤ count_by (λ (e : Stamp). ltb (r e.place.0) m) xs = before_rises r xs n m l in absurd (omega (arith, half.few_before)))
+    (λ (l : n ≤ m). let rises : count_by (λ (e : Stamp). ltb (r e.place.0) n) xs ≤ count_by (λ (e : Stamp). ltb (r e.place.0) m) xs =
+    before_rises r xs n m l in absurd (omega (arith, half.few_before)))
     (cases_lt m n)
 
 half_after : (r : ℕ → ℕ) (xs : List Stamp) (m n : ℕ) → length xs < 2 * count_by (λ (e : Stamp). ltb n (r e.place.0)) xs → IsHalf r xs m → n < m
@@ -175,7 +185,10 @@ first_bounds ps row h = record {
   low_in = omega (arith, h.life, h.there);
   high_in = h.there;
   between = λ (k : ℕ) (l : k < length row.cells.stamps) (half : IsHalf (rank ps) row.cells.stamps (rank ps (get_or row.cells.stamps k no_stamp).place.0)).
-      let s : ((get_or row.cells.stamps k no_stamp).slot.0 < length row.cells.slots) × (rank ps row.lo.0 < rank ps (get_or row.cells.stamps k no_stamp).place.0) × (rank ps (get_or row.cells.stamps k no_stamp).place.0 < rank ps row.hi.0) = stamp_inside (rank ps) (rank ps row.lo.0) (rank ps row.hi.0) (length row.cells.slots) row.cells.stamps h.stamps k l in
+      let s : ((get_or row.cells.stamps k no_stamp).slot.0 < length row.cells.slots)
+      × (rank ps row.lo.0 < rank ps (get_or row.cells.stamps k no_stamp).place.0)
+      × (rank ps (get_or row.cells.stamps k no_stamp).place.0 < rank ps row.hi.0) =
+      stamp_inside (rank ps) (rank ps row.lo.0) (rank ps row.hi.0) (length row.cells.slots) row.cells.stamps h.stamps k l in
       (s.1, s.2);
 }
 
@@ -189,13 +202,15 @@ module _ (ps : List ℕ) (row : Row) (h : IsRow (rank ps) (length ps) row) (i : 
 
   pub split_found : IsHalf (rank ps) row.cells.stamps (rank ps e.place.0) → IsSplitStamp (rank ps) row (rank ps e.place.0)
   split_found half =
-      let half' : IsHalf (rank ps) row.cells.stamps (rank ps (get_or row.cells.stamps i no_stamp).place.0) = subst (λ (x : Stamp). IsHalf (rank ps) row.cells.stamps (rank ps x.place.0)) read_is half in
+      let half' : IsHalf (rank ps) row.cells.stamps (rank ps (get_or row.cells.stamps i no_stamp).place.0) =
+      subst (λ (x : Stamp). IsHalf (rank ps) row.cells.stamps (rank ps x.place.0)) read_is half in
       subst (λ (x : Stamp). IsSplitStamp (rank ps) row (rank ps x.place.0)) (sym read_is) (split_stamp_is (rank ps) (length ps) row i h l half')
 
   -- a stamp that does not lie between the bounds does not halve the others
   pub outside : (b : Bounds) → AreBounds ps row b → ((rank ps b.low.0 < rank ps e.place.0) × (rank ps e.place.0 < rank ps b.high.0) → ⊥) → IsHalf (rank ps) row.cells.stamps (rank ps e.place.0) → ⊥
   outside b between out half =
-      let half' : IsHalf (rank ps) row.cells.stamps (rank ps (get_or row.cells.stamps i no_stamp).place.0) = subst (λ (x : Stamp). IsHalf (rank ps) row.cells.stamps (rank ps x.place.0)) read_is half in
+      let half' : IsHalf (rank ps) row.cells.stamps (rank ps (get_or row.cells.stamps i no_stamp).place.0) =
+      subst (λ (x : Stamp). IsHalf (rank ps) row.cells.stamps (rank ps x.place.0)) read_is half in
       out (subst (λ (x : Stamp). (rank ps b.low.0 < rank ps x.place.0) × (rank ps x.place.0 < rank ps b.high.0)) (sym read_is) (between.between i l half'))
 
   -- one that is too late is an upper bound
@@ -225,7 +240,8 @@ module _ (ps : List ℕ) (row : Row) (h : IsRow (rank ps) (length ps) row) (i : 
       (λ (ne : k ≡ i → ⊥). before one k (omega (arith, ne)) half)
       (cases_eq k i)
 
-pub none_stamped : (r : ℕ → ℕ) (row : Row) (i : ℕ) → length row.cells.stamps ≤ i → ((k : ℕ) → k < i → IsHalf r row.cells.stamps (r (get_or row.cells.stamps k no_stamp).place.0) → ⊥) → stamped_count row ≡ 0
+pub none_stamped : (r : ℕ → ℕ) (row : Row) (i : ℕ) → length row.cells.stamps ≤ i
+    → ((k : ℕ) → k < i → IsHalf r row.cells.stamps (r (get_or row.cells.stamps k no_stamp).place.0) → ⊥) → stamped_count row ≡ 0
 none_stamped r row i l before =
     ⊎_elim
     (λ (s : 0 < length row.cells.stamps). absurd (some_half r row.cells.stamps s (λ (k : ℕ) (m : k < length row.cells.stamps). before k (omega arith))))

@@ -1,13 +1,13 @@
 -- What a row means: what each slot holds at each position, and where its segments begin and end. A position is the rank
 -- of a place in the list of places, and r gives the rank of a place.
-use Rattle.std.specs.Prelude.{ℕ, ◌-◌, ◌<◌, ◌≤◌, Bool, ◌==◌, nat_lt, List, length, get_or, count_by, Option}
+use Rattle.std.specs.Prelude.{ℕ, ◌+◌, ◌-◌, ◌<◌, ◌≤◌, max, Bool, ◌==◌, nat_lt, List, length, get_or, count_by, Option}
 use Rattle.pst_order.specs.Places.{rank}
 use Rattle.pst_rows.specs.declared.content.Content.{Content}
 use Rattle.pst_rows.specs.declared.content.Content.TheVariants.{Null}
 use Rattle.pst_rows.specs.declared.content.Stamp.{Stamp}
 use Rattle.pst_rows.specs.declared.row.Row.{Row}
 use Rattle.pst_rows.specs.Timeline.{in_force, is_edge}
-use Rattle.pst_rows.specs.Values.{RowValue, IsValue, stamp_at, no_slot}
+use Rattle.pst_rows.specs.Values.{RowValue, IsValue, room_for, stamp_at, no_slot}
 
 -- what is stamped in a row for a slot at a position
 abbrev pub stamps_of : (ℕ → ℕ) → Row → ℕ → ℕ → Option Content
@@ -49,9 +49,24 @@ stamped_before r row n = count_by (λ e. nat_lt (r e.place.0) n) row.cells.stamp
 abbrev pub stamped_after : (ℕ → ℕ) → Row → ℕ → ℕ
 stamped_after r row n = count_by (λ e. nat_lt n (r e.place.0)) row.cells.stamps
 
+-- for how many stamped values a row has room in all
+abbrev pub room_of : Row → ℕ
+room_of row = row.cells.capacity
+
 -- how many stamped values more a row can take without memory
 abbrev pub spare_of : Row → ℕ
 spare_of row = row.cells.capacity - length row.cells.stamps
+
+-- a row in which room was made for so many stamped values more: it has what it had, or no more than what is made for as many as it then
+-- is to hold
+abbrev pub HasMadeRoom : (old new : Row) (count : ℕ) → Type 0
+HasMadeRoom old new count = room_of new ≤ max (room_of old) (room_for (width_of old) (stamped_count old + count))
+
+-- of the halves of a row that was split the left one has no more room than it had, and the right one no more than is made for as many as
+-- it held
+pub record HasSplitRoom (old left right : Row) : Type 0 where
+  pub left_room : room_of left ≤ room_of old
+  pub right_room : room_of right ≤ room_for (width_of old) (stamped_count old)
 
 -- what a row shows
 abbrev pub shown : Row → RowValue

@@ -23,6 +23,11 @@ stamp_at r (e ∷ es) slot n = if (e.slot.0 == slot) && (r e.place.0 == n) then 
 abbrev pub no_slot : Slot
 no_slot = record { content = Null; start = 0 }
 
+-- for how many stamped values a row with so many slots makes room at most, where it is to hold so many: twice as many, one for each slot,
+-- and one that stands in the row itself
+abbrev pub room_for : (slots held : ℕ) → ℕ
+room_for slots held = 2 * held + slots + 1
+
 -- what is stamped in a row for a slot at a position
 abbrev pub stamps_in : (ℕ → ℕ) → RowValue → ℕ → ℕ → Option Content
 stamps_in r row slot n = stamp_at r row.stamps slot n

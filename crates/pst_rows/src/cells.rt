@@ -1,12 +1,12 @@
 //! The slots and the stamped values of a row: some slots beside the life, and one list of the rest.
 
-ghost use Rattle.std.specs.Prelude.{◌≡◌, ◌≢◌, ◌+◌, ◌-◌, ◌^◌, ◌<◌, ◌≤◌, [], ◌∷◌, ◌++◌, true, nat_lt, All, IfOk, OnOk, OnErr, length, get_or, set, take, drop, filter};
+ghost use Rattle.std.specs.Prelude.{◌≡◌, ◌≢◌, ◌+◌, ◌-◌, ◌*◌, ◌^◌, ◌<◌, ◌≤◌, [], ◌∷◌, ◌++◌, true, nat_lt, max, All, IfOk, OnOk, OnErr, length, get_or, set, take, drop, filter};
 ghost use Rattle.std.specs.List.{insert as inserted};
 ghost use Rattle.smallvec.specs.SmallVec.{HasRoomFor};
 ghost use Rattle.pst_order.specs.Places.{rank};
 ghost use Rattle.pst_rows.specs.Stamps.{at_place};
 ghost use Rattle.pst_rows.specs.Cells.{head_size, slot_kept, no_cell, IsPart, IsBare, IsMarked};
-ghost use Rattle.pst_rows.specs.Values.{no_slot};
+ghost use Rattle.pst_rows.specs.Values.{no_slot, room_for};
 ghost use Rattle.pst_rows.specs.Parts.{bare_slot, HasStart};
 ghost use Rattle.pst_rows.specs.Steps.{with_content, with_base};
 
@@ -64,16 +64,17 @@ impl Cells {
     pub fn with_capacity(alloc: Global, count: usize) -> Result<Cells, NoMemory>
         ensures slots { IfOk result (λ cells. cells.slots ≡ []) }
         ensures stamps { IfOk result (λ cells. cells.stamps ≡ []) }
+        ensures room { IfOk result (λ cells. cells.capacity ≤ count + 1) }
     {
-        let mut cells = Cells {
+        let mut list = SmallVec::new(alloc);
+        reserve(&mut list, count.saturating_sub(HEAD))?;
+        Ok(Cells {
             width: 0,
             behind: 0,
             end: 0,
             head: [slot_stamp(Content::Null, 0); HEAD],
-            list: SmallVec::new(alloc),
-        };
-        cells.reserve(count.saturating_sub(HEAD))?;
-        Ok(cells)
+            list,
+        })
     }
 
     /// How many slots there are.
@@ -215,6 +216,7 @@ impl Cells {
         ensures stamps { self.new.stamps ≡ self.old.stamps }
         ensures ok { OnOk result (length self.new.stamps + count ≤ self.new.capacity) }
         ensures capacity { self.old.capacity ≤ self.new.capacity }
+        ensures most { self.new.capacity ≤ max self.old.capacity (room_for (length self.old.slots) (length self.old.stamps + count)) }
         ensures err { OnErr result (self.new ≡ self.old) }
     {
         let _known_to_fit = self.list.len();
@@ -228,6 +230,7 @@ impl Cells {
         requires { self.old.stamps ≡ [] }
         ensures slots { OnOk result (self.new.slots ≡ self.old.slots ++ bare_slot content ∷ []) }
         ensures stamps { self.new.stamps ≡ [] }
+        ensures most { self.new.capacity ≤ max self.old.capacity (length self.new.slots) }
     {
         if self.width == MOST_SLOTS {
             return Err(AllocError);
@@ -251,6 +254,7 @@ impl Cells {
         requires none { self.old.stamps ≡ [] }
         ensures slots { OnOk result (self.new.slots ≡ self.old.slots ++ bare_slot content ∷ []) }
         ensures stamps { self.new.stamps ≡ [] }
+        ensures most { self.new.capacity ≤ max self.old.capacity (length self.new.slots) }
     {
         reserve(&mut self.list, 1)?;
         self.list.push_reserved(slot_stamp(content, 0));
@@ -263,6 +267,7 @@ impl Cells {
     pub fn push(&mut self, stamp: Stamp) -> Result<(), NoMemory>
         ensures slots { self.new.slots ≡ self.old.slots }
         ensures stamps { OnOk result (self.new.stamps ≡ self.old.stamps ++ stamp ∷ []) }
+        ensures most { self.new.capacity ≤ max self.old.capacity (room_for (length self.new.slots) (length self.new.stamps)) }
     {
         reserve(&mut self.list, 1)?;
         self.list.push_reserved(stamp);
@@ -306,6 +311,7 @@ impl Cells {
         requires at { rank (O.places order.now) at.0 < length (O.places order.now) }
         ensures slots { self.new.slots ≡ self.old.slots }
         ensures stamps { self.new.stamps ≡ filter (λ e. nat_lt (rank (O.places order.now) e.place.0) (rank (O.places order.now) at.0)) self.old.stamps }
+        ensures capacity { self.new.capacity ≤ self.old.capacity }
     {
         let _known_to_fit = self.list.len();
         keep_before(&mut self.list, self.behind as usize, order, at);
@@ -369,13 +375,16 @@ impl Cells {
     }
 }
 
-// Makes room in a list for so many more. `NoMemory` where there is none: then nothing changes.
+// Makes room in a list for so many more: half as much again as it has room for, or what is asked for where that is more. `NoMemory`
+// where there is none: then nothing changes.
 fn reserve(list: &mut List, count: usize) -> Result<(), NoMemory>
     requires { list.old.capacity ≤ 2 ^ 32 - 256 }
     ensures items { list.new.items ≡ list.old.items }
     ensures ok { OnOk result (HasRoomFor list.new count) }
     ensures capacity { list.old.capacity ≤ list.new.capacity }
     ensures most { list.new.capacity ≤ 2 ^ 32 - 256 }
+    ensures half { 2 * list.new.capacity ≤ max (3 * list.old.capacity) (2 * (length list.old.items + count)) }
+    ensures twice { list.new.capacity ≤ max list.old.capacity (2 * (length list.old.items + count)) }
     ensures err { OnErr result (list.new ≡ list.old) }
 {
     let len = list.len();

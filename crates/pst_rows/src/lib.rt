@@ -15,8 +15,6 @@ mod laws;
 mod parts;
 mod row;
 mod stamps;
-#[cfg(test)]
-mod tests;
 
 pub use content::{Content, Segment, Stamp};
 pub use laws::{

@@ -1,8 +1,8 @@
 //! Slots and stamps that are made of their parts. One walk over the stamps counts those of each slot, and one over the slots adds
 //! the counts up.
 
-ghost use Rattle.std.specs.Prelude.{◌≡◌, ◌-◌, ◌^◌, ◌<◌, [], IfOk, OnOk, length, map, get_or};
-ghost use Rattle.pst_rows.specs.Values.{no_slot};
+ghost use Rattle.std.specs.Prelude.{◌≡◌, ◌-◌, ◌^◌, ◌<◌, ◌≤◌, [], max, IfOk, OnOk, length, map, get_or};
+ghost use Rattle.pst_rows.specs.Values.{no_slot, room_for};
 ghost use Rattle.pst_rows.specs.Parts.{slots_from, bare_slot, AreCounted, AreBare, AreUncounted, IsCountedOnce};
 ghost use Rattle.pst_rows.specs.Steps.{AreRecounted};
 
@@ -16,6 +16,7 @@ pub fn cells_of(alloc: Global, bases: &[Content], stamps: &[Stamp]) -> Result<Ce
     requires { length stamps.now < 2 ^ 32 }
     ensures slots { IfOk result (λ cells. cells.slots ≡ slots_from stamps.now 0 bases.now) }
     ensures stamps { IfOk result (λ cells. cells.stamps ≡ stamps.now) }
+    ensures room { IfOk result (λ cells. cells.capacity ≤ room_for (length bases.now) (length stamps.now)) }
 {
     let mut cells = Cells::with_capacity(alloc, bases.len() + stamps.len())?;
     put_bare(&mut cells, bases)?;
@@ -30,6 +31,7 @@ fn put_bare(cells: &mut Cells, bases: &[Content]) -> Result<(), NoMemory>
     requires stamps { cells.old.stamps ≡ [] }
     ensures slots { OnOk result (cells.new.slots ≡ map bare_slot bases.now) }
     ensures stamps { OnOk result (cells.new.stamps ≡ []) }
+    ensures room { OnOk result (cells.new.capacity ≤ max cells.old.capacity (length bases.now)) }
 {
     for base in bases {
         cells.push_slot(*base)?;
@@ -42,6 +44,7 @@ fn put_stamps(cells: &mut Cells, stamps: &[Stamp]) -> Result<(), NoMemory>
     requires { cells.old.stamps ≡ [] }
     ensures slots { OnOk result (cells.new.slots ≡ cells.old.slots) }
     ensures stamps { OnOk result (cells.new.stamps ≡ stamps.now) }
+    ensures room { OnOk result (cells.new.capacity ≤ max cells.old.capacity (room_for (length cells.old.slots) (length stamps.now))) }
 {
     for stamp in stamps {
         cells.push(*stamp)?;
@@ -53,6 +56,7 @@ fn put_stamps(cells: &mut Cells, stamps: &[Stamp]) -> Result<(), NoMemory>
 pub fn forget_starts(cells: &mut Cells)
     ensures slots { AreUncounted cells.old.slots cells.new.slots }
     ensures stamps { cells.new.stamps ≡ cells.old.stamps }
+    ensures capacity { cells.new.capacity ≡ cells.old.capacity }
 {
     for slot in 0..cells.width() {
         cells.set_start(slot, 0);
@@ -64,6 +68,7 @@ pub fn recount(cells: &mut Cells)
     requires { AreBare cells.old.slots }
     ensures slots { AreRecounted cells.old.slots cells.new.slots cells.old.stamps }
     ensures stamps { cells.new.stamps ≡ cells.old.stamps }
+    ensures capacity { cells.new.capacity ≡ cells.old.capacity }
 {
     count_own(cells);
     add_up(cells);
@@ -74,6 +79,7 @@ fn count_own(cells: &mut Cells)
     requires { AreBare cells.old.slots }
     ensures slots { AreCounted cells.old.slots cells.new.slots cells.old.stamps }
     ensures stamps { cells.new.stamps ≡ cells.old.stamps }
+    ensures capacity { cells.new.capacity ≡ cells.old.capacity }
 {
     for index in 0..cells.len() {
         let slot = cells.stamps()[index].slot();
@@ -86,6 +92,7 @@ fn count_one(cells: &mut Cells, slot: usize)
     requires { (get_or cells.old.slots slot no_slot).start < 2 ^ 32 - 1 }
     ensures slots { IsCountedOnce cells.old.slots cells.new.slots slot }
     ensures stamps { cells.new.stamps ≡ cells.old.stamps }
+    ensures capacity { cells.new.capacity ≡ cells.old.capacity }
 {
     if slot >= cells.width() {
         return;
@@ -99,6 +106,7 @@ fn add_up(cells: &mut Cells)
     requires { AreCounted cells.old.slots cells.old.slots cells.old.stamps }
     ensures slots { AreRecounted cells.old.slots cells.new.slots cells.old.stamps }
     ensures stamps { cells.new.stamps ≡ cells.old.stamps }
+    ensures capacity { cells.new.capacity ≡ cells.old.capacity }
 {
     let _few = cells.len();
     let mut before = 0;

@@ -3,9 +3,9 @@
 ghost use Rattle.std.specs.Prelude.{◌≡◌, ℕ, ◌+◌, ◌-◌, ◌^◌, ◌<◌, ◌≤◌, ◌↔◌, [], IfOk, OnOk, IfErr, OnErr, IfSome, IsNone, length, true, false, not, is_some};
 ghost use Rattle.pst_order.specs.Places.{rank, IsIn};
 ghost use Rattle.pst_order.specs.Search.{IsFewMore};
-ghost use Rattle.pst_rows.specs.Values.{before_slot};
+ghost use Rattle.pst_rows.specs.Values.{before_slot, room_for};
 ghost use Rattle.pst_rows.specs.Parts.{value_of};
-ghost use Rattle.pst_rows.specs.Rows.{stamps_of, width_of, base_of, content_at, row_edge, stamped_count, stamped_in, spare_of, shown, IsRow, IsRowIn, IsInLife};
+ghost use Rattle.pst_rows.specs.Rows.{stamps_of, width_of, base_of, content_at, row_edge, stamped_count, stamped_in, room_of, spare_of, HasMadeRoom, HasSplitRoom, shown, IsRow, IsRowIn, IsInLife};
 ghost use Rattle.pst_rows.specs.Changes.{slot_count, first_content, IsNewRow, IsSegmentAround, IsSameRow, IsRowSet, IsRowCut, IsRowReplaced, IsRowSplit, IsSplitStamp, HasMore, needed, missing};
 ghost use Rattle.pst_rows.specs.Steps.{AreBounds, HasParts, IsLocated, IsInserted, AreInserted, IsBeginPlace, IsEndPlace, IsHeldBefore, IsWrittenBefore, AreCellsBefore, AreCellsAfter, AreFirstSlots};
 
@@ -22,7 +22,8 @@ use std::cmp::Ordering;
 /// from the begin of the life on, and each stamped one from its place on, up to the next or to the end of the life: these
 /// stretches are the segments of the slot. The stamped values stand in the order of slot and then place, and each slot
 /// knows where its own begin. A row keeps the numbers of places, and no order: each call is handed the order, and only
-/// `new`, `reserve` and `split_off` take memory.
+/// `new`, `of_parts`, `reserve` and `split_off` take memory. The room that a row has is bounded by what it is to hold when one of
+/// these takes it (`room_for`).
 #[derive(Drop)]
 pub struct Row {
     lo: Pos,
@@ -55,7 +56,8 @@ impl Row {
         stamps: &[Stamp],
     ) -> Result<Row, NoMemory>
         requires { length stamps.now < 2 ^ 32 }
-        ensures { IfOk result (λ row. shown row ≡ value_of lo hi bases.now stamps.now) }
+        ensures parts { IfOk result (λ row. shown row ≡ value_of lo hi bases.now stamps.now) }
+        ensures room { IfOk result (λ row. room_of row ≤ room_for (length bases.now) (length stamps.now)) }
     {
         Ok(Row {
             lo,
@@ -114,11 +116,13 @@ impl Row {
         self.cells.capacity() - self.cells.len()
     }
 
-    /// Makes room for so many stamped values more. `NoMemory` where there is none: then nothing changes.
+    /// Makes room for so many stamped values more: at most twice as much as it then holds with them, and one for each slot, as long as
+    /// it had no more before. `NoMemory` where there is none: then nothing changes.
     pub fn reserve(&mut self, count: usize) -> Result<(), NoMemory>
         ensures same { IsSameRow self.old self.new }
         ensures ok { OnOk result (count ≤ spare_of self.new) }
         ensures as_well { spare_of self.old ≤ spare_of self.new }
+        ensures room { HasMadeRoom self.old self.new count }
         ensures err { OnErr result (self.new ≡ self.old) }
     {
         self.cells.reserve(count)
@@ -343,6 +347,7 @@ impl Row {
         ensures split { IfOk result (λ right. IsRowSplit (rank (O.places order.now)) self.old self.new right at) }
         ensures left { OnOk result (IsRowIn (O.places order.now) self.new) }
         ensures right { IfOk result (IsRowIn (O.places order.now)) }
+        ensures room { IfOk result (HasSplitRoom self.old self.new) }
         ensures err { OnErr result (self.new ≡ self.old) }
     {
         let right = self.right_of(order, at)?;
@@ -497,6 +502,7 @@ impl Row {
         ensures cells { AreCellsBefore (rank (O.places order.now)) self.old (rank (O.places order.now) at.0) self.new.cells }
         ensures lo { self.new.lo ≡ self.old.lo }
         ensures hi { self.new.hi ≡ self.old.hi }
+        ensures room { room_of self.new ≤ room_of self.old }
     {
         self.cells.keep_before(order, at);
         forget_starts(&mut self.cells);
@@ -507,7 +513,8 @@ impl Row {
     fn right_of<O: Order>(&self, order: &O, at: Pos) -> Result<Cells, NoMemory>
         requires row { IsRowIn (O.places order.now) self.now }
         requires life { IsInLife (O.places order.now) self.now at.0 }
-        ensures { IfOk result (λ cells. AreCellsAfter (rank (O.places order.now)) self.now (rank (O.places order.now) at.0) cells) }
+        ensures after { IfOk result (λ cells. AreCellsAfter (rank (O.places order.now)) self.now (rank (O.places order.now) at.0) cells) }
+        ensures room { IfOk result (λ cells. cells.capacity ≤ room_for (width_of self.now) (stamped_count self.now)) }
     {
         let count = self.cells.width() + self.cells.len() / 2;
         let mut cells = Cells::with_capacity(self.cells.allocator(), count)?;
@@ -525,6 +532,7 @@ fn first_cells(alloc: Global, shape: &TypeShape) -> Result<Cells, NoMemory>
     requires { slot_count shape.now ≤ 256 }
     ensures slots { IfOk result (λ cells. AreFirstSlots shape.now cells.slots) }
     ensures stamps { IfOk result (λ cells. cells.stamps ≡ []) }
+    ensures room { IfOk result (λ cells. cells.capacity ≤ slot_count shape.now + 1) }
 {
     let fields = usize::from(shape.values) + shape.targets.as_slice().len();
     let count = fields + usize::from(shape.limit);

@@ -1,8 +1,9 @@
 //! Work on the lists of a row.
 
-ghost use Rattle.std.specs.Prelude.{◌≡◌, ◌+◌, ◌^◌, ◌<◌, [], nat_lt, All, OnOk, length, get_or, filter};
+ghost use Rattle.std.specs.Prelude.{◌≡◌, ◌+◌, ◌^◌, ◌<◌, ◌≤◌, [], nat_lt, max, All, OnOk, length, get_or, filter};
 ghost use Rattle.pst_order.specs.Places.{rank};
 ghost use Rattle.pst_rows.specs.Steps.{places_of, AreRaised, IsMiddleFrom};
+ghost use Rattle.pst_rows.specs.Values.{room_for};
 
 use crate::cells::Cells;
 use crate::content::Stamp;
@@ -88,6 +89,8 @@ pub fn put_after<O: Order>(
     requires none { cells.old.stamps ≡ [] }
     ensures slots { cells.new.slots ≡ cells.old.slots }
     ensures stamps { OnOk result (cells.new.stamps ≡ filter (λ e. nat_lt (rank (O.places order.now) at.0) (rank (O.places order.now) e.place.0)) stamps.now) }
+    ensures room { OnOk result (cells.new.capacity ≤ max cells.old.capacity (room_for (length cells.new.slots) (length cells.new.stamps))) }
+    ensures few { OnOk result (length cells.new.stamps ≤ length stamps.now) }
 {
     for later in stamps {
         if order.before(at, later.place()) {

@@ -13,7 +13,9 @@ use Rattle.pst_rows.proofs.RowLemmas.{insertions_keep_rows}
 use Rattle.pst_rows_bed.specs.declared.bed.Bed.{Bed}
 use Rattle.pst_rows_bed.specs.Beds.{IsReady}
 
-pub new_ready : (old new : List ℕ) (lo hi : Pos) (shape : TypeShape) (bed : Bed) → length old ≡ 1 → IsIn old lo.0 → rank old lo.0 ≡ 0 → IsInsertedAfter old new lo.0 hi.0 → IsNewRow shape lo hi bed.row → slot_count shape ≡ 5 → length bed.base.items ≡ 5 → bed.places.items ≡ lo ∷ [] → bed.stamps.items ≡ [] → IsReady new bed × (length new ≡ 2)
+pub new_ready : (old new : List ℕ) (lo hi : Pos) (shape : TypeShape) (bed : Bed) → length old ≡ 1 → IsIn old lo.0 → rank old lo.0 ≡ 0
+    → IsInsertedAfter old new lo.0 hi.0 → IsNewRow shape lo hi bed.row → slot_count shape ≡ 5 → length bed.base.items ≡ 5 → bed.places.items ≡ lo ∷ []
+    → bed.stamps.items ≡ [] → IsReady new bed × (length new ≡ 2)
 new_ready old new lo hi shape bed one there first ins row five bases places stamps =
     let k : AreRanked old new lo.0 hi.0 = ranks_law old new lo.0 hi.0 there.there ins in
     let low : rank new lo.0 ≡ 0 = k.early lo.0 (omega arith) ∙ first in
@@ -35,7 +37,8 @@ new_ready old new lo hi shape bed one there first ins row five bases places stam
     only zero d l a = a
     only (suc i) d l a = absurd (omega arith)
 
-pub ready_inserted : (old new : List ℕ) (bed bed' : Bed) (z : Pos) → IsReady old bed → IsInsertedAfter old new bed.row.lo.0 z.0 → bed'.row ≡ bed.row → bed'.base ≡ bed.base → bed'.stamps ≡ bed.stamps → bed'.places.items ≡ bed.places.items ++ z ∷ [] →
+pub ready_inserted : (old new : List ℕ) (bed bed' : Bed) (z : Pos) → IsReady old bed → IsInsertedAfter old new bed.row.lo.0 z.0 → bed'.row ≡ bed.row
+    → bed'.base ≡ bed.base → bed'.stamps ≡ bed.stamps → bed'.places.items ≡ bed.places.items ++ z ∷ [] →
     IsReady new bed' × (rank new z.0 ≡ rank new bed.row.lo.0 + 1) × (length new ≡ length old + 1)
 ready_inserted old new bed bed' z h ins row base stamps places =
     let lo : ℕ = bed.row.lo.0 in
@@ -49,7 +52,8 @@ ready_inserted old new bed bed' z h ins row base stamps places =
     let other : hi ≢ z.0 = λ (e : hi ≡ z.0). let e' : rank old hi ≡ rank old z.0 = ap (rank old) e in omega arith in
     let high : rank new hi ≡ suc (rank old hi) = k.late hi other life in
     let one : IsInLife new bed.row z.0 = record { after = omega (arith, k.new_is); before = omega (arith, k.new_is) } in
-    let all : All (λ (p : Pos). IsInLife new bed.row p.0) bed.places.items = λ (i : ℕ) (d : Pos) (l : i < length bed.places.items). kept (get_or bed.places.items i d).0 k rise life there (h.alive i d l) in
+    let all : All (λ (p : Pos). IsInLife new bed.row p.0) bed.places.items =
+    λ (i : ℕ) (d : Pos) (l : i < length bed.places.items). kept (get_or bed.places.items i d).0 k rise life there (h.alive i d l) in
     let all' : All (λ (p : Pos). IsInLife new bed.row p.0) (bed.places.items ++ z ∷ []) = All-push (λ (p : Pos). IsInLife new bed.row p.0) bed.places.items z all one in (
       record {
         row_is = rw row (insertions_keep_rows old new lo z.0 (omega arith) ins bed.row h.row_is);
@@ -63,7 +67,8 @@ ready_inserted old new bed bed' z h ins row base stamps places =
       omega (arith, k.count),
     )
   where
-    kept : (p : ℕ) → AreRanked old new bed.row.lo.0 z.0 → ((a b : ℕ) → rank old a < rank old b → rank old b < length old → rank new a < rank new b) → rank old bed.row.lo.0 < rank old bed.row.hi.0 → rank old bed.row.hi.0 < length old → IsInLife old bed.row p → IsInLife new bed.row p
+    kept : (p : ℕ) → AreRanked old new bed.row.lo.0 z.0 → ((a b : ℕ) → rank old a < rank old b → rank old b < length old → rank new a < rank new b)
+        → rank old bed.row.lo.0 < rank old bed.row.hi.0 → rank old bed.row.hi.0 < length old → IsInLife old bed.row p → IsInLife new bed.row p
     kept p k rise life there a = record {
       after = ⊎_elim
           (λ (l : rank old bed.row.lo.0 < rank old p). omega (arith, rise bed.row.lo.0 p l (omega (arith, a.before))))

@@ -11,9 +11,6 @@
 ghost use Rattle.std.specs.Prelude.{◌≡◌, ◌<◌, ◌^◌, length};
 ghost use Rattle.pst_samples.specs.declared.TheConstants.{LIST, TREE, RING};
 
-#[cfg(test)]
-mod tests;
-
 /// Numbers in a list that is linked one way.
 pub const LIST: &str = "record N 2 { val key: int; ptr next: N; }
 root first: N;

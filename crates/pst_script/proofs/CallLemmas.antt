@@ -37,7 +37,8 @@ one_behind : (before : List ℤ) (n : ℤ) (ns : List ℤ) → (before ++ n ∷ 
 one_behind before n ns = rw append_assoc refl
 
 -- one more number is put behind those so far
-pub one_more : (before : List ℤ) (n : ℤ) (first : Option ℤ) (rest : Option (List ℤ)) → Some n ≡ passing fits_64_bits first → option_map (λ ns. (before ++ n ∷ []) ++ ns) rest ≡ option_map (λ ns. before ++ ns) (onto first rest)
+pub one_more : (before : List ℤ) (n : ℤ) (first : Option ℤ) (rest : Option (List ℤ)) → Some n ≡ passing fits_64_bits first
+    → option_map (λ ns. (before ++ n ∷ []) ++ ns) rest ≡ option_map (λ ns. before ++ ns) (onto first rest)
 one_more before n None rest h = let clash : Some n ≡ None = h in cc
 one_more before n (Some z) None h = refl
 one_more before n (Some z) (Some ns) h = ap Some (one_behind before n ns ∙ ap (λ k. before ++ k ∷ ns) (found n z h).1)
@@ -47,11 +48,14 @@ one_more before n (Some z) (Some ns) h = ap Some (one_behind before n ns ∙ ap 
 pub words_written : (all rest : List (List ℕ)) (word : List ℕ) → all ≡ word ∷ rest → is_some (arguments_of all) ≡ true → is_some (arguments_of rest) ≡ true
 words_written all rest word e h = rest_written (argument_of word) (arguments_of rest) (sym (ap (λ ws. is_some (arguments_of ws)) e) ∙ h)
 
-pub words_decide : (all rest : List (List ℕ)) (word : List ℕ) (r : Option ℤ) → all ≡ word ∷ rest → r ≡ passing fits_64_bits (argument_of word) → is_some r ≡ true → all_fit (arguments_of rest) ≡ all_fit (arguments_of all)
+pub words_decide : (all rest : List (List ℕ)) (word : List ℕ) (r : Option ℤ) → all ≡ word ∷ rest → r ≡ passing fits_64_bits (argument_of word)
+    → is_some r ≡ true → all_fit (arguments_of rest) ≡ all_fit (arguments_of all)
 words_decide all rest word None e p h = absurd (false≢true h)
 words_decide all rest word (Some n) e p h = rest_decides n (argument_of word) (arguments_of rest) p ∙ sym (ap (λ ws. all_fit (arguments_of ws)) e)
 
-pub word_read : (all rest : List (List ℕ)) (word : List ℕ) (r : Option ℤ) (n : ℤ) (before now : List ℤ) (whole : Option (List ℤ)) → all ≡ word ∷ rest → r ≡ passing fits_64_bits (argument_of word) → r ≡ Some n → now ≡ before ++ n ∷ [] → option_map (λ ns. before ++ ns) (arguments_of all) ≡ whole → option_map (λ ns. now ++ ns) (arguments_of rest) ≡ whole
+pub word_read : (all rest : List (List ℕ)) (word : List ℕ) (r : Option ℤ) (n : ℤ) (before now : List ℤ) (whole : Option (List ℤ)) → all ≡ word ∷ rest
+    → r ≡ passing fits_64_bits (argument_of word) → r ≡ Some n → now ≡ before ++ n ∷ [] → option_map (λ ns. before ++ ns) (arguments_of all) ≡ whole
+    → option_map (λ ns. now ++ ns) (arguments_of rest) ≡ whole
 word_read all rest word r n before now whole e p some push h =
     ap (λ (xs : List ℤ). option_map (λ ns. xs ++ ns) (arguments_of rest)) push
     ∙ (one_more before n (argument_of word) (arguments_of rest) (sym some ∙ p) ∙ (sym (ap (λ ws. option_map (λ ns. before ++ ns) (arguments_of ws)) e) ∙ h))
@@ -63,12 +67,14 @@ both_fit : (before ns : List ℤ) → list_all fits_64_bits before ≡ true → 
 both_fit [] ns h = refl
 both_fit (n ∷ before) ns h = by_test (fits_64_bits n) (λ k. both_fit before ns k) h
   where
-    by_test : (b : Bool) → (list_all fits_64_bits before ≡ true → list_all fits_64_bits (before ++ ns) ≡ list_all fits_64_bits ns) → (b && list_all fits_64_bits before) ≡ true → (b && list_all fits_64_bits (before ++ ns)) ≡ list_all fits_64_bits ns
+    by_test : (b : Bool) → (list_all fits_64_bits before ≡ true → list_all fits_64_bits (before ++ ns) ≡ list_all fits_64_bits ns)
+        → (b && list_all fits_64_bits before) ≡ true → (b && list_all fits_64_bits (before ++ ns)) ≡ list_all fits_64_bits ns
     by_test true rest k = rest k
     by_test false rest k = absurd (false≢true k)
 
 -- a number that was read fits, and so do those so far with it
-pub more_fit : (before now : List ℤ) (r first : Option ℤ) (n : ℤ) → r ≡ passing fits_64_bits first → r ≡ Some n → now ≡ before ++ n ∷ [] → list_all fits_64_bits before ≡ true → list_all fits_64_bits now ≡ true
+pub more_fit : (before now : List ℤ) (r first : Option ℤ) (n : ℤ) → r ≡ passing fits_64_bits first → r ≡ Some n → now ≡ before ++ n ∷ []
+    → list_all fits_64_bits before ≡ true → list_all fits_64_bits now ≡ true
 more_fit before now r None n p some e h = let clash : Some n ≡ None = sym some ∙ p in cc
 more_fit before now r (Some z) n p some e h =
     let is = found n z (sym some ∙ p) in
@@ -87,7 +93,8 @@ read_in_64_bits n r None p some = let clash : Some n ≡ None = sym some ∙ p i
 read_in_64_bits n r (Some z) p some = let is = found n z (sym some ∙ p) in in_64_bits n (ap fits_64_bits is.1 ∙ is.0)
 
 -- what is wrong with the words that are left is wrong with all
-pub fault_told : (before : List ℤ) (left whole : Option (List ℤ)) → list_all fits_64_bits before ≡ true → option_map (λ ns. before ++ ns) left ≡ whole → IsReadAs (λ (_ : List ℤ). ⊤) (judged (list_all fits_64_bits) whole) (Err (fault_of left))
+pub fault_told : (before : List ℤ) (left whole : Option (List ℤ)) → list_all fits_64_bits before ≡ true → option_map (λ ns. before ++ ns) left ≡ whole
+    → IsReadAs (λ (_ : List ℤ). ⊤) (judged (list_all fits_64_bits) whole) (Err (fault_of left))
 fault_told before None whole fit h = ap (judged (list_all fits_64_bits)) (sym h)
 fault_told before (Some ns) whole fit h = by_test (list_all fits_64_bits ns) refl
   where

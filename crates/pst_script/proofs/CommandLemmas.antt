@@ -18,7 +18,8 @@ use Rattle.pst_script.specs.declared.verb.Verb.TheVariants as verb
 use Rattle.pst_script.specs.Words.{words}
 use Rattle.pst_base.specs.Words.{is_name}
 use Rattle.pst_script.specs.Numerals.{number_of, argument_of, fits_32_bits, fits_64_bits, fits_charges}
-use Rattle.pst_script.specs.Commands.{with_both, arguments_of, make_called, called_of, on_version, to_run, open_of, one_number, two_numbers, nothing, verb_of, command_after, called_in_range, in_range, judged, read_as, reading_of, reading}
+use Rattle.pst_script.specs.Commands.{with_both, arguments_of, make_called, called_of, on_version, to_run, open_of, one_number, two_numbers, nothing, verb_of}
+use Rattle.pst_script.specs.Commands.{command_after, called_in_range, in_range, judged, read_as, reading_of, reading}
 use Rattle.pst_script.specs.Spelled.{call_words, words_of, has_name, CanBeWritten, IsWrittenOneWay}
 use Rattle.pst_script.proofs.SpelledLemmas.{number_of-decimal, number_written, argument_of-decimal, argument_written}
 
@@ -90,7 +91,8 @@ called_written (number ∷ procedure ∷ arguments) call range h = by_name (is_n
     fit : list_all fits_64_bits call.arguments ≡ true
     fit = and_right (fits_32_bits call.number) (list_all fits_64_bits call.arguments) range
 
-    from_parts : (n : ℕ) × (zs : List ℤ) × (number_of number ≡ Some n) × (arguments_of arguments ≡ Some zs) × (make_called procedure n zs ≡ call) → is_name procedure ≡ true → (is_name call.procedure ≡ true) × (number ∷ procedure ∷ arguments ≡ called_words call)
+    from_parts : (n : ℕ) × (zs : List ℤ) × (number_of number ≡ Some n) × (arguments_of arguments ≡ Some zs) × (make_called procedure n zs ≡ call)
+        → is_name procedure ≡ true → (is_name call.procedure ≡ true) × (number ∷ procedure ∷ arguments ≡ called_words call)
     from_parts p named =
         let value : number_of number ≡ Some call.number = p.2 ∙ ap (λ (c : Called). Some c.number) p.4 in
         let name : procedure ≡ call.procedure = ap (λ (c : Called). c.procedure) p.4 in
@@ -101,14 +103,17 @@ called_written (number ∷ procedure ∷ arguments) call range h = by_name (is_n
               ∙ ap (λ (r : List (List ℕ)). decimal call.number ∷ call.procedure ∷ r) (arguments_written arguments call.arguments fit numbers)),
         )
 
-    by_name : (b : Bool) → is_name procedure ≡ b → (if b then with_both (make_called procedure) (number_of number) (arguments_of arguments) else None) ≡ Some call → (is_name call.procedure ≡ true) × (number ∷ procedure ∷ arguments ≡ called_words call)
+    by_name : (b : Bool) → is_name procedure ≡ b → (if b then with_both (make_called procedure) (number_of number) (arguments_of arguments) else None)
+        ≡ Some call → (is_name call.procedure ≡ true) × (number ∷ procedure ∷ arguments ≡ called_words call)
     by_name true named k = from_parts (both_some (make_called procedure) (number_of number) (arguments_of arguments) call k) named
     by_name false named k = let clash : None ≡ Some call = k in cc
 
 called_read : (call : Called) → is_name call.procedure ≡ true → called_in_range call ≡ true → called_of (called_words call) ≡ Some call
 called_read call named range =
-    let value : number_of (decimal call.number) ≡ Some call.number = number_of-decimal call.number (small_32 call.number (and_left (fits_32_bits call.number) (list_all fits_64_bits call.arguments) range)) in
-    let numbers : arguments_of (map signed_decimal call.arguments) ≡ Some call.arguments = arguments_read call.arguments (and_right (fits_32_bits call.number) (list_all fits_64_bits call.arguments) range) in
+    let value : number_of (decimal call.number) ≡ Some call.number =
+    number_of-decimal call.number (small_32 call.number (and_left (fits_32_bits call.number) (list_all fits_64_bits call.arguments) range)) in
+    let numbers : arguments_of (map signed_decimal call.arguments) ≡ Some call.arguments =
+    arguments_read call.arguments (and_right (fits_32_bits call.number) (list_all fits_64_bits call.arguments) range) in
     ap (λ (b : Bool). if b then with_both (make_called call.procedure) (number_of (decimal call.number)) (arguments_of (map signed_decimal call.arguments)) else None) named
     ∙ (ap (λ o. with_both (make_called call.procedure) o (arguments_of (map signed_decimal call.arguments))) value
     ∙ ap (λ o. with_both (make_called call.procedure) (Some call.number) o) numbers)
@@ -140,25 +145,32 @@ next (inr b) f = f b
 
 verb_written : (word : List ℕ) (v : Verb) → verb_of word ≡ Some v → word ≡ verb_text v
 verb_written word v h =
-    elim (next (next (next (next (next (next (next (next (next (tried word verb.Run v _ h) (tried word verb.Query v _)) (tried word verb.Open v _)) (tried word verb.Call v _)) (tried word verb.Step v _)) (tried word verb.Close v _)) (tried word verb.Drop v _)) (tried word verb.Budget v _)) (tried word verb.Versions v _)) (tried word verb.Stats v None)) [ inl e ↦ e | inr clash ↦ cc ]
+    elim (next (next (next (next (next (next (next (next (next (tried word verb.Run v _ h) (tried word verb.Query v _)) (tried word verb.Open v _))
+    (tried word verb.Call v _)) (tried word verb.Step v _)) (tried word verb.Close v _)) (tried word verb.Drop v _)) (tried word verb.Budget v _))
+    (tried word verb.Versions v _)) (tried word verb.Stats v None)) [ inl e ↦ e | inr clash ↦ cc ]
 
 -- ---- commands
 
 -- the words behind a verb that begins a call
-call_command : (make : Called → Command) (text : List ℕ) → ((call : Called) → in_range (make call) ≡ called_in_range call) → ((call : Called) → has_name (make call) ≡ is_name call.procedure) → ((call : Called) → words_of (make call) ≡ text ∷ called_words call) → (rest : List (List ℕ)) (c : Command) → in_range c ≡ true → option_map make (called_of rest) ≡ Some c → (has_name c ≡ true) × (text ∷ rest ≡ words_of c)
+call_command : (make : Called → Command) (text : List ℕ) → ((call : Called) → in_range (make call) ≡ called_in_range call)
+    → ((call : Called) → has_name (make call) ≡ is_name call.procedure) → ((call : Called) → words_of (make call) ≡ text ∷ called_words call)
+    → (rest : List (List ℕ)) (c : Command) → in_range c ≡ true → option_map make (called_of rest) ≡ Some c → (has_name c ≡ true) × (text ∷ rest ≡ words_of c)
 call_command make text ranges names spells rest c range h =
     let p = mapped make (called_of rest) c h in
     let w : (is_name p.0.procedure ≡ true) × (rest ≡ called_words p.0) = called_written rest p.0 (sym (ranges p.0) ∙ (ap in_range p.2 ∙ range)) p.1 in
     (sym (ap has_name p.2) ∙ (names p.0 ∙ w.0), ap (λ (r : List (List ℕ)). text ∷ r) w.1 ∙ (sym (spells p.0) ∙ ap words_of p.2))
 
 -- the words behind one that begins a command with one number
-number_command : (make : ℕ → Command) (text : List ℕ) → ((n : ℕ) → in_range (make n) ≡ true → IsSmall n) → ((n : ℕ) → has_name (make n) ≡ true) → ((n : ℕ) → words_of (make n) ≡ text ∷ decimal n ∷ []) → (rest : List (List ℕ)) (c : Command) → in_range c ≡ true → option_map make (one_number rest) ≡ Some c → (has_name c ≡ true) × (text ∷ rest ≡ words_of c)
+number_command : (make : ℕ → Command) (text : List ℕ) → ((n : ℕ) → in_range (make n) ≡ true → IsSmall n) → ((n : ℕ) → has_name (make n) ≡ true)
+    → ((n : ℕ) → words_of (make n) ≡ text ∷ decimal n ∷ []) → (rest : List (List ℕ)) (c : Command) → in_range c ≡ true
+    → option_map make (one_number rest) ≡ Some c → (has_name c ≡ true) × (text ∷ rest ≡ words_of c)
 number_command make text ranges names spells rest c range h =
     let p = mapped make (one_number rest) c h in
     let w : rest ≡ decimal p.0 ∷ [] = one_written rest p.0 (ranges p.0 (ap in_range p.2 ∙ range)) p.1 in
     (sym (ap has_name p.2) ∙ names p.0, ap (λ (r : List (List ℕ)). text ∷ r) w ∙ (sym (spells p.0) ∙ ap words_of p.2))
 
-end_command : (command : Command) (text : List ℕ) → has_name command ≡ true → words_of command ≡ text ∷ [] → (rest : List (List ℕ)) (c : Command) → nothing command rest ≡ Some c → (has_name c ≡ true) × (text ∷ rest ≡ words_of c)
+end_command : (command : Command) (text : List ℕ) → has_name command ≡ true → words_of command ≡ text ∷ [] → (rest : List (List ℕ)) (c : Command)
+    → nothing command rest ≡ Some c → (has_name c ≡ true) × (text ∷ rest ≡ words_of c)
 end_command command text named spelled rest c h =
     let w : (rest ≡ []) × (command ≡ c) = none_written command c rest h in
     (sym (ap has_name w.1) ∙ named, ap (λ (r : List (List ℕ)). text ∷ r) w.0 ∙ (sym spelled ∙ ap words_of w.1))
@@ -174,7 +186,8 @@ open_command rest c range h =
       | inr k ↦ call_command (λ called. OpenRun (on_version called)) (codes "open") (λ _. refl) (λ _. refl) (λ _. refl) rest c range k
     ]
 
-step_command : (rest : List (List ℕ)) (c : Command) → in_range c ≡ true → two_numbers (λ run charges. StepRun (record { 0 = run }) charges) rest ≡ Some c → (has_name c ≡ true) × (codes "step" ∷ rest ≡ words_of c)
+step_command : (rest : List (List ℕ)) (c : Command) → in_range c ≡ true
+    → two_numbers (λ run charges. StepRun (record { 0 = run }) charges) rest ≡ Some c → (has_name c ≡ true) × (codes "step" ∷ rest ≡ words_of c)
 step_command [] c range h = let clash : None ≡ Some c = h in cc
 step_command (word ∷ ws) c range h =
     let p = both_some (λ run charges. StepRun (record { 0 = run }) charges) (number_of word) (one_number ws) c h in
@@ -229,19 +242,28 @@ abbrev as_called : Call → Called
 as_called call = record { number = call.version.0; procedure = call.procedure; arguments = call.arguments }
 
 words_read : (c : Command) → has_name c ≡ true → in_range c ≡ true → reading_of (words_of c) ≡ Ok (Some c)
-words_read (Run call) named range = passes (Run call) (option_map (λ c. Run (on_version c)) (called_of (called_words (as_called call)))) (ap (option_map (λ c. Run (on_version c))) (called_read (as_called call) named range)) range
-words_read (Query call) named range = passes (Query call) (option_map (λ c. Query (on_version c)) (called_of (called_words (as_called call)))) (ap (option_map (λ c. Query (on_version c))) (called_read (as_called call) named range)) range
-words_read (OpenRun call) named range = passes (OpenRun call) (option_map (λ c. OpenRun (on_version c)) (called_of (called_words (as_called call)))) (ap (option_map (λ c. OpenRun (on_version c))) (called_read (as_called call) named range)) range
-words_read (OpenEmpty version) named range = passes (OpenEmpty version) (open_of (decimal version.0 ∷ [])) (ap (λ o. option_or o (option_map (λ c. OpenRun (on_version c)) (called_of (decimal version.0 ∷ [])))) (one_read (λ n. OpenEmpty (record { 0 = n })) version.0 (small_32 version.0 range))) range
+words_read (Run call) named range = passes (Run call) (option_map (λ c. Run (on_version c)) (called_of (called_words (as_called call))))
+    (ap (option_map (λ c. Run (on_version c))) (called_read (as_called call) named range)) range
+words_read (Query call) named range = passes (Query call) (option_map (λ c. Query (on_version c)) (called_of (called_words (as_called call))))
+    (ap (option_map (λ c. Query (on_version c))) (called_read (as_called call) named range)) range
+words_read (OpenRun call) named range = passes (OpenRun call) (option_map (λ c. OpenRun (on_version c)) (called_of (called_words (as_called call))))
+    (ap (option_map (λ c. OpenRun (on_version c))) (called_read (as_called call) named range)) range
+words_read (OpenEmpty version) named range = passes (OpenEmpty version) (open_of (decimal version.0 ∷ []))
+    (ap (λ o. option_or o (option_map (λ c. OpenRun (on_version c)) (called_of (decimal version.0 ∷ []))))
+    (one_read (λ n. OpenEmpty (record { 0 = n })) version.0 (small_32 version.0 range))) range
 words_read (CallRun run procedure arguments) named range =
     let call : Called = record { number = run.0; procedure = procedure; arguments = arguments } in
     passes (CallRun run procedure arguments) (option_map to_run (called_of (called_words call))) (ap (option_map to_run) (called_read call named range)) range
 words_read (StepRun run charges) named range =
     let first : number_of (decimal run.0) ≡ Some run.0 = number_of-decimal run.0 (small_32 run.0 (and_left (fits_32_bits run.0) (fits_charges charges) range)) in
     let second : number_of (decimal charges) ≡ Some charges = number_of-decimal charges (small_charges charges (and_right (fits_32_bits run.0) (fits_charges charges) range)) in
-    passes (StepRun run charges) (with_both (λ r n. StepRun (record { 0 = r }) n) (number_of (decimal run.0)) (number_of (decimal charges))) (ap (λ o. with_both (λ r n. StepRun (record { 0 = r }) n) o (number_of (decimal charges))) first ∙ ap (λ o. with_both (λ r n. StepRun (record { 0 = r }) n) (Some run.0) o) second) range
-words_read (CloseRun run) named range = passes (CloseRun run) (option_map (λ n. CloseRun (record { 0 = n })) (one_number (decimal run.0 ∷ []))) (one_read (λ n. CloseRun (record { 0 = n })) run.0 (small_32 run.0 range)) range
-words_read (DropRun run) named range = passes (DropRun run) (option_map (λ n. DropRun (record { 0 = n })) (one_number (decimal run.0 ∷ []))) (one_read (λ n. DropRun (record { 0 = n })) run.0 (small_32 run.0 range)) range
+    passes (StepRun run charges) (with_both (λ r n. StepRun (record { 0 = r }) n) (number_of (decimal run.0)) (number_of (decimal charges)))
+    (ap (λ o. with_both (λ r n. StepRun (record { 0 = r }) n) o (number_of (decimal charges))) first
+    ∙ ap (λ o. with_both (λ r n. StepRun (record { 0 = r }) n) (Some run.0) o) second) range
+words_read (CloseRun run) named range = passes (CloseRun run) (option_map (λ n. CloseRun (record { 0 = n })) (one_number (decimal run.0 ∷ [])))
+    (one_read (λ n. CloseRun (record { 0 = n })) run.0 (small_32 run.0 range)) range
+words_read (DropRun run) named range = passes (DropRun run) (option_map (λ n. DropRun (record { 0 = n })) (one_number (decimal run.0 ∷ [])))
+    (one_read (λ n. DropRun (record { 0 = n })) run.0 (small_32 run.0 range)) range
 words_read (Budget charges) named range = passes (Budget charges) (option_map Budget (one_number (decimal charges ∷ []))) (one_read Budget charges (small_charges charges range)) range
 words_read Versions named range = refl
 words_read Stats named range = refl

@@ -1,5 +1,6 @@
 -- Numerals against what std reads.
-use Rattle.std.proofs.Common.{◌≡◌, ℕ, suc, zero, ◌+◌, ◌-◌, ◌*◌, ◌<◌, ◌≤◌, ◌^◌, take, get_or, Bool, true, false, cond, not, List, [], ◌∷◌, length, refl, sym, ap, ◌∙◌, subst, arith, rules, tests, Option, Some, None, Result, Ok, Err, Bor}
+use Rattle.std.proofs.Common.{◌≡◌, ℕ, suc, zero, ◌+◌, ◌-◌, ◌*◌, ◌<◌, ◌≤◌, ◌^◌, take, get_or, Bool, true, false, cond, not, List, [], ◌∷◌, length, refl, sym, ap}
+use Rattle.std.proofs.Common.{◌∙◌, subst, arith, rules, tests, Option, Some, None, Result, Ok, Err, Bor}
 use Rattle.std.specs.Prelude.{if◌then◌else◌, ◌==◌, nat_lt, ◌&&◌, IsUtf8, MatchResult, ℤ, pos, neg_ℤ, is_some, nat_le}
 use Rattle.std.specs.Option.{option_map}
 use Rattle.std.specs.Result.{OkIff, result_ok}
@@ -24,7 +25,8 @@ pub never_none : {X E : Type 0} (P : X → Type 0) (Q : E → Type 0) (U : Type 
 never_none P Q U o (Ok x) e none h u = let clash : Some x ≡ None = sym e ∙ none in cc
 never_none P Q U o (Err x) e none h u = h.0 u
 
-pub text_now : {E : Type 0} (bytes : List ℕ) (U : Type 0) (Q : E → Type 0) (o : Option (Bor (List ℕ))) (r : Result (Bor (List ℕ)) E) (x : Bor (List ℕ)) → o ≡ result_ok r → o ≡ Some x → MatchResult r (λ s. (s.now ≡ bytes) × U) Q → x.now ≡ bytes
+pub text_now : {E : Type 0} (bytes : List ℕ) (U : Type 0) (Q : E → Type 0) (o : Option (Bor (List ℕ))) (r : Result (Bor (List ℕ)) E)
+    (x : Bor (List ℕ)) → o ≡ result_ok r → o ≡ Some x → MatchResult r (λ s. (s.now ≡ bytes) × U) Q → x.now ≡ bytes
 text_now bytes U Q o (Ok s) x e some h = let same : s ≡ x = cc in ap (λ (b : Bor (List ℕ)). b.now) (sym same) ∙ h.0
 text_now bytes U Q o (Err s) x e some h = let clash : None ≡ Some x = sym e ∙ some in cc
 
@@ -106,11 +108,13 @@ minus_some (first ∷ rest) h = by_first (first == 48) refl h
     zero_alone [] none e k = rw e
     zero_alone (b ∷ tail) none e k = absurd (omega arith)
 
-    by_first : (b : Bool) → (first == 48) ≡ b → cond b (length rest == 0) (is_ascii_digit first && list_all is_ascii_digit rest) ≡ true → not (bytes_eq (first ∷ rest) (48 ∷ [])) ≡ is_some (minus (number_of (first ∷ rest)))
+    by_first : (b : Bool) → (first == 48) ≡ b → cond b (length rest == 0) (is_ascii_digit first && list_all is_ascii_digit rest) ≡ true
+        → not (bytes_eq (first ∷ rest) (48 ∷ [])) ≡ is_some (minus (number_of (first ∷ rest)))
     by_first true e k = zero_alone rest (grind (arith, nat_tests)) (grind (arith, nat_tests)) h
     by_first false e k =
         let left : not (bytes_eq (first ∷ rest) (48 ∷ [])) ≡ true = ap (λ (b : Bool). not (b && bytes_eq rest [])) e in
-        let right : is_some (minus (number_of (first ∷ rest))) ≡ true = ap (λ o. is_some (minus o)) (number_of-numeral (first ∷ rest) h) ∙ some_minus (digits_value 10 (first ∷ rest)) (positive first rest (and_left (is_ascii_digit first) (list_all is_ascii_digit rest) k) e) in
+        let right : is_some (minus (number_of (first ∷ rest))) ≡ true = ap (λ o. is_some (minus o)) (number_of-numeral (first ∷ rest) h)
+        ∙ some_minus (digits_value 10 (first ∷ rest)) (positive first rest (and_left (is_ascii_digit first) (list_all is_ascii_digit rest) k) e) in
         left ∙ sym right
 
 -- ---- arguments
@@ -147,22 +151,28 @@ minus_positive : (n : ℕ) → is_some (minus (Some n)) ≡ true → 0 < n
 minus_positive zero h = absurd (false≢true h)
 minus_positive (suc n) h = omega arith
 
-pub argument_read : {E : Type 0} (word text : List ℕ) (r : Result ℤ E) → is_some (argument_of word) ≡ true → text ≡ word → ParsesSigned w64 10 text r → result_ok r ≡ passing fits_64_bits (argument_of word)
+pub argument_read : {E : Type 0} (word text : List ℕ) (r : Result ℤ E) → is_some (argument_of word) ≡ true → text ≡ word → ParsesSigned w64 10 text r
+    → result_ok r ≡ passing fits_64_bits (argument_of word)
 argument_read [] text r h e p = absurd (false≢true h)
 argument_read (first ∷ rest) text r h e p = by_first (first == 45) refl h
   where
     q : ParsesSigned w64 10 (first ∷ rest) r
     q = subst (λ (t : List ℕ). ParsesSigned w64 10 t r) e p
 
-    by_first : (b : Bool) → (first == 45) ≡ b → is_some (if b then minus (number_of rest) else option_map pos (number_of (first ∷ rest))) ≡ true → result_ok r ≡ passing fits_64_bits (if b then minus (number_of rest) else option_map pos (number_of (first ∷ rest)))
+    by_first : (b : Bool) → (first == 45) ≡ b → is_some (if b then minus (number_of rest) else option_map pos (number_of (first ∷ rest))) ≡ true
+        → result_ok r ≡ passing fits_64_bits (if b then minus (number_of rest) else option_map pos (number_of (first ∷ rest)))
     by_first true f k =
         let numeral : is_numeral rest ≡ true = behind_minus rest k in
         let some : 0 < digits_value 10 rest = minus_positive (digits_value 10 rest) (ap (λ o. is_some (minus o)) (sym (number_of-numeral rest numeral)) ∙ k) in
         let begins : first ≡ 45 = grind (arith, nat_tests) in
-        ok_if (AreDigits rest × (0 < length rest) × (digits_value 10 rest ≤ 2 ^ 63)) (neg_ℤ (pos (digits_value 10 rest))) r (nat_le (digits_value 10 rest) (2 ^ 63)) (parse_signed_minus own w64 (first ∷ rest) r q begins) (λ t. (numeral_digits rest numeral, numeral_some rest numeral, search (rules, tests))) (λ t. search (rules, tests))
+        ok_if (AreDigits rest × (0 < length rest) × (digits_value 10 rest ≤ 2 ^ 63)) (neg_ℤ (pos (digits_value 10 rest))) r
+        (nat_le (digits_value 10 rest) (2 ^ 63)) (parse_signed_minus own w64 (first ∷ rest) r q begins)
+        (λ t. (numeral_digits rest numeral, numeral_some rest numeral, search (rules, tests))) (λ t. search (rules, tests))
         ∙ sym (ap (λ o. passing fits_64_bits (minus o)) (number_of-numeral rest numeral) ∙ fits_minus (digits_value 10 rest) some)
     by_first false f k =
         let word : List ℕ = first ∷ rest in
         let numeral : is_numeral word ≡ true = plain_numeral word k in
-        ok_if ((0 < length word) × (digits_value 10 word < 2 ^ 63)) (pos (digits_value 10 word)) r (nat_lt (digits_value 10 word) (2 ^ 63)) (parse_signed_digits own w64 word r q (numeral_digits word numeral)) (λ t. (numeral_some word numeral, search (rules, tests))) (λ t. search (rules, tests))
+        ok_if ((0 < length word) × (digits_value 10 word < 2 ^ 63)) (pos (digits_value 10 word)) r (nat_lt (digits_value 10 word) (2 ^ 63))
+        (parse_signed_digits own w64 word r q (numeral_digits word numeral)) (λ t. (numeral_some word numeral, search (rules, tests)))
+        (λ t. search (rules, tests))
         ∙ sym (ap (λ o. passing fits_64_bits (option_map pos o)) (number_of-numeral word numeral))

@@ -47,7 +47,8 @@ one_part : (xs : List ℕ) → prefix_len is_word_byte xs ≡ length xs → slic
 one_part [] h = refl
 one_part (x ∷ xs) h = by_first (is_blank x) refl (one_part xs) h
   where
-    by_first : (b : Bool) → is_blank x ≡ b → (prefix_len is_word_byte xs ≡ length xs → slice_split is_blank xs ≡ xs ∷ []) → cond (not b) (1 + prefix_len is_word_byte xs) 0 ≡ length (x ∷ xs) → slice_split is_blank (x ∷ xs) ≡ (x ∷ xs) ∷ []
+    by_first : (b : Bool) → is_blank x ≡ b → (prefix_len is_word_byte xs ≡ length xs → slice_split is_blank xs ≡ xs ∷ [])
+        → cond (not b) (1 + prefix_len is_word_byte xs) 0 ≡ length (x ∷ xs) → slice_split is_blank (x ∷ xs) ≡ (x ∷ xs) ∷ []
     by_first true e rec h = absurd (omega arith)
     by_first false e rec h = slice_split-cons_no is_blank x xs e ∙ ap (onto_first x) (rec (omega arith))
 

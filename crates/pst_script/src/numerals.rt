@@ -16,7 +16,7 @@ fn are_digits(bytes: &[u8]) -> bool
 }
 
 /// Whether the word is a numeral: `0`, or a digit from 1 to 9 and then digits.
-pub(crate) fn is_numeral(word: &[u8]) -> bool
+pub fn is_numeral(word: &[u8]) -> bool
     ensures { result ≡ is_numeral word.now }
 {
     match word.split_first() {

@@ -11,7 +11,8 @@ kept_by : (ps qs os us : List Place) (b : Bool) (k : ℕ) → k < (if b then len
 kept_by ps qs os us true k l = get_or_append_left ps qs no_place k l
 kept_by ps qs os us false k l = get_or_append_left os us no_place k l
 
-places_kept_by : (ps qs os : List Place) (b : Bool) (k : ℕ) → k < (if b then length ps else length os) → (if b then get_or (ps ++ qs) k no_place else get_or os k no_place) ≡ (if b then get_or ps k no_place else get_or os k no_place)
+places_kept_by : (ps qs os : List Place) (b : Bool) (k : ℕ) → k < (if b then length ps else length os)
+    → (if b then get_or (ps ++ qs) k no_place else get_or os k no_place) ≡ (if b then get_or ps k no_place else get_or os k no_place)
 places_kept_by ps qs os true k l = get_or_append_left ps qs no_place k l
 places_kept_by ps qs os false k l = refl
 
@@ -70,7 +71,8 @@ module _ (rows : List ForkRow) (old new : List Place) (fork : Fork) (row : ForkR
       ∙ ap (λ f. forks_of rows old ++ f ∷ []) here
 
 -- a fork is published
-places_set : (rows : List ForkRow) (i : ℕ) (row : ForkRow) → i < length rows → row ≡ get_or rows i row → places_of (set rows i (record { place = row.place; from = row.from; of_fork = row.of_fork; published = true })) ≡ places_of rows
+places_set : (rows : List ForkRow) (i : ℕ) (row : ForkRow) → i < length rows → row ≡ get_or rows i row
+    → places_of (set rows i (record { place = row.place; from = row.from; of_fork = row.of_fork; published = true })) ≡ places_of rows
 places_set [] i row l e = refl
 places_set (r ∷ rows) zero row l e = ap (λ (r : ForkRow). r.place ∷ places_of rows) e
 places_set (r ∷ rows) (suc i) row l e = ap (λ ps. r.place ∷ ps) (places_set rows i row (omega (arith, l)) e)
@@ -80,7 +82,8 @@ forks_set ps os [] i row = refl
 forks_set ps os (r ∷ rows) zero row = refl
 forks_set ps os (r ∷ rows) (suc i) row = ap (λ fs. fork_in ps os r ∷ fs) (forks_set ps os rows i row)
 
-numbered_set : (n m : ℕ) (rows : List ForkRow) (i : ℕ) (row : ForkRow) → AreNumbered n m rows → row ≡ get_or rows i row → AreNumbered n m (set rows i (record { place = row.place; from = row.from; of_fork = row.of_fork; published = true }))
+numbered_set : (n m : ℕ) (rows : List ForkRow) (i : ℕ) (row : ForkRow) → AreNumbered n m rows → row ≡ get_or rows i row
+    → AreNumbered n m (set rows i (record { place = row.place; from = row.from; of_fork = row.of_fork; published = true }))
 numbered_set n m [] i row h e = h
 numbered_set n m (r ∷ rows) zero row h e = (subst (λ (r : ForkRow). r.from < (if r.of_fork then n else m)) (sym e) h.0, h.1)
 numbered_set n m (r ∷ rows) (suc i) row h e = (h.0, numbered_set n m rows i row h.1 e)

@@ -58,7 +58,8 @@ module _ (s g : Stored) (from : Place) (e : s ≡ g) (k : IsKept s) (p : IsPubli
 
   pub refused_done : (places : List ℕ) (forks : List Fork) → places ≡ s.places → forks ≡ s.forks → ForkRefused (state_of g) (state_of (called s places forks))
   refused_done places forks a b = subst (λ (g : Stored). ForkRefused (state_of g) (state_of (called s places forks))) e
-      (subst (λ (ps : List ℕ). ForkRefused (state_of s) (state_of (called s ps forks))) (sym a) (subst (λ (fs : List Fork). ForkRefused (state_of s) (state_of (called s s.places fs))) (sym b) (fork_refused_law s k.store below).1))
+      (subst (λ (ps : List ℕ). ForkRefused (state_of s) (state_of (called s ps forks))) (sym a)
+      (subst (λ (fs : List Fork). ForkRefused (state_of s) (state_of (called s s.places fs))) (sym b) (fork_refused_law s k.store below).1))
 
   module _ (mid : List ℕ) (z : ℕ) (c : IsInsertedAfter s.places mid from.begin.0 z) where
     a : IsNewPlace s.places mid from.begin.0 z
@@ -75,7 +76,8 @@ module _ (s g : Stored) (from : Place) (e : s ≡ g) (k : IsKept s) (p : IsPubli
     broken_kept forks b = subst (λ (fs : List Fork). IsKept (called s mid fs)) (sym b) (record { store = broken.0; waiting = k.waiting; held = mid_held; counted = k.counted })
 
     broken_done : (forks : List Fork) → forks ≡ s.forks → ForkRefused (state_of g) (state_of (called s mid forks))
-    broken_done forks b = subst (λ (g : Stored). ForkRefused (state_of g) (state_of (called s mid forks))) e (subst (λ (fs : List Fork). ForkRefused (state_of s) (state_of (called s mid fs))) (sym b) broken.1)
+    broken_done forks b = subst (λ (g : Stored). ForkRefused (state_of g) (state_of (called s mid forks))) e
+        (subst (λ (fs : List Fork). ForkRefused (state_of s) (state_of (called s mid fs))) (sym b) broken.1)
 
   pub stopped_kept : (places : List ℕ) (forks : List Fork) → IsOneInAtMost s.places places from.begin.0 → forks ≡ s.forks → IsKept (called s places forks)
   stopped_kept places forks i b = elim i [
@@ -106,7 +108,8 @@ module _ (s g : Stored) (from : Place) (e : s ≡ g) (k : IsKept s) (p : IsPubli
     both = fork_law s from place i.mid places k.store here below (i.number ∙ count) first second
 
     pub forked_kept : forks' ≡ forks ++ row ∷ [] → forks ≡ s.forks → IsKept (called s places forks')
-    forked_kept x w = subst (λ (fs : List Fork). IsKept (called s places fs)) (sym (x ∙ ap (λ fs. fs ++ row ∷ []) w)) (record { store = both.0; waiting = k.waiting; held = both_held; counted = k.counted })
+    forked_kept x w = subst (λ (fs : List Fork). IsKept (called s places fs)) (sym (x ∙ ap (λ fs. fs ++ row ∷ []) w))
+        (record { store = both.0; waiting = k.waiting; held = both_held; counted = k.counted })
 
     pub forked_done : forks' ≡ forks ++ row ∷ [] → forks ≡ s.forks → Forked (state_of g) from place (state_of (called s places forks'))
     forked_done x w = subst (λ (g : Stored). Forked (state_of g) from place (state_of (called s places forks'))) e
@@ -122,7 +125,8 @@ pub record IsNext (s : Stored) (parent : VersionNo) (at : Place) : Type 0 where
   pub open_still : fork.published ≡ false
   pub origin : option_map (λ (row : VersionRow Place). row.place) (slice_get s.versions parent.0) ≡ Some fork.from
 
-module _ (s g : Stored) (parent : VersionNo) (run : RunNo) (at : Place) (e : s ≡ g) (k : IsKept s) (there : parent.0 < length (state_of g).versions) (is_fork : IfSome (slice_get (state_of g).versions parent.0) (λ row. IsOpenFork (state_of g) at row.place)) where
+module _ (s g : Stored) (parent : VersionNo) (run : RunNo) (at : Place) (e : s ≡ g) (k : IsKept s) (there : parent.0 < length (state_of g).versions)
+    (is_fork : IfSome (slice_get (state_of g).versions parent.0) (λ row. IsOpenFork (state_of g) at row.place)) where
   pub publish_there : parent.0 < length s.versions
   publish_there = subst (λ (g : Stored). parent.0 < length (state_of g).versions) (sym e) there
 
@@ -132,8 +136,11 @@ module _ (s g : Stored) (parent : VersionNo) (run : RunNo) (at : Place) (e : s �
   -- the row of the parent, at whose place the fork was made
   parent_row : (row : VersionRow Place) × (slice_get s.versions parent.0 ≡ Some row) × IsOpenFork (state_of s) at row.place
   parent_row =
-      let f : IfSome (slice_get s.versions parent.0) (λ row. IsOpenFork (state_of s) at row.place) = subst (λ (g : Stored). IfSome (slice_get (state_of g).versions parent.0) (λ row. IsOpenFork (state_of g) at row.place)) (sym e) is_fork in
-      elim (slice_get s.versions parent.0) as (λ (r : Option (VersionRow Place)). slice_get s.versions parent.0 ≡ r → IfSome r (λ row. IsOpenFork (state_of s) at row.place) → (row : VersionRow Place) × (slice_get s.versions parent.0 ≡ Some row) × IsOpenFork (state_of s) at row.place) [
+      let f : IfSome (slice_get s.versions parent.0) (λ row. IsOpenFork (state_of s) at row.place) =
+      subst (λ (g : Stored). IfSome (slice_get (state_of g).versions parent.0) (λ row. IsOpenFork (state_of g) at row.place)) (sym e) is_fork in
+      elim (slice_get s.versions parent.0) as (λ (r : Option (VersionRow Place)). slice_get s.versions parent.0 ≡ r
+      → IfSome r (λ row. IsOpenFork (state_of s) at row.place) → (row : VersionRow Place) × (slice_get s.versions parent.0 ≡ Some row)
+      × IsOpenFork (state_of s) at row.place) [
         | None ↦ λ is h. absurd (none_late s.versions parent.0 is publish_there)
         | Some row ↦ λ is h. (row, is, h)
       ] refl f
@@ -163,7 +170,8 @@ module _ (s g : Stored) (parent : VersionNo) (run : RunNo) (at : Place) (e : s �
   pub publish_index : at.number < length s.forks
   publish_index = slice_get-below s.forks at.number next.fork next.stands
 
-  module _ (f : Fork) (versions : List (VersionRow Place)) (forks : List Fork) (read : f ≡ get_or s.forks at.number f) (more : versions ≡ s.versions ++ record { parent = parent; run = run; place = at } ∷ [])
+  module _ (f : Fork) (versions : List (VersionRow Place)) (forks : List Fork) (read : f ≡ get_or s.forks at.number f)
+      (more : versions ≡ s.versions ++ record { parent = parent; run = run; place = at } ∷ [])
       (marked : forks ≡ set s.forks at.number (record f { published = true })) where
     same : f ≡ next.fork
     same = (let a : slice_get s.forks at.number ≡ Some f = slice_get-get_or s.forks at.number f publish_index ∙ ap (λ (f : Fork). Some f) (sym read) in let b = next.stands in cc)
@@ -172,20 +180,24 @@ module _ (s g : Stored) (parent : VersionNo) (run : RunNo) (at : Place) (e : s �
     stands_f = next.stands ∙ ap (λ (f : Fork). Some f) (sym same)
 
     next_both : IsStore (published s parent run at at.number f) × Published (state_of s) parent run at (record { 0 = length s.versions }) (state_of (published s parent run at at.number f))
-    next_both = publish_law s parent run at at.number f k.store (next.origin ∙ ap (λ (f : Fork). Some f.from) (sym same)) stands_f (ap (λ (f : Fork). f.place) same ∙ next.place) (ap (λ (f : Fork). f.published) same ∙ next.open_still)
+    next_both = publish_law s parent run at at.number f k.store (next.origin ∙ ap (λ (f : Fork). Some f.from) (sym same)) stands_f
+        (ap (λ (f : Fork). f.place) same ∙ next.place) (ap (λ (f : Fork). f.published) same ∙ next.open_still)
 
     pub published_kept : IsKept (record s { versions = versions; forks = forks })
     published_kept = subst (λ (fs : List Fork). IsKept (record s { versions = versions; forks = fs })) (sym marked)
-        (subst (λ (vs : List (VersionRow Place)). IsKept (record s { versions = vs; forks = set s.forks at.number (record f { published = true }) })) (sym more) (record { store = next_both.0; waiting = k.waiting; held = k.held; counted = k.counted }))
+        (subst (λ (vs : List (VersionRow Place)). IsKept (record s { versions = vs; forks = set s.forks at.number (record f { published = true }) }))
+        (sym more) (record { store = next_both.0; waiting = k.waiting; held = k.held; counted = k.counted }))
 
     pub published_done : (n : ℕ) → n ≡ length s.versions → Published (state_of g) parent run at (record { 0 = n }) (state_of (record s { versions = versions; forks = forks }))
     published_done n count = subst (λ (g : Stored). Published (state_of g) parent run at (record { 0 = n }) (state_of (record s { versions = versions; forks = forks }))) e
         (subst (λ (fs : List Fork). Published (state_of s) parent run at (record { 0 = n }) (state_of (record s { versions = versions; forks = fs }))) (sym marked)
-        (subst (λ (vs : List (VersionRow Place)). Published (state_of s) parent run at (record { 0 = n }) (state_of (record s { versions = vs; forks = set s.forks at.number (record f { published = true }) }))) (sym more)
+        (subst (λ (vs : List (VersionRow Place)). Published (state_of s) parent run at (record { 0 = n })
+        (state_of (record s { versions = vs; forks = set s.forks at.number (record f { published = true }) }))) (sym more)
         (subst (λ (n : ℕ). Published (state_of s) parent run at (record { 0 = n }) (state_of (published s parent run at at.number f))) (sym count) next_both.1)))
 
 -- a publication that was refused
-pub unpublished : (s g : Stored) (versions : List (VersionRow Place)) → s ≡ g → versions ≡ s.versions → Unchanged (state_of g) (state_of (record s { versions = versions })) × WritesStay (state_of g) (state_of (record s { versions = versions }))
+pub unpublished : (s g : Stored) (versions : List (VersionRow Place)) → s ≡ g → versions ≡ s.versions
+    → Unchanged (state_of g) (state_of (record s { versions = versions })) × WritesStay (state_of g) (state_of (record s { versions = versions }))
 unpublished s g versions e same = subst (λ (g : Stored). Unchanged (state_of g) (state_of (record s { versions = versions })) × WritesStay (state_of g) (state_of (record s { versions = versions }))) e
     (subst (λ (vs : List (VersionRow Place)). Unchanged (state_of s) (state_of (record s { versions = vs })) × WritesStay (state_of s) (state_of (record s { versions = vs }))) (sym same)
     (record { keeps = Keeps_refl (state_of s); heaps = λ p i. refl; counts = refl }, WritesStay_refl (state_of s)))

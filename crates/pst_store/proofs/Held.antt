@@ -77,7 +77,8 @@ pub held_pushed : (places : List ℕ) (nodes : List Node) (n : Node) (a : Noted)
 held_pushed places nodes n a h = held_kept (arena_at places nodes) (arena_at places (nodes ++ n ∷ [])) a a (roots_same a) (order_pushed places nodes n) h
 
 -- where all nodes of the root record are held, so they are when a node of another record comes in
-pub all_held_pushed : (places : List ℕ) (nodes : List Node) (n : Node) (a : Noted) → (n.head.name ≡ root_name → ⊥) → AreAllHeld (arena_at places nodes) a → AreAllHeld (arena_at places (nodes ++ n ∷ [])) a
+pub all_held_pushed : (places : List ℕ) (nodes : List Node) (n : Node) (a : Noted) → (n.head.name ≡ root_name → ⊥)
+    → AreAllHeld (arena_at places nodes) a → AreAllHeld (arena_at places (nodes ++ n ∷ [])) a
 all_held_pushed places nodes n a other all i l e = elim (cases_lt i (length nodes)) [
   | inl lt ↦ all i lt (sym (of_node-old (λ n. n.head.name) root_name nodes n i lt) ∙ e)
   | inr le ↦ absurd (other (sym (of_node-new (λ n. n.head.name) root_name nodes n) ∙ subst (λ (j : ℕ). of_node (λ n. n.head.name) root_name (nodes ++ n ∷ []) j ≡ root_name) (last le) e))
@@ -94,9 +95,11 @@ order_inserted old new k n = record {
   order = λ i j a b l. omega (arith, n.lo i a, n.lo j b, l, shift_cases k (old.lo i), shift_cases k (old.lo j));
 }
 
-pub held_inserted : (old new : List ℕ) (nodes : List Node) (p z : ℕ) (a : Noted) → AllRows (rank old) (length old) (rows nodes) → IsNewPlace old new p z → AreHeld (arena_at old nodes) a → AreHeld (arena_at new nodes) a
+pub held_inserted : (old new : List ℕ) (nodes : List Node) (p z : ℕ) (a : Noted) → AllRows (rank old) (length old) (rows nodes)
+    → IsNewPlace old new p z → AreHeld (arena_at old nodes) a → AreHeld (arena_at new nodes) a
 held_inserted old new nodes p z a h n held =
-    let ins : IsInsertedAfter (rank old) (rank new) (rank old p) z = subst (λ (qs : List ℕ). IsInsertedAfter (rank old) (rank qs) (rank old p) z) (sym n.list) (rank_law old (rank old p) z n.there n.fresh) in
+    let ins : IsInsertedAfter (rank old) (rank new) (rank old p) z =
+    subst (λ (qs : List ℕ). IsInsertedAfter (rank old) (rank qs) (rank old p) z) (sym n.list) (rank_law old (rank old p) z n.there n.fresh) in
     held_kept (arena_at old nodes) (arena_at new nodes) a a (roots_same a)
     (order_inserted (arena_at old nodes) (arena_at new nodes) (rank old p) (arena_inserted (rank old) (rank new) (rank old p) z ins nodes (rows_apart old z n.fresh (rows nodes) h))) held
 

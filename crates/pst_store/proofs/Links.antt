@@ -38,7 +38,8 @@ module _ (s g : Stored) (nodes : List Node) (noted : Noted) (at : Place) (id : �
   holding ns = with_nodes s ns noted (one_record s.counts)
 
   made : IsStore (holding (s.nodes ++ a.node ∷ [])) × Allocated (state_of s) at ty q (record { 0 = length s.nodes }) (state_of (holding (s.nodes ++ a.node ∷ [])))
-  made = allocate_law s noted at ty q a.node k.store (at_s s g (λ (s : Stored). (state_of s).writable at) e o) (at_s s g (λ (s : Stored). IsNewType (state_of s) ty) e known) (at_s s g (λ (s : Stored). IsFresh (state_of s) q) e fresh) a.made
+  made = allocate_law s noted at ty q a.node k.store (at_s s g (λ (s : Stored). (state_of s).writable at) e o)
+      (at_s s g (λ (s : Stored). IsNewType (state_of s) ty) e known) (at_s s g (λ (s : Stored). IsFresh (state_of s) q) e fresh) a.made
 
   pub make_kept : IsKept (holding nodes)
   make_kept = subst (λ (ns : List Node). IsKept (holding ns)) (sym a.list)
@@ -58,7 +59,9 @@ module _ (s g : Stored) (nodes : List Node) (noted : Noted) (at : Place) (id : �
   -- the new record is not the root record, which is in each heap
   not_root : a.node.head.name ≡ root_name → ⊥
   not_root is =
-      let none : get ((state_of s).heap s.start) root_name ≡ None = subst (λ (n : Name). get ((state_of s).heap s.start) n ≡ None) (sym a.made.name ∙ is) ((at_s s g (λ (s : Stored). IsFresh (state_of s) q) e fresh).fresh s.start (inl refl)) in
+      let none : get ((state_of s).heap s.start) root_name ≡ None =
+      subst (λ (n : Name). get ((state_of s).heap s.start) n ≡ None) (sym a.made.name ∙ is)
+      ((at_s s g (λ (s : Stored). IsFresh (state_of s) q) e fresh).fresh s.start (inl refl)) in
       let there : type_in ((state_of s).heap s.start) root_name ≡ Some root_type = ((store_is_sound s k.store).well_formed s.start (inl refl)).root in
       let no_type : None ≡ Some root_type = sym (type-from_none ((state_of s).heap s.start) root_name none) ∙ there in
       absurd (cc)
@@ -120,18 +123,21 @@ module _ (s g : Stored) (nodes : List Node) (noted : Noted) (at : Place) (r : No
   }
 
   pub null_stored : PointerStored (state_of g) at ((state_of g).name r) f None (state_of without)
-  null_stored = subst (λ (g : Stored). PointerStored (state_of g) at ((state_of g).name r) f None (state_of without)) w.view_is (subst (λ (n : Name). PointerStored (state_of s) at n f None (state_of without)) w.same null_step.1)
+  null_stored = subst (λ (g : Stored). PointerStored (state_of g) at ((state_of g).name r) f None (state_of without)) w.view_is
+      (subst (λ (n : Name). PointerStored (state_of s) at n f None (state_of without)) w.same null_step.1)
 
   pub null_writes : WritesStay (state_of g) (state_of without)
   null_writes = subst (λ (g : Stored). WritesStay (state_of g) (state_of without)) w.view_is null_step.2
 
 -- ---- a pointer is written
 
-module _ (s g : Stored) (at : Place) (r q : NodeId) (x y f : ℕ) (w : IsFound s g at r x) (v : IsFound s g at q y) (fits : FitsField ((state_of g).heap at) (kind_at g at r f) (Some ((state_of g).name q))) where
+module _ (s g : Stored) (at : Place) (r q : NodeId) (x y f : ℕ) (w : IsFound s g at r x) (v : IsFound s g at q y)
+    (fits : FitsField ((state_of g).heap at) (kind_at g at r f) (Some ((state_of g).name q))) where
   -- the field's type is that of the node
   pub link_kind : field_kind (type_at s.shape ((arena s).ty x)) f ≡ Some (Pointer ((arena s).ty y))
   link_kind =
-      let here_fits : FitsField ((state_of s).heap at) (kind_at s at r f) (Some ((state_of s).name q)) = at_s s g (λ (s : Stored). FitsField ((state_of s).heap at) (kind_at s at r f) (Some ((state_of s).name q))) w.view_is fits in
+      let here_fits : FitsField ((state_of s).heap at) (kind_at s at r f) (Some ((state_of s).name q)) =
+      at_s s g (λ (s : Stored). FitsField ((state_of s).heap at) (kind_at s at r f) (Some ((state_of s).name q))) w.view_is fits in
       sym (found_kind s g at r x w f) ∙ here_fits.1 ∙ ap (option_map Pointer) (found_type s g at q y v)
 
   -- whether there is room, by the slots
@@ -142,7 +148,8 @@ module _ (s g : Stored) (at : Place) (r q : NodeId) (x y f : ℕ) (w : IsFound s
   both = full_law s.shape (end_of s s.start) (arena s) (begin_of s at) x f y w.kept.store.arena (drawn (rank s.places) (length s.places) s.nodes w.kept.store.rows) w.inside v.inside link_kind
 
   pub link_full : AreOthers g.shape (arena g) y (begin_of g at) x f → HasNoRoom g at r f q
-  link_full h = subst (λ (g : Stored). HasNoRoom g at r f q) w.view_is (subst (λ (T : Type 0). T) full_is (both.1 (at_s s g (λ (s : Stored). AreOthers s.shape (arena s) y (begin_of s at) x f) w.view_is h)))
+  link_full h = subst (λ (g : Stored). HasNoRoom g at r f q) w.view_is
+      (subst (λ (T : Type 0). T) full_is (both.1 (at_s s g (λ (s : Stored). AreOthers s.shape (arena s) y (begin_of s at) x f) w.view_is h)))
 
   pub link_slot : (i : ℕ) → IsOpenTo g.shape (arena g) y (begin_of g at) x f i → IsOpenTo s.shape (arena s) y (begin_of s at) x f i
   link_slot i o = at_s s g (λ (s : Stored). IsOpenTo s.shape (arena s) y (begin_of s at) x f i) w.view_is o
@@ -150,16 +157,19 @@ module _ (s g : Stored) (at : Place) (r q : NodeId) (x y f : ℕ) (w : IsFound s
   pub link_room : (i : ℕ) → IsOpenTo g.shape (arena g) y (begin_of g at) x f i → ¬ (HasNoRoom g at r f q)
   link_room i free full =
       let o = link_slot i free in
-      let each = both.0 (subst (λ (T : Type 0). T) (sym full_is) (at_s s g (λ (s : Stored). HasNoRoom s at r f q) w.view_is full)) (i - element_count (type_at s.shape ((arena s).ty y))) (omega (arith, o.inverse.from, o.inverse.below)) in
+      let each = both.0 (subst (λ (T : Type 0). T) (sym full_is) (at_s s g (λ (s : Stored). HasNoRoom s at r f q) w.view_is full))
+      (i - element_count (type_at s.shape ((arena s).ty y))) (omega (arith, o.inverse.from, o.inverse.below)) in
       let at_i : element_count (type_at s.shape ((arena s).ty y)) + (i - element_count (type_at s.shape ((arena s).ty y))) ≡ i = omega (arith, o.inverse.from) in
       false≢true (sym o.available ∙ ap (λ (g : ℕ). is_other_entry x f ((arena s).chart.holds y g (begin_of s at))) (sym at_i) ∙ each)
 
-  module _ (nodes : List Node) (noted : Noted) (i : ℕ) (o : (state_of g).writable at) (z : IsPointerWritten s.shape s.places s.nodes nodes x f at y i) (d : IsWritten s.shape s.places nodes s.noted noted) (room : HasRoom (state_of g)) where
+  module _ (nodes : List Node) (noted : Noted) (i : ℕ) (o : (state_of g).writable at) (z : IsPointerWritten s.shape s.places s.nodes nodes x f at y i)
+      (d : IsWritten s.shape s.places nodes s.noted noted) (room : HasRoom (state_of g)) where
     abbrev linked : Stored
     linked = with_nodes s nodes noted (one_pointer s.counts)
 
     link_step : IsStore linked × PointerStored (state_of s) at ((arena s).name x) f (Some ((arena s).name y)) (state_of linked) × WritesStay (state_of s) (state_of linked)
-    link_step = link_law s z.mid nodes noted at x f y i w.kept.store (at_s s g (λ (s : Stored). (state_of s).writable at) w.view_is o) (z.mid_rows, z.mid_wide) (d.rows, d.wide) z.grown w.inside link_kind z.cleared z.put
+    link_step = link_law s z.mid nodes noted at x f y i w.kept.store (at_s s g (λ (s : Stored). (state_of s).writable at) w.view_is o)
+        (z.mid_rows, z.mid_wide) (d.rows, d.wide) z.grown w.inside link_kind z.cleared z.put
 
     pub link_kept : IsKept linked
     link_kept = record {
@@ -173,7 +183,8 @@ module _ (s g : Stored) (at : Place) (r q : NodeId) (x y f : ℕ) (w : IsFound s
 
     pub link_stored : PointerStored (state_of g) at ((state_of g).name r) f (Some ((state_of g).name q)) (state_of linked)
     link_stored = subst (λ (g : Stored). PointerStored (state_of g) at ((state_of g).name r) f (Some ((state_of g).name q)) (state_of linked)) w.view_is
-        (subst (λ (n : Name). PointerStored (state_of s) at ((arena s).name r.0) f (Some n) (state_of linked)) v.same (subst (λ (n : Name). PointerStored (state_of s) at n f (Some ((arena s).name y)) (state_of linked)) w.same link_step.1))
+        (subst (λ (n : Name). PointerStored (state_of s) at ((arena s).name r.0) f (Some n) (state_of linked)) v.same
+        (subst (λ (n : Name). PointerStored (state_of s) at n f (Some ((arena s).name y)) (state_of linked)) w.same link_step.1))
 
     pub link_writes : WritesStay (state_of g) (state_of linked)
     link_writes = subst (λ (g : Stored). WritesStay (state_of g) (state_of linked)) w.view_is link_step.2

@@ -26,7 +26,8 @@ one_is (x ∷ []) p l i = elim (x == p) as (λ b. (x == p) ≡ b → x ∷ [] �
 one_is (x ∷ y ∷ ys) p l i = absurd (omega arith)
 
 module _ (shape : List TypeShape) (one places : List ℕ) (start : Place) (nodes : List Node) (noted : Noted) (valid : IsValid shape) (single : length one ≡ 1) (first : IsIn one start.begin.0)
-    (new : IsInsertedAfter one places start.begin.0 start.end.0) (root : (n : Node) × (nodes ≡ n ∷ []) × IsNewNode shape n root_name root_type start) (fresh_noted : noted ≡ record { queue = []; roots = 0 ∷ []; seen = 1 }) where
+    (new : IsInsertedAfter one places start.begin.0 start.end.0) (root : (n : Node) × (nodes ≡ n ∷ []) × IsNewNode shape n root_name root_type start)
+    (fresh_noted : noted ≡ record { queue = []; roots = 0 ∷ []; seen = 1 }) where
   is_one : one ≡ start.begin.0 ∷ []
   is_one = one_is one start.begin.0 single first
 
@@ -78,13 +79,18 @@ module _ (shape : List TypeShape) (one places : List ℕ) (start : Place) (nodes
       one_held zero i e = let z : 0 ≡ i = cc in (omega arith, subst (λ (i : ℕ). (arena (started shape start root.0)).name i ≡ root_name) z root.2.name)
       one_held (suc k) i e = absurd (none_there k i e)
 
-  pub start_kept : (shape' : List TypeShape) (versions : List (VersionRow Place)) (forks : List Fork) (relics : List Place) → shape' ≡ shape → versions ≡ first_row start ∷ [] → forks ≡ [] → relics ≡ [] → IsKept (record (made places nodes noted) { shape = shape'; versions = versions; forks = forks; relics = relics })
-  start_kept shape' versions forks relics sh v f x = subst (λ (sp : List TypeShape). IsKept (record (made places nodes noted) { shape = sp; versions = versions; forks = forks; relics = relics })) (sym sh)
+  pub start_kept : (shape' : List TypeShape) (versions : List (VersionRow Place)) (forks : List Fork) (relics : List Place) → shape' ≡ shape
+      → versions ≡ first_row start ∷ [] → forks ≡ [] → relics ≡ []
+      → IsKept (record (made places nodes noted) { shape = shape'; versions = versions; forks = forks; relics = relics })
+  start_kept shape' versions forks relics sh v f x = subst (λ (sp : List TypeShape). IsKept
+      (record (made places nodes noted) { shape = sp; versions = versions; forks = forks; relics = relics })) (sym sh)
       (subst (λ (vs : List (VersionRow Place)). IsKept (record (made places nodes noted) { versions = vs; forks = forks; relics = relics })) (sym v)
       (subst (λ (fs : List Fork). IsKept (record (made places nodes noted) { forks = fs; relics = relics })) (sym f)
       (subst (λ (ps : List Place). IsKept (record (made places nodes noted) { relics = ps })) (sym x) (subst IsKept (sym same) kept))))
 
-  pub start_done : (shape' : List TypeShape) (versions : List (VersionRow Place)) (forks : List Fork) (relics : List Place) → shape' ≡ shape → versions ≡ first_row start ∷ [] → forks ≡ [] → relics ≡ [] → IsStarted shape (record (made places nodes noted) { shape = shape'; versions = versions; forks = forks; relics = relics })
+  pub start_done : (shape' : List TypeShape) (versions : List (VersionRow Place)) (forks : List Fork) (relics : List Place) → shape' ≡ shape
+      → versions ≡ first_row start ∷ [] → forks ≡ [] → relics ≡ []
+      → IsStarted shape (record (made places nodes noted) { shape = shape'; versions = versions; forks = forks; relics = relics })
   start_done shape' versions forks relics sh v f x = record {
     shape_is = sh;
     rested = subst (λ (sp : List TypeShape). IsRested (record (made places nodes noted) { shape = sp; versions = versions; forks = forks; relics = relics })) (sym sh)
@@ -97,5 +103,7 @@ module _ (shape : List TypeShape) (one places : List ℕ) (start : Place) (nodes
     relics = x;
     spent = refl;
     counts = refl;
-    heap = subst (λ (sp : List TypeShape). (state_of (record (made places nodes noted) { shape = sp; versions = versions; forks = forks; relics = relics })).heap start ≡ initial_heap shape) (sym sh) (ap (λ (s : Stored). (state_of s).heap start) same ∙ whole.2);
+    heap = subst (λ (sp : List TypeShape). (state_of (record (made places nodes noted)
+        { shape = sp; versions = versions; forks = forks; relics = relics })).heap start ≡ initial_heap shape) (sym sh)
+        (ap (λ (s : Stored). (state_of s).heap start) same ∙ whole.2);
   }

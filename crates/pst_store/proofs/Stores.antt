@@ -78,7 +78,8 @@ pub record IsRepairedTo (s : Stored) (nodes : List Node) (noted : Noted) : Type 
   pub waiting : AreWaiting s.shape nodes noted.queue
   pub held : AreHeld (arena_at s.places nodes) noted
 
-pub repaired_to : (s : Stored) (nodes : List Node) (noted : Noted) → IsKept s → IsRepaired s.shape s.places s.nodes nodes → AreWaiting s.shape nodes noted.queue → AreHeld (arena_at s.places nodes) noted → IsRepairedTo s nodes noted
+pub repaired_to : (s : Stored) (nodes : List Node) (noted : Noted) → IsKept s → IsRepaired s.shape s.places s.nodes nodes
+    → AreWaiting s.shape nodes noted.queue → AreHeld (arena_at s.places nodes) noted → IsRepairedTo s nodes noted
 repaired_to s nodes noted k r w h = record { repaired = r; waiting = w; held = h }
 
 pub kept_repaired : (s : Stored) (nodes : List Node) (noted : Noted) → IsKept s → IsRepairedTo s nodes noted → IsKept (with_nodes s nodes noted s.counts)

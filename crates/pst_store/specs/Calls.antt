@@ -7,14 +7,33 @@ use Rattle.pst_base.specs.declared.names.Kind.{Kind}
 use Rattle.pst_base.specs.declared.shape.TypeShape.{TypeShape}
 use Rattle.pst_base.specs.Heap.{initial_heap, kind_in, IsFull}
 use Rattle.pst_versions.specs.Rows.{first_row}
+use Rattle.pst_versions.specs.declared.rows.VersionRow.{VersionRow}
 use Rattle.pst_versions.specs.declared.heap_at.StoreFault.{StoreFault}
 use Rattle.pst_versions.specs.declared.heap_at.StoreFault.TheVariants.{InDegree, Memory}
 use Rattle.pst_order.specs.Places.{IsInsertedAfter}
 use Rattle.pst_versions.specs.State.{ValueStored, PointerStored, Unchanged, WritesStay}
 use Rattle.pst_store_meaning.specs.declared.place.Place.{Place}
-use Rattle.pst_store_meaning.specs.Store.{Stored, arena, AreAllHeld, AreHeld, IsRested, IsStore, state_of}
+use Rattle.pst_store_meaning.specs.declared.place.Fork.{Fork}
+use Rattle.pst_store_meaning.specs.Store.{Node, Noted, Stored, arena, AreAllHeld, AreHeld, IsRested, IsStore, state_of}
 use Rattle.pst_store_meaning.specs.Steps.{HasGrownBy}
 use Rattle.pst_store_arena.specs.Calls.{AreWaiting, IsRepaired}
+
+-- a store of these parts
+abbrev pub stored_of : (shape : List TypeShape) (places : List ℕ) (nodes : List Node) (noted : Noted) (start : Place) (versions : List (VersionRow Place))
+    (forks : List Fork) (calls : ℕ) (relics : List Place) (spent : ℕ) (counts : Counts) → Stored
+stored_of shape places nodes noted start versions forks calls relics spent counts = record {
+  shape = shape;
+  places = places;
+  nodes = nodes;
+  noted = noted;
+  start = start;
+  versions = versions;
+  forks = forks;
+  calls = calls;
+  relics = relics;
+  spent = spent;
+  counts = counts;
+}
 
 -- each count is at most 2^60, so that the sums of the bound on nodes fit 64 bits
 pub record AreCounted (counts : Counts) : Type 0 where

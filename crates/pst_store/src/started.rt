@@ -5,7 +5,7 @@ use crate::forking::{Near, first_roots, insert_place, note_root, reserve_one};
 use crate::types::{capacity_of, field_kind};
 use pst_base::{Counts, Kind, Name, NoMemory, NodeId, RunNo, Shape, SlotNo, TypeNo, VersionNo};
 use pst_order::Order;
-use pst_store_arena::{Arena, FatNodes};
+use pst_store_arena::FatNodes;
 use pst_store_meaning::place::{Fork, Place};
 use pst_versions::{MOST_FORKS, StoreFault, Versions};
 use std::alloc::Global;
@@ -49,26 +49,27 @@ pub struct Parts<O: Order + Drop, N: FatNodes> {
 impl<O: Order + Drop, N: FatNodes> Model for Parts<O, N> {
     ghost use Rattle.pst_store_meaning.specs.Store.{Stored};
     ghost use Rattle.pst_store.specs.Codes.{coded_stored};
+    ghost use Rattle.pst_store.specs.Calls.{stored_of};
 
     ghost Value = { Stored };
 
     ghost coded = { coded_stored };
 
-    ghost view = { λ p. record { shape = p.shape; places = O.places p.order; nodes = N.nodes p.nodes; noted = N.noted p.nodes; start = p.start; versions = p.versions; forks = p.forks.items; calls = p.calls; relics = p.relics.items; spent = p.spent; counts = p.counts } };
+    ghost view = { λ p. stored_of p.shape (O.places p.order) (N.nodes p.nodes) (N.noted p.nodes) p.start p.versions p.forks.items p.calls p.relics.items p.spent p.counts };
 }
 
 impl<O: Order + Drop, N: FatNodes> Model for Started<O, N> {
     ghost use Rattle.pst_store_meaning.specs.Store.{Stored};
     ghost use Rattle.pst_store.specs.Codes.{coded_stored};
-    ghost use Rattle.pst_store.specs.Calls.{IsKept};
+    ghost use Rattle.pst_store.specs.Calls.{IsKept, stored_of};
 
     ghost Value = { Stored };
 
     ghost coded = { coded_stored };
 
-    ghost view = { λ s. record { shape = s.shape; places = O.places s.order; nodes = N.nodes s.nodes; noted = N.noted s.nodes; start = s.start; versions = s.versions; forks = s.forks.forks; calls = s.calls; relics = s.relics.items; spent = s.spent; counts = s.counts } };
+    ghost view = { λ s. stored_of s.shape (O.places s.order) (N.nodes s.nodes) (N.noted s.nodes) s.start s.versions s.forks.forks s.calls s.relics.items s.spent s.counts };
 
-    ghost invariant = { λ s. IsKept (record { shape = s.shape; places = O.places s.order; nodes = N.nodes s.nodes; noted = N.noted s.nodes; start = s.start; versions = s.versions; forks = s.forks.forks; calls = s.calls; relics = s.relics.items; spent = s.spent; counts = s.counts }) };
+    ghost invariant = { λ s. IsKept (stored_of s.shape (O.places s.order) (N.nodes s.nodes) (N.noted s.nodes) s.start s.versions s.forks.forks s.calls s.relics.items s.spent s.counts) };
 }
 
 impl<O: Order + Drop, N: FatNodes> Started<O, N> {
@@ -206,6 +207,7 @@ impl<O: Order + Drop, N: FatNodes> Started<O, N> {
         requires { (state_of self.now).has at }
         ensures name { (state_of self.now).name result ≡ root_name }
         ensures live { (state_of self.now).live at result }
+        ensures covers { IsIn (arena self.now) result.0 (begin_of self.now at) }
     {
         let near = match self.roots.get(at.number as usize) {
             Some(near) => *near,
@@ -508,10 +510,11 @@ impl<O: Order + Drop, N: FatNodes> Started<O, N> {
     }
 
     /// A new place that can be written, with the heap of a published place. Its end comes in first, so that its begin then
-    /// comes to stand before it: both directly behind the begin of the place that is forked.
+    /// comes to stand before it: both directly behind the begin of the place that is forked. No node changes.
     pub fn make_fork(&mut self, from: Place) -> Result<Place, NoMemory>
         requires published { IsPublished (state_of self.old) from }
         requires calls { (state_of self.old).fork_calls < MOST_FORKS }
+        ensures nodes { self.new.nodes ≡ self.old.nodes }
         ensures noted { self.new.noted ≡ self.old.noted }
         ensures ok { IfOk result (λ place. Forked (state_of self.old) from place (state_of self.new)) }
         ensures err { OnErr result (ForkRefused (state_of self.old) (state_of self.new)) }
@@ -531,7 +534,7 @@ impl<O: Order + Drop, N: FatNodes> Started<O, N> {
         Ok(place)
     }
 
-    /// Makes an unpublished place the next version.
+    /// Makes an unpublished place the next version. No node changes.
     pub fn make_version(
         &mut self,
         parent: VersionNo,
@@ -540,6 +543,7 @@ impl<O: Order + Drop, N: FatNodes> Started<O, N> {
     ) -> Result<VersionNo, NoMemory>
         requires there { parent.0 < length (state_of self.old).versions }
         requires forked { IfSome (slice_get (state_of self.old).versions parent.0) (λ row. IsOpenFork (state_of self.old) at row.place) }
+        ensures nodes { self.new.nodes ≡ self.old.nodes }
         ensures noted { self.new.noted ≡ self.old.noted }
         ensures ok { IfOk result (λ version. Published (state_of self.old) parent run at version (state_of self.new)) }
         ensures err { OnErr result (Same self.old self.new × Stays self.old self.new) }
@@ -577,21 +581,5 @@ impl<O: Order + Drop, N: FatNodes> Started<O, N> {
         ensures { result ≡ self.now.counts }
     {
         self.counts
-    }
-}
-
-impl<O: Order + Drop> Started<O, Arena> {
-    ghost use Rattle.std.specs.Prelude.{◌≡◌, ◌+◌, IfOk, [], false, length};
-    ghost use Rattle.pst_repair.specs.Repair.{splits_in};
-    ghost use Rattle.pst_store.specs.Calls.{Same, Stays};
-
-    /// Splits the node that waits first, and answers whether one waited: a repair is such steps, and tests make one alone.
-    pub fn split_once(&mut self) -> Result<bool, NoMemory>
-        ensures same { Same self.old self.new }
-        ensures stays { Stays self.old self.new }
-        ensures rested { IfOk result (λ more. more ≡ false → self.new.noted.queue ≡ []) }
-        ensures count { IfOk result (λ more. length self.new.nodes ≡ length self.old.nodes + splits_in more) }
-    {
-        self.nodes.split_next(&self.order, &self.shape)
     }
 }

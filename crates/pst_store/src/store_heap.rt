@@ -18,6 +18,7 @@ impl<O: Order + Drop, N: FatNodes> HeapAt for StoreOf<O, N> {
     ghost use Rattle.std.specs.Prelude.{◌≡◌, ◌⊎◌, [], Some, IfOk, IfSome, OnOk, OnErr};
     ghost use Rattle.pst_base.specs.declared.names.Kind.TheVariants.{Int};
     ghost use Rattle.pst_base.specs.Heap.{kind_in};
+    ghost use Rattle.pst_base.specs.Name.{root_name};
     ghost use Rattle.pst_versions.specs.State.{Allocated, HasRoom, IsFresh, IsNewType, Unchanged, ValueStored, WritesStay};
     ghost use Rattle.pst_versions.specs.Store.{MayStorePointer, PointerOutcome};
     ghost use Rattle.pst_store_meaning.specs.Arena.{IsIn};
@@ -31,7 +32,12 @@ impl<O: Order + Drop, N: FatNodes> HeapAt for StoreOf<O, N> {
         self.whole();
     }
 
-    fn root(&self, at: Place) -> NodeId {
+    fn root(&self, at: Place) -> NodeId
+        requires { (state_in self.now).has at }
+        ensures name { (state_in self.now).name result ≡ root_name }
+        ensures live { (state_in self.now).live at result }
+        ensures covers { IfSome self.now (λ s. IsIn (arena s) result.0 (begin_of s at)) }
+    {
         self.begun().root(at)
     }
 
@@ -145,7 +151,7 @@ impl<O: Order + Drop, N: FatNodes> VersionedHeap for StoreOf<O, N> {
     ghost use Rattle.std.specs.Prelude.{◌≡◌, ◌<◌, IfOk, IfSome, OnErr, length, slice_get};
     ghost use Rattle.pst_versions.specs.State.{ForkRefused, Forked, IsOpenFork, IsPublished, Published, Unchanged, WritesStay};
     ghost use Rattle.pst_versions.specs.declared.versioned.TheConstants.{MOST_FORKS};
-    ghost use Rattle.pst_store.specs.Whole.{queue_in, state_in};
+    ghost use Rattle.pst_store.specs.Whole.{nodes_in, queue_in, state_in};
 
     fn known_versions(&self) {
         self.whole();
@@ -156,6 +162,7 @@ impl<O: Order + Drop, N: FatNodes> VersionedHeap for StoreOf<O, N> {
         requires calls { (state_in self.old).fork_calls < MOST_FORKS }
         ensures ok { IfOk result (λ place. Forked (state_in self.old) from place (state_in self.new)) }
         ensures err { OnErr result (ForkRefused (state_in self.old) (state_in self.new)) }
+        ensures nodes { nodes_in self.new ≡ nodes_in self.old }
         ensures queue { queue_in self.new ≡ queue_in self.old }
     {
         match &mut self.started {
@@ -169,6 +176,7 @@ impl<O: Order + Drop, N: FatNodes> VersionedHeap for StoreOf<O, N> {
         requires forked { IfSome (slice_get (state_in self.old).versions parent.0) (λ row. IsOpenFork (state_in self.old) at row.place) }
         ensures ok { IfOk result (λ version. Published (state_in self.old) parent run at version (state_in self.new)) }
         ensures err { OnErr result (Unchanged (state_in self.old) (state_in self.new) × WritesStay (state_in self.old) (state_in self.new)) }
+        ensures nodes { nodes_in self.new ≡ nodes_in self.old }
         ensures queue { queue_in self.new ≡ queue_in self.old }
     {
         match &mut self.started {

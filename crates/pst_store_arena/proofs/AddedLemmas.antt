@@ -26,7 +26,8 @@ use Rattle.pst_store_arena.specs.Calls.{IsNodeAdded}
 use Rattle.pst_store_arena.specs.Kept.{AreLinked, IsRowAdded, waiting_of}
 use Rattle.pst_store_arena.proofs.WaitingLemmas.{waiting_push}
 
-pub added_ok : (types : List TypeShape) (old new : List Node) (r : Result NodeId AllocError) (q : Name) (ty : TypeNo) (at : Place) (row : Row) → IfOk r (λ id. id.0 ≡ length old) → OnOk r (new ≡ old ++ new_node q ty row ∷ []) → IsNewRow (type_at types ty) at.begin at.end row →
+pub added_ok : (types : List TypeShape) (old new : List Node) (r : Result NodeId AllocError) (q : Name) (ty : TypeNo) (at : Place) (row : Row)
+    → IfOk r (λ id. id.0 ≡ length old) → OnOk r (new ≡ old ++ new_node q ty row ∷ []) → IsNewRow (type_at types ty) at.begin at.end row →
     IfOk r (λ id. IsRowAdded types old new id.0 q ty at)
 added_ok types old new (Ok id) q ty at row number list made = record { number = number; row = row; list = list; made = made }
 added_ok types old new (Err e) q ty at row number list made = tt
@@ -101,7 +102,12 @@ module _ (types : List TypeShape) (old new : List Node) (id : ℕ) (q : Name) (t
   first_linked queue e = added_linked types old new id q ty at h queue (subst (λ (ns : List Node). AreLinked ns queue) (sym none) (none_linked queue e))
 
   pub first_seen : (n : Seen) × (seen new ≡ n ∷ []) × IsNewNode types n q ty at
-  first_seen = (seen_node (new_node q ty h.row), added_list types old new id q ty at h ∙ ap (λ (ns : List Node). seen ns ++ seen_node (new_node q ty h.row) ∷ []) none, is_new types q ty at h.row h.made)
+  first_seen = (
+    seen_node (new_node q ty h.row),
+    added_list types old new id q ty at h
+        ∙ ap (λ (ns : List Node). seen ns ++ seen_node (new_node q ty h.row) ∷ []) none,
+    is_new types q ty at h.row h.made,
+  )
 
   pub first_waiting : waiting_of new ≡ []
   first_waiting = added_waiting types old new id q ty at h ∙ ap waiting_of none

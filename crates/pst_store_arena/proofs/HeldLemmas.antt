@@ -150,7 +150,9 @@ module _ (qs : List ℕ) (ns : List Node) (noted : Noted) (rows : AreRows qs ns)
   not_root ne l = record {
     first = h.first;
     there = λ k i e. let t = h.there k i e in (omega (arith, t.0), t.1);
-    all = λ i m e. ⊎_elim (λ (q : i < noted.seen). h.all i q e) (λ (q : noted.seen ≤ i). let same : i ≡ noted.seen = omega (arith, q, m) in absurd (ne (subst (λ (j : ℕ). w.name j ≡ root_name) same e))) (cases_lt i noted.seen);
+    all = λ i m e. ⊎_elim (λ (q : i < noted.seen). h.all i q e)
+        (λ (q : noted.seen ≤ i). let same : i ≡ noted.seen = omega (arith, q, m) in absurd (ne (subst (λ (j : ℕ). w.name j ≡ root_name) same e)))
+        (cases_lt i noted.seen);
     rising = h.rising;
     seen = omega (arith, l);
   }
@@ -296,12 +298,14 @@ all_held w noted e h i l n = h.all i (omega (arith, l, e)) n
 
 -- ---- after splits
 
-module _ (types : List TypeShape) (qs : List ℕ) (old new : List Node) (roots : RootIndex) (n : ℕ) (s : (k : ℕ) × AreSplits types qs k (seen old) (seen new)) (h : AreHeld (arena_of (rank qs) (seen old)) (noted_of old roots n)) where
+module _ (types : List TypeShape) (qs : List ℕ) (old new : List Node) (roots : RootIndex) (n : ℕ)
+    (s : (k : ℕ) × AreSplits types qs k (seen old) (seen new)) (h : AreHeld (arena_of (rank qs) (seen old)) (noted_of old roots n)) where
   olds : HasOld (arena_of (rank qs) (seen old)) (arena_of (rank qs) (seen new))
   olds = splits_old types qs s.0 (seen old) (seen new) s.1
 
   pub repaired_held : AreHeld (arena_of (rank qs) (seen new)) (noted_of new roots n)
-  repaired_held = held_with (arena_of (rank qs) (seen new)) (noted_of old roots n) (noted_of new roots n) refl refl (held_on (arena_of (rank qs) (seen old)) (arena_of (rank qs) (seen new)) (noted_of old roots n) olds h)
+  repaired_held = held_with (arena_of (rank qs) (seen new)) (noted_of old roots n) (noted_of new roots n) refl refl
+      (held_on (arena_of (rank qs) (seen old)) (arena_of (rank qs) (seen new)) (noted_of old roots n) olds h)
 
   pub repaired_first : (arena_of (rank qs) (seen old)).lo 0 ≡ 0 → (arena_of (rank qs) (seen new)).lo 0 ≡ 0
   repaired_first e = olds.lo 0 (omega (arith, (h.there 0 0 h.first).0, h.seen)) ∙ e

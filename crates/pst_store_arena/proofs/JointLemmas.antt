@@ -185,4 +185,5 @@ module _ (types : List TypeShape) (qs : List ℕ) (ns : List Node) where
     others_none None h = λ u l.
         let t : TypeShape = type_at types (w.ty y) in
         let inverse : IsInverse t (element_count t + u) = record { from = omega arith; below = omega (arith, l) } in
-        subst (λ (c : Content). is_other_entry x f c ≡ true) (sym (holds_is y (element_count t + u) b)) (h (element_count t + u) (subst (λ (v : TypeShape). IsInverse v (element_count t + u)) (type_is y) inverse))
+        subst (λ (c : Content). is_other_entry x f c ≡ true) (sym (holds_is y (element_count t + u) b))
+        (h (element_count t + u) (subst (λ (v : TypeShape). IsInverse v (element_count t + u)) (type_is y) inverse))

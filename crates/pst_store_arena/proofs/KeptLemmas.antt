@@ -62,7 +62,8 @@ module _ (types : List TypeShape) (qs : List ℕ) (ns : List Node) (roots : Root
   pub known_pointer : (x f : ℕ) → IsPointer (field_kind (type_at types ((arena_at qs k.nodes).ty x)) f) → IsPointer (field_kind (type_of types ns x) f)
   known_pointer x f h = subst (λ (t : TypeShape). IsPointer (field_kind t f)) (known_type x) h
 
-  pub known_target : (x f y : ℕ) → field_kind (type_at types ((arena_at qs k.nodes).ty x)) f ≡ Some (Pointer ((arena_at qs k.nodes).ty y)) → field_kind (type_of types ns x) f ≡ Some (Pointer (type_no ns y))
+  pub known_target : (x f y : ℕ) → field_kind (type_at types ((arena_at qs k.nodes).ty x)) f ≡ Some (Pointer ((arena_at qs k.nodes).ty y))
+      → field_kind (type_of types ns x) f ≡ Some (Pointer (type_no ns y))
   known_target x f y h =
       let same : (arena_at qs k.nodes).ty y ≡ type_no ns y = subst (λ (k : Kept). (arena_at qs k.nodes).ty y ≡ type_no ns y) is (ty_is types qs ns y) in
       ap (λ (t : TypeShape). field_kind t f) (sym (known_type x)) ∙ h ∙ ap (λ (t : TypeNo). Some (Pointer t)) same
@@ -91,10 +92,13 @@ module _ (types : List TypeShape) (qs : List ℕ) (ns : List Node) (roots : Root
   kept_none y b x f r h = subst (λ (k : Kept). IfNone r (AreOthers types (arena_at qs k.nodes) y b x f)) is (others_none types qs ns y b x f r h)
 
   module _ {T E : Type 0} (new : List Node) (r : Result T E) where
-    pub kept_written : (queue : Queue) → OnOk r (AllRows (rank qs) (length qs) (map (λ (m : Seen). m.row) (seen new))) → OnOk r (AreWide types (seen new)) → (xs : List ℕ) × IsQueued types new queue xs → OnOk r (IsWritten types qs (seen new) k.noted (noted_of new roots n))
+    pub kept_written : (queue : Queue) → OnOk r (AllRows (rank qs) (length qs) (map (λ (m : Seen). m.row) (seen new)))
+        → OnOk r (AreWide types (seen new)) → (xs : List ℕ) × IsQueued types new queue xs
+        → OnOk r (IsWritten types qs (seen new) k.noted (noted_of new roots n))
     kept_written queue rows wide (xs, q) = both r rows wide
       where
-        both : (r : Result T E) → OnOk r (AllRows (rank qs) (length qs) (map (λ (m : Seen). m.row) (seen new))) → OnOk r (AreWide types (seen new)) → OnOk r (IsWritten types qs (seen new) k.noted (noted_of new roots n))
+        both : (r : Result T E) → OnOk r (AllRows (rank qs) (length qs) (map (λ (m : Seen). m.row) (seen new))) → OnOk r (AreWide types (seen new))
+            → OnOk r (IsWritten types qs (seen new) k.noted (noted_of new roots n))
         both (Ok x) a b = record {
           rows = a;
           wide = b;

@@ -15,7 +15,8 @@ use Rattle.pst_store_arena.specs.Kept.{waiting_of}
 use Rattle.pst_store_arena.proofs.WaitingLemmas.{waiting_none}
 
 -- one split or none
-pub some_splits : (types : List TypeShape) (qs : List ℕ) (old new : List Seen) (r : Result Bool AllocError) → IfOk r (λ more. AreSplits types qs (splits_in more) old new) → OnErr r (new ≡ old) → (k : ℕ) × AreSplits types qs k old new
+pub some_splits : (types : List TypeShape) (qs : List ℕ) (old new : List Seen) (r : Result Bool AllocError)
+    → IfOk r (λ more. AreSplits types qs (splits_in more) old new) → OnErr r (new ≡ old) → (k : ℕ) × AreSplits types qs k old new
 some_splits types qs old new (Ok more) made refused = (splits_in more, made)
 some_splits types qs old new (Err e) made refused = (0, refused)
 

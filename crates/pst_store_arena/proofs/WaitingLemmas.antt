@@ -104,7 +104,8 @@ waiting_none ns queue h = out_from 0 ns (λ i. h.others i refl)
 
 pub ends_none : (ns : List Node) (queue : Queue) → AreLinked ns queue → waiting_of ns ≡ [] → queue.ends ≡ None
 ends_none ns queue ([], h) e = h.ends
-ends_none ns queue (x ∷ xs, h) e = absurd (in_none x (subst (λ (ys : List ℕ). Contains ys x) e (link_waits ns x (link_of_waiting (link_at ns) (x ∷ xs) x h.chain (or_left (eqb x x) (waits xs x) (eq-eqb x x refl))))))
+ends_none ns queue (x ∷ xs, h) e = absurd (in_none x (subst (λ (ys : List ℕ). Contains ys x) e
+    (link_waits ns x (link_of_waiting (link_at ns) (x ∷ xs) x h.chain (or_left (eqb x x) (waits xs x) (eq-eqb x x refl))))))
 
 pub none_waiting : (ns : List Node) (queue : Queue) → AreLinked ns queue → queue.ends ≡ None → waiting_of ns ≡ []
 none_waiting ns queue ([], h) e = waiting_none ns queue h
@@ -149,7 +150,8 @@ with_alike Last (Before n) k xs ys to back e = ap (λ (zs : List ℕ). k ∷ zs)
 with_alike (Before n) Last k xs ys to back e = ap (λ (zs : List ℕ). k ∷ zs) e
 with_alike (Before n) (Before m) k xs ys to back e = ap (λ (zs : List ℕ). k ∷ zs) e
 
-alike_from : (k : ℕ) (old new : List Node) → length new ≡ length old → ((i : ℕ) → link_at old i ≡ Out → link_at new i ≡ Out) → ((i : ℕ) → link_at new i ≡ Out → link_at old i ≡ Out) → waiting_from k new ≡ waiting_from k old
+alike_from : (k : ℕ) (old new : List Node) → length new ≡ length old → ((i : ℕ) → link_at old i ≡ Out → link_at new i ≡ Out)
+    → ((i : ℕ) → link_at new i ≡ Out → link_at old i ≡ Out) → waiting_from k new ≡ waiting_from k old
 alike_from k [] [] count to back = refl
 alike_from k [] (n ∷ new) count to back = absurd (omega arith)
 alike_from k (o ∷ old) [] count to back = absurd (omega arith)

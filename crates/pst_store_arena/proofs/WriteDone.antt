@@ -37,7 +37,8 @@ use Rattle.pst_repair.proofs.PairedLemmas.{links_are_seen}
 use Rattle.pst_repair.proofs.WrittenLemmas.{numbers_are_set}
 use Rattle.pst_store_arena.specs.Calls.{IsNullWritten, IsPointerWritten}
 use Rattle.pst_store_arena.specs.Writes.{LeadsTo, IsNode, IsOneOf, HasRoomFor, HaveRoom, IsFieldCleared}
-use Rattle.pst_store_arena.proofs.WriteLemmas.{number_grown, pair_grown, pair_others, added_few, stamped_other, grown_seen, field_room, pair_room, one_there, cleared_none, field_slot, inverse_slot, inverse_holds}
+use Rattle.pst_store_arena.proofs.WriteLemmas.{number_grown, pair_grown, pair_others, added_few, stamped_other, grown_seen, field_room, pair_room, one_there}
+use Rattle.pst_store_arena.proofs.WriteLemmas.{cleared_none, field_slot, inverse_slot, inverse_holds}
 use Rattle.pst_store_arena.proofs.WriteSound.{cleared_sound, linked_sound, kind_kept}
 use Rattle.pst_store_arena.proofs.WriteQueue.{typed_rows, over_rows, queue_written}
 
@@ -58,7 +59,8 @@ held_on old new queue count links h = (h.0, queues_links old new queue h.0 count
 -- ---- after the memory is taken
 
 -- the field leads to the same node, and the nodes of the write are there
-module _ (types : List TypeShape) (qs : List ℕ) (old r : List Node) (x f b : ℕ) (led : Option NodeId) (sound : IsSound types qs old) (same : AreSameNodes old r) (there : x < length old) (h : LeadsTo (chart qs old) x f b led) where
+module _ (types : List TypeShape) (qs : List ℕ) (old r : List Node) (x f b : ℕ) (led : Option NodeId) (sound : IsSound types qs old)
+    (same : AreSameNodes old r) (there : x < length old) (h : LeadsTo (chart qs old) x f b led) where
   pub sound_taken : IsSound types qs r
   sound_taken = sound_same types qs old r same sound
 
@@ -85,14 +87,16 @@ wide_seen types mid new rows frames typed = seen_wide types new (typed_rows type
 
 -- ---- a number
 
-module _ (types : List TypeShape) (qs : List ℕ) (r mid : List Node) (x f b : ℕ) (v : ℤ) (typed : AreTyped types r) (l : x < length r) (set : IsSlotSet (chart qs r) (chart qs mid) x f b (Number v)) (all : AreRows qs mid)
+module _ (types : List TypeShape) (qs : List ℕ) (r mid : List Node) (x f b : ℕ) (v : ℤ) (typed : AreTyped types r) (l : x < length r)
+    (set : IsSlotSet (chart qs r) (chart qs mid) x f b (Number v)) (all : AreRows qs mid)
     (t : IsTouched 2 r mid x) (stamped : (d : Row) → stamped_count (row_at mid x d) ≡ stamped_count (row_at r x d) + added (chart qs r) x f b) where
   pub number_seen : (old new : List Node) → seen r ≡ seen old → seen new ≡ seen mid → IsNumberSeen types qs (seen old) (seen new) x f b v
   number_seen old new first last =
       let p : IsNumberSeen types qs (seen r) (seen mid) x f b v = numbers_are_set types qs r mid x f b v (record { there = l; set = set; rows = all; touched = t; stamped = stamped }) typed in
       subst (λ (ns : List Seen). IsNumberSeen types qs ns (seen new) x f b v) first (subst (λ (ns : List Seen). IsNumberSeen types qs (seen r) ns x f b v) (sym last) p)
 
-  pub number_queued : (new : List Node) (q0 q1 : Queue) → (xs : List ℕ) × IsQueued types r q0 xs → rows_of new ≡ rows_of mid → frames_of new ≡ frames_of mid → KeepsQueue (λ i. i ≡ x) types mid new q0 q1 → (xs : List ℕ) × IsQueued types new q1 xs
+  pub number_queued : (new : List Node) (q0 q1 : Queue) → (xs : List ℕ) × IsQueued types r q0 xs → rows_of new ≡ rows_of mid
+      → frames_of new ≡ frames_of mid → KeepsQueue (λ i. i ≡ x) types mid new q0 q1 → (xs : List ℕ) × IsQueued types new q1 xs
   number_queued new q0 q1 h rows frames keeps =
       queue_written (λ i. i ≡ x) (added (chart qs r) x f b) types r mid new q0 q1 h (number_grown types qs r mid x f b l t stamped) t.links
       (λ i. ⊎_elim (λ (e : i ≡ x). inl e) (λ (ne : i ≡ x → ⊥). inr (stamped_other r mid i t.count (λ d. t.others i d ne))) (cases_eq i x))
@@ -121,7 +125,8 @@ module _ (types : List TypeShape) (qs : List ℕ) (r mid : List Node) (x f b : �
         (grown_seen 6 types r mid (grown_more cl.stamped 6 types r mid (omega (arith, cl.few)) (cl.grown types))));
   }
 
-  pub null_queued : (new : List Node) (q0 q1 : Queue) → (xs : List ℕ) × IsQueued types r q0 xs → rows_of new ≡ rows_of mid → frames_of new ≡ frames_of mid → KeepsQueue (IsOneOf x led) types mid new q0 q1 → (xs : List ℕ) × IsQueued types new q1 xs
+  pub null_queued : (new : List Node) (q0 q1 : Queue) → (xs : List ℕ) × IsQueued types r q0 xs → rows_of new ≡ rows_of mid
+      → frames_of new ≡ frames_of mid → KeepsQueue (IsOneOf x led) types mid new q0 q1 → (xs : List ℕ) × IsQueued types new q1 xs
   null_queued new q0 q1 h rows frames keeps = queue_written (IsOneOf x led) cl.stamped types r mid new q0 q1 h (cl.grown types) cl.links (λ i. one_or x led i (cl.others i)) rows frames keeps
 
   -- the room that is left for the new pointer
@@ -133,7 +138,8 @@ module _ (types : List TypeShape) (qs : List ℕ) (r mid : List Node) (x f b : �
 
   -- ---- a pointer
 
-  module _ (y s : ℕ) (new : List Node) (typed : AreTyped types r) (l : x < length r) (m : y < length r) (link : IsLinked (chart qs mid) (chart qs new) x f y s b) (t : AreTouched qs mid new x f y s b) where
+  module _ (y s : ℕ) (new : List Node) (typed : AreTyped types r) (l : x < length r) (m : y < length r)
+      (link : IsLinked (chart qs mid) (chart qs new) x f y s b) (t : AreTouched qs mid new x f y s b) where
     in_mid : (i : ℕ) → i < length r → i < length mid
     in_mid i p = let same = cl.grown types in omega (arith, same.count)
 
@@ -152,7 +158,8 @@ module _ (types : List TypeShape) (qs : List ℕ) (r mid : List Node) (x f b : �
     pub put_sound : IsSound types qs r → AreRows qs new → IsMirrored (chart qs new) → field_kind (type_of types r x) f ≡ Some (Pointer (type_no r y)) → IsSound types qs new
     put_sound sound rows mir kind =
         let more : ℕ = added (chart qs mid) x f b + added (chart qs mid) y s b in
-        linked_sound types qs mid (cleared_sound types qs r sound mid x f b led cl) more new x f y s b (pair_grown types qs mid new x f y s b (in_mid x l) (in_mid y m) t) link rows mir (kind_kept types r mid x f y (cl.grown types).frames kind)
+        linked_sound types qs mid (cleared_sound types qs r sound mid x f b led cl) more new x f y s b
+        (pair_grown types qs mid new x f y s b (in_mid x l) (in_mid y m) t) link rows mir (kind_kept types r mid x f y (cl.grown types).frames kind)
 
     put_others : (i : ℕ) → ((i ≡ y) ⊎ IsOneOf x led i) ⊎ (stamped_at new i ≡ stamped_at r i)
     put_others i = ⊎_elim
@@ -163,7 +170,8 @@ module _ (types : List TypeShape) (qs : List ℕ) (r mid : List Node) (x f b : �
         (one_or x led i (λ ne away. pair_others qs mid new x f y s b t i ne nz ∙ cl.others i ne away)))
         (cases_eq i y)
 
-    pub put_queued : (n1 last : List Node) (q0 q1 q2 : Queue) → (xs : List ℕ) × IsQueued types r q0 xs → rows_of n1 ≡ rows_of new → frames_of n1 ≡ frames_of new → KeepsQueue (λ i. i ≡ y) types new n1 q0 q1 →
+    pub put_queued : (n1 last : List Node) (q0 q1 q2 : Queue) → (xs : List ℕ) × IsQueued types r q0 xs → rows_of n1 ≡ rows_of new
+        → frames_of n1 ≡ frames_of new → KeepsQueue (λ i. i ≡ y) types new n1 q0 q1 →
         rows_of last ≡ rows_of n1 → frames_of last ≡ frames_of n1 → KeepsQueue (IsOneOf x led) types n1 last q1 q2 → (xs : List ℕ) × IsQueued types last q2 xs
     put_queued n1 last q0 q1 q2 h rows frames keeps rows' frames' keeps' =
         queue_written (λ i. (i ≡ y) ⊎ IsOneOf x led i) 6 types r new last q0 q2 h put_grown put_links put_others (rows' ∙ rows) (frames' ∙ frames)
@@ -185,12 +193,14 @@ module _ (types : List TypeShape) (qs : List ℕ) (r mid : List Node) (x f b : �
         }
 
 -- a field that is null stays so
-pub null_kept : (types : List TypeShape) (qs : List ℕ) (ns : List Node) (x f : ℕ) (at : Place) → AreRows qs ns → IsMirrored (chart qs ns) → (chart qs ns).holds x f (rank qs at.begin.0) ≡ Null → IsNullWritten types qs (seen ns) (seen ns) x f at
+pub null_kept : (types : List TypeShape) (qs : List ℕ) (ns : List Node) (x f : ℕ) (at : Place) → AreRows qs ns → IsMirrored (chart qs ns)
+    → (chart qs ns).holds x f (rank qs at.begin.0) ≡ Null → IsNullWritten types qs (seen ns) (seen ns) x f at
 null_kept types qs ns x f at all mir h = null_written types qs ns ns x f (rank qs at.begin.0) None (cleared_none qs x f (rank qs at.begin.0) ns all mir h) at ns ns refl refl refl
 
 -- ---- what a pair needs, once the field is cleared
 
-module _ (types : List TypeShape) (qs : List ℕ) (old r mid : List Node) (x f y s b : ℕ) (led : Option NodeId) (sound : IsSound types qs old) (same : AreSameNodes old r) (inside : IsIn (lives qs old) x b) (target : IsIn (lives qs old) y b)
+module _ (types : List TypeShape) (qs : List ℕ) (old r mid : List Node) (x f y s b : ℕ) (led : Option NodeId) (sound : IsSound types qs old)
+    (same : AreSameNodes old r) (inside : IsIn (lives qs old) x b) (target : IsIn (lives qs old) y b)
     (field : field_kind (type_of types old x) f ≡ Some (Pointer (type_no old y))) (open_slot : IsOpenSlot types qs old y b x f s) (cl : IsFieldCleared qs r mid x f b led) where
   pub put_field : IsSlot qs mid x f b
   put_field = slot_grown cl.stamped types r mid (cl.grown types) qs x f b (same_slot old r same qs x f b (field_slot types qs old sound x b inside f (type_no old y) field))

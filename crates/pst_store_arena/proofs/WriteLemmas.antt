@@ -1,5 +1,6 @@
 -- The steps of a write: what slots hold, the room, what is taken away, and what grows.
-use Rattle.std.proofs.Common.{◌≡◌, ◌≢◌, ℕ, suc, ◌+◌, ◌<◌, ◌≤◌, Bool, true, false, not, ◌&&◌, ◌||◌, cond, eqb, List, [], ◌∷◌, length, map, Option, Some, None, refl, sym, ap, ap₂, ◌∙◌, subst, ⊎_elim, ◌⊎◌, inl, inr, arith}
+use Rattle.std.proofs.Common.{◌≡◌, ◌≢◌, ℕ, suc, ◌+◌, ◌<◌, ◌≤◌, Bool, true, false, not, ◌&&◌, ◌||◌, cond, eqb, List, [], ◌∷◌, length, map, Option, Some, None}
+use Rattle.std.proofs.Common.{refl, sym, ap, ap₂, ◌∙◌, subst, ⊎_elim, ◌⊎◌, inl, inr, arith}
 use Rattle.std.proofs.lemmas.Bool.{cases_lt, eq-eqb, eqb-true, and_parts, false≢true}
 use Rattle.std.proofs.lemmas.List.Sums.{sum_by-cons}
 use Rattle.std.specs.Option.{is_some}
@@ -83,7 +84,8 @@ module _ (types : List TypeShape) (qs : List ℕ) (ns : List Node) (s : IsSound 
   pub field_holds : (f : ℕ) (u : TypeNo) → field_kind (type_of types ns x) f ≡ Some (Pointer u) → HoldsPointer (chart qs ns) x f n
   field_holds f u e = pointer_held (type_of types ns x) (type_no ns) f u ((chart qs ns).holds x f n) e (s.kinds x f n h)
 
-  pub inverse_holds : (g i f : ℕ) → IsInverse (type_of types ns x) g → is_other_entry i f ((chart qs ns).holds x g n) ≡ false → ((chart qs ns).holds x g n ≡ Free) ⊎ ((chart qs ns).holds x g n ≡ From i f)
+  pub inverse_holds : (g i f : ℕ) → IsInverse (type_of types ns x) g → is_other_entry i f ((chart qs ns).holds x g n) ≡ false
+      → ((chart qs ns).holds x g n ≡ Free) ⊎ ((chart qs ns).holds x g n ≡ From i f)
   inverse_holds g i f inv e = inverse_held (type_of types ns x) (type_no ns) g i f ((chart qs ns).holds x g n) inv (s.kinds x g n h) e
 
 -- ---- the node that a field leads to
@@ -130,7 +132,8 @@ touched_room old new x t i d j = by (eqb i x) refl
         subst (λ (w : Row). HasRoom w j) (sym same) (omega (arith, h))
 
 -- where a pair was set
-pub pair_room_left : (qs : List ℕ) (old new : List Node) (x f s b : ℕ) (y : NodeId) → AreTouched qs old new x f y.0 s b → (i : ℕ) (d : Row) (j : ℕ) → HasRoom (row_at old i d) (j + pair_stamps x (Some y) i) → HasRoom (row_at new i d) j
+pub pair_room_left : (qs : List ℕ) (old new : List Node) (x f s b : ℕ) (y : NodeId) → AreTouched qs old new x f y.0 s b → (i : ℕ) (d : Row) (j : ℕ)
+    → HasRoom (row_at old i d) (j + pair_stamps x (Some y) i) → HasRoom (row_at new i d) j
 pair_room_left qs old new x f s b y t i d j h =
     touched_room t.mid new y.0 t.second i d j (touched_room old t.mid x t.first i d (j + slot_stamps y.0 i) (omega (arith, h)))
 
@@ -151,13 +154,17 @@ touched_by old new x t h exact = record {
   spare = h.spare;
 }
 
-touched_grown : (types : List TypeShape) (old new : List Node) (x t : ℕ) → x < length old → IsTouched 2 old new x → ((d : Row) → stamped_count (row_at new x d) ≡ stamped_count (row_at old x d) + t) → AreGrown t types old new
+touched_grown : (types : List TypeShape) (old new : List Node) (x t : ℕ) → x < length old → IsTouched 2 old new x
+    → ((d : Row) → stamped_count (row_at new x d) ≡ stamped_count (row_at old x d) + t) → AreGrown t types old new
 touched_grown types old new x t l h exact = grown_touched t types old new x l (touched_by old new x t h exact) (λ d. omega (arith, exact d)) (some_row old x l)
 
-pub number_grown : (types : List TypeShape) (qs : List ℕ) (old new : List Node) (x f b : ℕ) → x < length old → IsTouched 2 old new x → ((d : Row) → stamped_count (row_at new x d) ≡ stamped_count (row_at old x d) + added (chart qs old) x f b) → AreGrown (added (chart qs old) x f b) types old new
+pub number_grown : (types : List TypeShape) (qs : List ℕ) (old new : List Node) (x f b : ℕ) → x < length old → IsTouched 2 old new x
+    → ((d : Row) → stamped_count (row_at new x d) ≡ stamped_count (row_at old x d) + added (chart qs old) x f b)
+    → AreGrown (added (chart qs old) x f b) types old new
 number_grown types qs old new x f b l h exact = touched_grown types old new x (added (chart qs old) x f b) l h exact
 
-pub pair_grown : (types : List TypeShape) (qs : List ℕ) (old new : List Node) (x f y s b : ℕ) → x < length old → y < length old → AreTouched qs old new x f y s b → AreGrown (added (chart qs old) x f b + added (chart qs old) y s b) types old new
+pub pair_grown : (types : List TypeShape) (qs : List ℕ) (old new : List Node) (x f y s b : ℕ) → x < length old → y < length old
+    → AreTouched qs old new x f y s b → AreGrown (added (chart qs old) x f b + added (chart qs old) y s b) types old new
 pair_grown types qs old new x f y s b l m t =
     grown_on (added (chart qs old) x f b) (added (chart qs old) y s b) types old t.mid new
     (touched_grown types old t.mid x (added (chart qs old) x f b) l t.first t.first_stamped)
@@ -182,7 +189,8 @@ pair_others qs old new x f y s b t i ne nz = stamped_other old new i (t.second.c
 
 -- ---- as a store sees it
 
-each_grown : (types : List TypeShape) (old new : List Node) → length new ≡ length old → ((i : ℕ) → half_at types new i ≡ half_at types old i) → ((i : ℕ) → stamped_at old i ≤ stamped_at new i) → HasGrown (map (load_of types) (seen old)) (map (load_of types) (seen new))
+each_grown : (types : List TypeShape) (old new : List Node) → length new ≡ length old → ((i : ℕ) → half_at types new i ≡ half_at types old i)
+    → ((i : ℕ) → stamped_at old i ≤ stamped_at new i) → HasGrown (map (load_of types) (seen old)) (map (load_of types) (seen new))
 each_grown types [] [] l h s = tt
 each_grown types [] (n ∷ new) l h s = absurd (omega arith)
 each_grown types (o ∷ old) [] l h s = absurd (omega arith)
@@ -217,7 +225,8 @@ none_added old new x f y s b u = ap₂ (λ p q. missing p + missing q)
     (u.edges x f b ∙ with_edge old x f y s b b (eq-eqb b b refl))
     (u.edges x f (b + 1) ∙ with_edge_behind old x f y s b)
 
-taken_free : (old new : Chart) (x f y s b : ℕ) → IsMirrored old → old.holds x f b ≡ Target y → IsUnlinked old new x f y s b → (i g : ℕ) → (old.holds i g b ≡ Free) ⊎ (old.holds i g b ≡ From x f) → new.holds i g b ≡ Free
+taken_free : (old new : Chart) (x f y s b : ℕ) → IsMirrored old → old.holds x f b ≡ Target y → IsUnlinked old new x f y s b → (i g : ℕ)
+    → (old.holds i g b ≡ Free) ⊎ (old.holds i g b ≡ From x f) → new.holds i g b ≡ Free
 taken_free old new x f y s b mir h u i g o =
     let was : i ≡ x → g ≡ f → old.holds i g b ≡ Target y = λ p q. ap₂ (λ j k. old.holds j k b) p q ∙ h in
     ⊎_elim
@@ -226,7 +235,8 @@ taken_free old new x f y s b mir h u i g o =
     (λ (e : old.holds i g b ≡ Free). let q : Free ≡ Target y = sym e ∙ was t.0 t.1 in cc)
     (λ (e : old.holds i g b ≡ From x f). let q : From x f ≡ Target y = sym e ∙ was t.0 t.1 in cc)
     o))
-    (λ (r : ((i ≡ y) × (g ≡ s) × (b ≡ b) × (put_two old x f Null y s Free b i g b ≡ Free)) ⊎ ((is_there x f b i g b ≡ false) × (is_there y s b i g b ≡ false) × (put_two old x f Null y s Free b i g b ≡ old.holds i g b))).
+    (λ (r : ((i ≡ y) × (g ≡ s) × (b ≡ b) × (put_two old x f Null y s Free b i g b ≡ Free))
+    ⊎ ((is_there x f b i g b ≡ false) × (is_there y s b i g b ≡ false) × (put_two old x f Null y s Free b i g b ≡ old.holds i g b))).
     ⊎_elim
     (λ (t : (i ≡ y) × (g ≡ s) × (b ≡ b) × (put_two old x f Null y s Free b i g b ≡ Free)). u.holds i g b ∙ t.3)
     (λ (t : (is_there x f b i g b ≡ false) × (is_there y s b i g b ≡ false) × (put_two old x f Null y s Free b i g b ≡ old.holds i g b)).
@@ -260,7 +270,8 @@ module _ (qs : List ℕ) (x f b : ℕ) where
     others = λ i ne nz. refl;
   }
 
-  pub cleared_some : (old new : List Node) (led : NodeId) → x < length old → AreRows qs old → IsMirrored (chart qs old) → AreRows qs new → IsMirrored (chart qs new) → (chart qs old).holds x f b ≡ Target led.0 → IsFieldUnlinked qs old new x f b → IsFieldCleared qs old new x f b (Some led)
+  pub cleared_some : (old new : List Node) (led : NodeId) → x < length old → AreRows qs old → IsMirrored (chart qs old) → AreRows qs new
+      → IsMirrored (chart qs new) → (chart qs old).holds x f b ≡ Target led.0 → IsFieldUnlinked qs old new x f b → IsFieldCleared qs old new x f b (Some led)
   cleared_some old new led l all mir all' mir' h un =
       let y : ℕ = led.0 in
       let t = un y h in
@@ -277,7 +288,8 @@ module _ (qs : List ℕ) (x f b : ℕ) where
           s,
           record {
             nodes = pair_nodes [] qs old new x f y s b l t.2;
-            unlinked = subst (λ (c : Chart). IsUnlinked (arena_of (rank qs) (seen old)).chart c x f y s b) (sym (seen_chart qs new)) (subst (λ (c : Chart). IsUnlinked c (chart qs new) x f y s b) (sym (seen_chart qs old)) u);
+            unlinked = subst (λ (c : Chart). IsUnlinked (arena_of (rank qs) (seen old)).chart c x f y s b) (sym (seen_chart qs new))
+                (subst (λ (c : Chart). IsUnlinked c (chart qs new) x f y s b) (sym (seen_chart qs old)) u);
           },
         );
         links = λ i. t.2.second.links i ∙ t.2.first.links i;
@@ -288,10 +300,13 @@ module _ (qs : List ℕ) (x f b : ℕ) where
         others = λ i ne nz. pair_others qs old new x f y s b t.2 i ne nz;
       }
 
-pub cleared_then : (qs : List ℕ) (x f b : ℕ) (old new : List Node) (led : Option NodeId) → is_some led ≡ true → x < length old → AreRows qs old → IsMirrored (chart qs old) → AreRows qs new → IsMirrored (chart qs new) → LeadsTo (chart qs old) x f b led → IsFieldUnlinked qs old new x f b → IsFieldCleared qs old new x f b led
+pub cleared_then : (qs : List ℕ) (x f b : ℕ) (old new : List Node) (led : Option NodeId) → is_some led ≡ true → x < length old → AreRows qs old
+    → IsMirrored (chart qs old) → AreRows qs new → IsMirrored (chart qs new) → LeadsTo (chart qs old) x f b led → IsFieldUnlinked qs old new x f b
+    → IsFieldCleared qs old new x f b led
 cleared_then qs x f b old new None e l all mir all' mir' h un = absurd (false≢true e)
 cleared_then qs x f b old new (Some y) e l all mir all' mir' h un = cleared_some qs x f b old new y l all mir all' mir' h un
 
-pub cleared_else : (qs : List ℕ) (x f b : ℕ) (ns : List Node) (led : Option NodeId) → is_some led ≡ false → AreRows qs ns → IsMirrored (chart qs ns) → LeadsTo (chart qs ns) x f b led → IsFieldCleared qs ns ns x f b led
+pub cleared_else : (qs : List ℕ) (x f b : ℕ) (ns : List Node) (led : Option NodeId) → is_some led ≡ false → AreRows qs ns → IsMirrored (chart qs ns)
+    → LeadsTo (chart qs ns) x f b led → IsFieldCleared qs ns ns x f b led
 cleared_else qs x f b ns None e all mir h = cleared_none qs x f b ns all mir h
 cleared_else qs x f b ns (Some y) e all mir h = absurd (false≢true (sym e))

@@ -18,7 +18,8 @@ use Rattle.pst_store_arena.specs.Writes.{IsNode, IsOneOf}
 
 -- ---- other links, the same nodes
 
-pub typed_rows : (types : List TypeShape) (old new : List Node) → rows_of new ≡ rows_of old → frames_of new ≡ frames_of old → ((i : ℕ) → i < length old → IsTyped types old i) → (i : ℕ) → i < length new → IsTyped types new i
+pub typed_rows : (types : List TypeShape) (old new : List Node) → rows_of new ≡ rows_of old → frames_of new ≡ frames_of old
+    → ((i : ℕ) → i < length old → IsTyped types old i) → (i : ℕ) → i < length new → IsTyped types new i
 typed_rows types old new rows frames h = all_typed 0 types old new (grown_same types old new (same_count old new rows) rows frames) h
 
 pub over_rows : (types : List TypeShape) (old new : List Node) → rows_of new ≡ rows_of old → frames_of new ≡ frames_of old → (i : ℕ) → IsOver types old i → IsOver types new i
@@ -26,7 +27,8 @@ over_rows types old new rows frames i o = over_same types new old (sym rows) (sy
 
 -- ---- which nodes are asked for
 
-queue_asked : (asked asked' : ℕ → Type 0) (types : List TypeShape) (old new : List Node) (queue queue' : Queue) → ((i : ℕ) → asked' i → asked i) → KeepsQueue asked types old new queue queue' → KeepsQueue asked' types old new queue queue'
+queue_asked : (asked asked' : ℕ → Type 0) (types : List TypeShape) (old new : List Node) (queue queue' : Queue) → ((i : ℕ) → asked' i → asked i)
+    → KeepsQueue asked types old new queue queue' → KeepsQueue asked' types old new queue queue'
 queue_asked asked asked' types old new queue queue' to k xs h =
     let q = k xs h in (q.0, q.1, λ i o. q.2 i (⊎_elim (λ (a : asked' i). inl (to i a)) (λ (w : WaitsIfOver types old xs i). inr w) o))
 
@@ -41,11 +43,13 @@ pub is_node : (led : Option NodeId) (y : NodeId) → led ≡ Some y → IsNode l
 is_node led y e = subst (λ (l : Option NodeId). IsNode l y.0) (sym e) refl
 
 -- a node alone is queued, since there is no other one
-pub queue_first : (types : List TypeShape) (old new : List Node) (queue queue' : Queue) (x : ℕ) (led : Option NodeId) → ((y : NodeId) → led ≡ Some y → ⊥) → KeepsQueue (λ i. i ≡ x) types old new queue queue' → KeepsQueue (IsOneOf x led) types old new queue queue'
+pub queue_first : (types : List TypeShape) (old new : List Node) (queue queue' : Queue) (x : ℕ) (led : Option NodeId)
+    → ((y : NodeId) → led ≡ Some y → ⊥) → KeepsQueue (λ i. i ≡ x) types old new queue queue' → KeepsQueue (IsOneOf x led) types old new queue queue'
 queue_first types old new queue queue' x led away k =
     queue_asked (λ i. i ≡ x) (IsOneOf x led) types old new queue queue' (λ i o. ⊎_elim (λ (e : i ≡ x). e) (λ (n : IsNode led i). absurd (node_none led away i n)) o) k
 
-pub queue_both : (types : List TypeShape) (old mid new : List Node) (q0 q1 q2 : Queue) (x : ℕ) (led : Option NodeId) (y : NodeId) → led ≡ Some y → rows_of new ≡ rows_of mid → frames_of new ≡ frames_of mid →
+pub queue_both : (types : List TypeShape) (old mid new : List Node) (q0 q1 q2 : Queue) (x : ℕ) (led : Option NodeId) (y : NodeId) → led ≡ Some y
+    → rows_of new ≡ rows_of mid → frames_of new ≡ frames_of mid →
     KeepsQueue (λ i. i ≡ x) types old mid q0 q1 → KeepsQueue (λ i. i ≡ y.0) types mid new q1 q2 → KeepsQueue (IsOneOf x led) types old new q0 q2
 queue_both types old mid new q0 q1 q2 x led y e rows frames a b =
     queue_asked (λ i. (i ≡ x) ⊎ (i ≡ y.0)) (IsOneOf x led) types old new q0 q2
@@ -55,8 +59,10 @@ queue_both types old mid new q0 q1 q2 x led y e rows frames a b =
 -- ---- a write, and then the queue
 
 -- All that is over its capacity waits after a write, where each node whose stamps it changed was asked for.
-pub queue_written : (asked : ℕ → Type 0) (k : ℕ) (types : List TypeShape) (old mid new : List Node) (q0 q1 : Queue) → (xs : List ℕ) × IsQueued types old q0 xs → AreGrown k types old mid → ((i : ℕ) → link_at mid i ≡ link_at old i) →
-    ((i : ℕ) → asked i ⊎ (stamped_at mid i ≡ stamped_at old i)) → rows_of new ≡ rows_of mid → frames_of new ≡ frames_of mid → KeepsQueue asked types mid new q0 q1 → (xs : List ℕ) × IsQueued types new q1 xs
+pub queue_written : (asked : ℕ → Type 0) (k : ℕ) (types : List TypeShape) (old mid new : List Node) (q0 q1 : Queue) → (xs : List ℕ)
+    × IsQueued types old q0 xs → AreGrown k types old mid → ((i : ℕ) → link_at mid i ≡ link_at old i) →
+    ((i : ℕ) → asked i ⊎ (stamped_at mid i ≡ stamped_at old i)) → rows_of new ≡ rows_of mid → frames_of new ≡ frames_of mid
+    → KeepsQueue asked types mid new q0 q1 → (xs : List ℕ) × IsQueued types new q1 xs
 queue_written asked k types old mid new q0 q1 h grown links others rows frames keeps =
     let xs : List ℕ = h.0 in
     let q = keeps xs (queues_links old mid q0 xs grown.count links h.1.held) in

@@ -35,17 +35,20 @@ use Rattle.pst_store_arena.specs.Writes.{IsFieldCleared}
 abbrev HasKinds : List TypeShape → List ℕ → List Node → Chart → Type 0
 HasKinds types qs ns w = (i s m : ℕ) → IsIn (lives qs ns) i m → HasKind (type_of types ns i) (type_no ns) s (w.holds i s m)
 
-sound_grown : (k : ℕ) (types : List TypeShape) (qs : List ℕ) (old new : List Node) → AreGrown k types old new → IsSound types qs old → AreRows qs new → IsMirrored (chart qs new) → HasKinds types qs old (chart qs new) → IsSound types qs new
+sound_grown : (k : ℕ) (types : List TypeShape) (qs : List ℕ) (old new : List Node) → AreGrown k types old new → IsSound types qs old → AreRows qs new
+    → IsMirrored (chart qs new) → HasKinds types qs old (chart qs new) → IsSound types qs new
 sound_grown k types qs old new g s rows mir kinds =
     let lived : lives qs new ≡ lives qs old = same_lives qs old new g.count g.lo g.hi g.frames in
     record {
       rows = rows;
       mirrored = mir;
       chained = subst (λ (w : Lives). AreChained w) (sym lived) s.chained;
-      one_type = subst (λ (fs : List Frame). (i j : ℕ) → i < length new → j < length new → (get_or fs i no_frame).name ≡ (get_or fs j no_frame).name → (get_or fs i no_frame).ty ≡ (get_or fs j no_frame).ty) (sym g.frames)
+      one_type = subst (λ (fs : List Frame). (i j : ℕ) → i < length new → j < length new → (get_or fs i no_frame).name ≡ (get_or fs j no_frame).name
+          → (get_or fs i no_frame).ty ≡ (get_or fs j no_frame).ty) (sym g.frames)
           (λ i j l m e. s.one_type i j (omega (arith, g.count)) (omega (arith, g.count)) e);
       typed = all_typed k types old new g s.typed;
-      kinds = λ i t m h. subst (λ (fs : List Frame). HasKind (type_at types (record { 0 = (get_or fs i no_frame).ty })) (λ y. record { 0 = (get_or fs y no_frame).ty }) t ((chart qs new).holds i t m)) (sym g.frames)
+      kinds = λ i t m h. subst (λ (fs : List Frame). HasKind (type_at types (record { 0 = (get_or fs i no_frame).ty }))
+          (λ y. record { 0 = (get_or fs y no_frame).ty }) t ((chart qs new).holds i t m)) (sym g.frames)
           (kinds i t m (subst (λ (w : Lives). IsIn w i m) lived h));
     }
 
@@ -104,7 +107,8 @@ module _ (types : List TypeShape) (qs : List ℕ) (old : List Node) (s : IsSound
       let k : IsInverse (type_of types old x) f = kind_there x f n (From y.0 g.0) e (λ q. cc) in
       omega (arith, k.from)
 
-  pub number_sound : (k : ℕ) (new : List Node) (x f b : ℕ) (v : ℤ) → AreGrown k types old new → IsSlotSet (chart qs old) (chart qs new) x f b (Number v) → AreRows qs new → f < (type_of types old x).values → IsSound types qs new
+  pub number_sound : (k : ℕ) (new : List Node) (x f b : ℕ) (v : ℤ) → AreGrown k types old new
+      → IsSlotSet (chart qs old) (chart qs new) x f b (Number v) → AreRows qs new → f < (type_of types old x).values → IsSound types qs new
   number_sound k new x f b v g o rows l =
       let none = value_none x f l in
       sound_grown k types qs old new g s rows (number_mirrored (chart qs old) (chart qs new) x f b v o none s.mirrored)
@@ -113,12 +117,15 @@ module _ (types : List TypeShape) (qs : List ℕ) (old : List Node) (s : IsSound
       let p = there_is x f b i t m e in
       subst (λ (c : Content). HasKind (type_of types old i) (type_no old) t c) (sym (set_there (chart qs old) (chart qs new) x f b v o none i t m e))
       (subst (λ (j : ℕ). t < (type_of types old j).values) (sym p.0) (subst (λ (j : ℕ). j < (type_of types old x).values) (sym p.1) l)))
-      (λ (e : is_there x f b i t m ≡ false). subst (λ (c : Content). HasKind (type_of types old i) (type_no old) t c) (sym (set_other (chart qs old) (chart qs new) x f b v o none i t m e)) (s.kinds i t m h))
+      (λ (e : is_there x f b i t m ≡ false). subst (λ (c : Content). HasKind (type_of types old i) (type_no old) t c)
+      (sym (set_other (chart qs old) (chart qs new) x f b v o none i t m e)) (s.kinds i t m h))
       (cases_Bool (is_there x f b i t m)))
 
   -- ---- two slots
 
-  put_kinds : (new : Chart) (x f : ℕ) (c : Content) (y g : ℕ) (d : Content) (b : ℕ) → ((i t m : ℕ) → new.holds i t m ≡ put_two (chart qs old) x f c y g d b i t m) → HasKind (type_of types old x) (type_no old) f c → HasKind (type_of types old y) (type_no old) g d → HasKinds types qs old new
+  put_kinds : (new : Chart) (x f : ℕ) (c : Content) (y g : ℕ) (d : Content) (b : ℕ)
+      → ((i t m : ℕ) → new.holds i t m ≡ put_two (chart qs old) x f c y g d b i t m) → HasKind (type_of types old x) (type_no old) f c
+      → HasKind (type_of types old y) (type_no old) g d → HasKinds types qs old new
   put_kinds new x f c y g d b put p q i t m h =
       let P : ℕ → ℕ → Content → Type 0 = λ i t c. HasKind (type_of types old i) (type_no old) t c in
       subst (P i t) (sym (put i t m)) (elim (put_cases (chart qs old) x f c y g d b i t m) [
@@ -148,12 +155,14 @@ module _ (types : List TypeShape) (qs : List ℕ) (old : List Node) (s : IsSound
       (subst (λ (w : Chart). IsUnlinked (arena_of (rank qs) (seen old)).chart w x f t.0 t.1 b) (seen_chart qs new) t.2.unlinked)))
       cl.cleared)
 
-  pub linked_sound : (k : ℕ) (new : List Node) (x f y g b : ℕ) → AreGrown k types old new → IsLinked (chart qs old) (chart qs new) x f y g b → AreRows qs new → IsMirrored (chart qs new) → field_kind (type_of types old x) f ≡ Some (Pointer (type_no old y)) → IsSound types qs new
+  pub linked_sound : (k : ℕ) (new : List Node) (x f y g b : ℕ) → AreGrown k types old new → IsLinked (chart qs old) (chart qs new) x f y g b
+      → AreRows qs new → IsMirrored (chart qs new) → field_kind (type_of types old x) f ≡ Some (Pointer (type_no old y)) → IsSound types qs new
   linked_sound k new x f y g b grown u rows mir kind =
       let i : IsInverse (type_of types old y) g = kind_there y g b Free u.free (λ q. cc) in
       sound_grown k types qs old new grown s rows mir (put_kinds (chart qs new) x f (Target y) y g (From x f) b u.holds kind i)
 
 -- the kind of a field stays where the types do
-pub kind_kept : (types : List TypeShape) (old new : List Node) (x f y : ℕ) → frames_of new ≡ frames_of old → field_kind (type_of types old x) f ≡ Some (Pointer (type_no old y)) → field_kind (type_of types new x) f ≡ Some (Pointer (type_no new y))
+pub kind_kept : (types : List TypeShape) (old new : List Node) (x f y : ℕ) → frames_of new ≡ frames_of old
+    → field_kind (type_of types old x) f ≡ Some (Pointer (type_no old y)) → field_kind (type_of types new x) f ≡ Some (Pointer (type_no new y))
 kind_kept types old new x f y frames h =
     subst (λ (fs : List Frame). field_kind (type_at types (record { 0 = (get_or fs x no_frame).ty })) f ≡ Some (Pointer (record { 0 = (get_or fs y no_frame).ty }))) (sym frames) h

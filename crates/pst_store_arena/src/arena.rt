@@ -11,7 +11,6 @@ use pst_base::{Name, NoMemory, NodeId, ROOT, Shape, SlotNo, TypeNo};
 use pst_nodes::node::Nodes;
 use pst_nodes::queue::Queue;
 use pst_order::{Order, Pos};
-use pst_repair::repair::split_next;
 use pst_roots::RootIndex;
 use pst_rows::Stamp;
 use pst_store_meaning::place::Place;
@@ -38,28 +37,6 @@ impl Model for Arena {
     ghost view = { λ a. kept_of a.nodes.list.items a.roots a.looked_at };
 
     ghost invariant = { λ a. AreLinked a.nodes.list.items a.queue };
-}
-
-impl Arena {
-    ghost use Rattle.std.specs.Prelude.{◌≡◌, ◌+◌, [], length, false, IfOk};
-    ghost use Rattle.pst_store_meaning.specs.Store.{AreHeld};
-    ghost use Rattle.pst_repair.specs.Repair.{splits_in};
-    ghost use Rattle.pst_store_arena.specs.Calls.{AreNodes, AreWaiting, IsRepaired, arena_at};
-
-    /// Splits the node that waits first, and gives whether one waited: one of the splits of `repair`, which makes one node more.
-    /// After `NoMemory` none was made, and the call can be made again.
-    pub fn split_next<O: Order>(&mut self, order: &O, shape: &Shape) -> Result<bool, NoMemory>
-        requires nodes { AreNodes shape.now (O.places order.now) self.old.nodes }
-        requires waiting { AreWaiting shape.now self.old.nodes self.old.noted.queue }
-        requires held { AreHeld (arena_at (O.places order.now) self.old.nodes) self.old.noted }
-        ensures repaired { IsRepaired shape.now (O.places order.now) self.old.nodes self.new.nodes }
-        ensures waiting { AreWaiting shape.now self.new.nodes self.new.noted.queue }
-        ensures held { AreHeld (arena_at (O.places order.now) self.new.nodes) self.new.noted }
-        ensures rested { IfOk result (λ more. more ≡ false → self.new.noted.queue ≡ []) }
-        ensures count { IfOk result (λ more. length self.new.nodes ≡ length self.old.nodes + splits_in more) }
-    {
-        split_next(order, shape, &mut self.nodes, &mut self.queue)
-    }
 }
 
 impl FatNodes for Arena {

@@ -28,7 +28,8 @@ value_around a b c d at n f v has x y z =
       counts = z.counts ∙ y.counts ∙ ap (λ (k : Counts). record k { value_writes = k.value_writes + 1 }) x.counts;
     }
 
-pub pointer_around : {P R : Type 0} (a b c d : State P R) (at : P) (n : Name) (f : ℕ) (p : Option Name) → a.has at → Unchanged a b → PointerStored b at n f p c → Unchanged c d → PointerStored a at n f p d
+pub pointer_around : {P R : Type 0} (a b c d : State P R) (at : P) (n : Name) (f : ℕ) (p : Option Name) → a.has at → Unchanged a b
+    → PointerStored b at n f p c → Unchanged c d → PointerStored a at n f p d
 pointer_around a b c d at n f p has x y z =
     let hb = x.keeps.grows.has at has in record {
       keeps = Keeps_trans a b d x.keeps (Keeps_trans b c d y.keeps z.keeps);
@@ -66,13 +67,37 @@ allocated_after_law a b c = allocated_after (state_of a) (state_of b) (state_of 
 queued : (s : Stored) (noted : Noted) → IsStore s → IsStore (record s { noted = noted })
 queued s noted h = record {
   valid = h.valid;
-  nested = record { first = h.nested.first; some = h.nested.some; last = h.nested.last; numbered = h.nested.numbered; from = h.nested.from; inside = h.nested.inside; before = h.nested.before; closed = h.nested.closed; apart = h.nested.apart; relics = h.nested.relics; written = h.nested.written };
+  nested = record {
+    first = h.nested.first;
+    some = h.nested.some;
+    last = h.nested.last;
+    numbered = h.nested.numbered;
+    from = h.nested.from;
+    inside =
+        h.nested.inside;
+    before = h.nested.before;
+    closed = h.nested.closed;
+    apart = h.nested.apart;
+    relics = h.nested.relics;
+    written = h.nested.written;
+  };
   rows = h.rows;
   wide = h.wide;
   arena = h.arena;
   rooted = record { some = h.rooted.some; name = h.rooted.name; begins = h.rooted.begins };
   born = h.born;
-  versions = record { tree = h.versions.tree; root = h.versions.root; forked = h.versions.forked; apart = h.versions.apart; placed = h.versions.placed; published = h.versions.published; counted = h.versions.counted; made = h.versions.made; calls = h.versions.calls };
+  versions = record {
+    tree = h.versions.tree;
+    root = h.versions.root;
+    forked = h.versions.forked;
+    apart = h.versions.apart;
+    placed =
+        h.versions.placed;
+    published = h.versions.published;
+    counted = h.versions.counted;
+    made = h.versions.made;
+    calls = h.versions.calls;
+  };
   bounded = h.bounded;
   few = h.few;
   spent = h.spent;
@@ -82,9 +107,13 @@ pub repair_law : RepairLaw
 repair_law s k nodes noted h a = go k s nodes noted h a
   where
     go : (k : ℕ) (s : Stored) (nodes : List Node) (noted : Noted) → IsStore s → AreSplits s.shape s.places k s.nodes nodes
-        → IsStore (with_nodes s nodes noted s.counts) × Unchanged (state_of s) (state_of (with_nodes s nodes noted s.counts)) × WritesStay (state_of s) (state_of (with_nodes s nodes noted s.counts)) × (k + potential (loads (with_nodes s nodes noted s.counts)) ≤ potential (loads s))
+        → IsStore (with_nodes s nodes noted s.counts) × Unchanged (state_of s) (state_of (with_nodes s nodes noted s.counts))
+        × WritesStay (state_of s) (state_of (with_nodes s nodes noted s.counts))
+        × (k + potential (loads (with_nodes s nodes noted s.counts)) ≤ potential (loads s))
     go zero s nodes noted h a =
-        subst (λ (ns : List Node). IsStore (with_nodes s ns noted s.counts) × Unchanged (state_of s) (state_of (with_nodes s ns noted s.counts)) × WritesStay (state_of s) (state_of (with_nodes s ns noted s.counts)) × (0 + potential (loads (with_nodes s ns noted s.counts)) ≤ potential (loads s))) (sym a)
+        subst (λ (ns : List Node). IsStore (with_nodes s ns noted s.counts) × Unchanged (state_of s) (state_of (with_nodes s ns noted s.counts))
+        × WritesStay (state_of s) (state_of (with_nodes s ns noted s.counts))
+        × (0 + potential (loads (with_nodes s ns noted s.counts)) ≤ potential (loads s))) (sym a)
         (queued s noted h, record { keeps = Keeps_refl (state_of s); heaps = λ p i. refl; counts = refl }, WritesStay_refl (state_of s), omega arith)
     go (suc k) s nodes noted h a =
         let one = split_step_law s a.0 s.noted a.1.node a.1.position h (a.1.rows, a.1.wide) a.1.split a.1.falls in

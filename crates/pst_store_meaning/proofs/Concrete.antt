@@ -25,7 +25,8 @@ length-rows (n ∷ ns) = ap suc (length-rows ns)
 
 -- ---- an arena of rows
 
-outside_rows : (r : ℕ → ℕ) (nodes : List Node) (i g n : ℕ) → (ltb i (length nodes) && (leb (of_node (λ n. r n.row.lo.0) 0 nodes i) n && ltb n (of_node (λ n. r n.row.hi.0) 0 nodes i))) ≡ false → rows_hold r (rows nodes) i g n ≡ Null
+outside_rows : (r : ℕ → ℕ) (nodes : List Node) (i g n : ℕ) → (ltb i (length nodes) &&
+    (leb (of_node (λ n. r n.row.lo.0) 0 nodes i) n && ltb n (of_node (λ n. r n.row.hi.0) 0 nodes i))) ≡ false → rows_hold r (rows nodes) i g n ≡ Null
 outside_rows r [] i g n e = refl
 outside_rows r (m ∷ ms) zero g n e =
     let one : ltb 0 (suc (length ms)) ≡ true = lt-ltb 0 (suc (length ms)) (omega arith) in

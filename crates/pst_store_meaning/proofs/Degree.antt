@@ -31,7 +31,8 @@ module _ (shape : List TypeShape) (end : ℕ) (w : Arena) (n : ℕ) (a : IsArena
   holding_is (TargetOf znode) t = let z : ℕ = znode.0 in ⊎_elim
       (λ (e : z ≡ y). rw (eq-eqb z y e, ap (λ k. same_name (w.name k) (w.name y)) e, same_name-same (w.name y)) refl)
       (λ (e : z ≡ y → ⊥).
-      let off : same_name (w.name z) (w.name y) ≡ false = false_from_ne_true (same_name (w.name z) (w.name y)) (λ s. e (unique_law (lives_of w) z y n a.chained (t z refl) h (same_name-true (w.name z) (w.name y) s))) in
+      let off : same_name (w.name z) (w.name y) ≡ false = false_from_ne_true (same_name (w.name z) (w.name y))
+      (λ s. e (unique_law (lives_of w) z y n a.chained (t z refl) h (same_name-true (w.name z) (w.name y) s))) in
       rw (ne_eqb z y e, off) refl)
       (cases_eq z y)
   holding_is Free t = refl
@@ -56,9 +57,12 @@ module _ (shape : List TypeShape) (end : ℕ) (w : Arena) (n : ℕ) (a : IsArena
       let sums : held_by (w.name y) (record_at shape w i n) ≡ sum_below (length (type_at shape (w.ty i)).targets) (λ k. one_if (leads_to y (w.chart.holds i ((type_at shape (w.ty i)).values + k) n))) =
       held_by-sum (w.name y) (listed (length (type_at shape (w.ty i)).targets) (λ k. denoted w.name (w.chart.holds i ((type_at shape (w.ty i)).values + k) n)))
       ∙ sum_listed (w.name y) (length (type_at shape (w.ty i)).targets) (λ k. denoted w.name (w.chart.holds i ((type_at shape (w.ty i)).values + k) n))
-      ∙ sum_below-same (length (type_at shape (w.ty i)).targets) (λ k. holding (w.name y) (denoted w.name (w.chart.holds i ((type_at shape (w.ty i)).values + k) n))) (λ k. one_if (leads_to y (w.chart.holds i ((type_at shape (w.ty i)).values + k) n)))
+      ∙ sum_below-same (length (type_at shape (w.ty i)).targets)
+      (λ k. holding (w.name y) (denoted w.name (w.chart.holds i ((type_at shape (w.ty i)).values + k) n)))
+      (λ k. one_if (leads_to y (w.chart.holds i ((type_at shape (w.ty i)).values + k) n)))
       (λ k p. holding_is (w.chart.holds i ((type_at shape (w.ty i)).values + k) n) (λ z s. target_alive w i ((type_at shape (w.ty i)).values + k) n z d a.mirrored s)) in
-      let none : sum_below (type_at shape (w.ty i)).values (λ f. one_if (leads_to y (w.chart.holds i f n))) ≡ 0 = sum_below-zero (type_at shape (w.ty i)).values (λ f. one_if (leads_to y (w.chart.holds i f n))) (λ g s. not_led i g l s) in
+      let none : sum_below (type_at shape (w.ty i)).values (λ f. one_if (leads_to y (w.chart.holds i f n))) ≡ 0 =
+      sum_below-zero (type_at shape (w.ty i)).values (λ f. one_if (leads_to y (w.chart.holds i f n))) (λ g s. not_led i g l s) in
       rw t (omega (arith, sums, none, sum_below-split (type_at shape (w.ty i)).values (length (type_at shape (w.ty i)).targets) (λ f. one_if (leads_to y (w.chart.holds i f n))))))
       (λ (t : is_in w i n ≡ false). rw t (sym (sum_below-zero (width i) (λ f. one_if (leads_to y (w.chart.holds i f n))) (λ f s. ap (λ c. one_if (leads_to y c)) (d.outside i f n t)))))
       (cases_Bool (is_in w i n))

@@ -28,7 +28,8 @@ back_shift k n = omega (arith, shift_cases k n, back_cases k (shift k n))
 
 -- ---- one place comes in behind the begin of a published place
 
-module _ (s : Stored) (from : Place) (z : ℕ) (places : List ℕ) (h : IsStore s) (has : IsPlace s from) (shut : IsOpen s.forks from → ⊥) (new : IsNewPlace s.places places from.begin.0 z) (fits : length places ≤ 2 * (s.calls + s.spent) + 2) where
+module _ (s : Stored) (from : Place) (z : ℕ) (places : List ℕ) (h : IsStore s) (has : IsPlace s from) (shut : IsOpen s.forks from → ⊥)
+    (new : IsNewPlace s.places places from.begin.0 z) (fits : length places ≤ 2 * (s.calls + s.spent) + 2) where
   abbrev t : Stored
   t = with_places s places
 
@@ -109,13 +110,15 @@ module _ (s : Stored) (from : Place) (z : ℕ) (places : List ℕ) (h : IsStore 
   }
 
   rows_t : AllRows (rank places) (length places) (rows s.nodes)
-  rows_t = subst (λ (n : ℕ). AllRows (rank places) n (rows s.nodes)) (sym more) (rows_insert_law (rank s.places) (rank places) k z (length s.places) (rows s.nodes) ins (rows_apart s.places z new.fresh (rows s.nodes) h.rows) h.rows)
+  rows_t = subst (λ (n : ℕ). AllRows (rank places) n (rows s.nodes)) (sym more)
+      (rows_insert_law (rank s.places) (rank places) k z (length s.places) (rows s.nodes) ins (rows_apart s.places z new.fresh (rows s.nodes) h.rows) h.rows)
 
   inserted_t : IsInserted (arena s) (arena t) k
   inserted_t = arena_inserted (rank s.places) (rank places) k z ins s.nodes (rows_apart s.places z new.fresh (rows s.nodes) h.rows)
 
   pub keeps : InsertedKeeps s.shape (end_of s s.start) (arena s) (arena t) k
-  keeps = inserted_law s.shape (end_of s s.start) (arena s) (arena t) k h.arena (drawn (rank s.places) (length s.places) s.nodes h.rows) (drawn (rank places) (length places) s.nodes rows_t) below_end inserted_t
+  keeps = inserted_law s.shape (end_of s s.start) (arena s) (arena t) k h.arena (drawn (rank s.places) (length s.places) s.nodes h.rows)
+      (drawn (rank places) (length places) s.nodes rows_t) below_end inserted_t
 
   born_t : AreBorn t
   born_t i l =
@@ -174,7 +177,20 @@ module _ (s : Stored) (h : IsStore s) (calls : s.calls < MOST_FORKS) where
   counted_store : IsStore (record s { calls = s.calls + 1 })
   counted_store = record {
     valid = h.valid;
-    nested = record { first = h.nested.first; some = h.nested.some; last = h.nested.last; numbered = h.nested.numbered; from = h.nested.from; inside = h.nested.inside; before = h.nested.before; closed = h.nested.closed; apart = h.nested.apart; relics = h.nested.relics; written = h.nested.written };
+    nested = record {
+      first = h.nested.first;
+      some = h.nested.some;
+      last = h.nested.last;
+      numbered = h.nested.numbered;
+      from = h.nested.from;
+      inside =
+          h.nested.inside;
+      before = h.nested.before;
+      closed = h.nested.closed;
+      apart = h.nested.apart;
+      relics = h.nested.relics;
+      written = h.nested.written;
+    };
     rows = h.rows;
     wide = h.wide;
     arena = h.arena;
@@ -220,7 +236,14 @@ fork_broken_law s from z places h pub' c new =
     let h0 = counted_store s h c in (
       store_t (fork_counted s s.places) from z places h0 pub'.has pub'.closed new fits,
       record {
-        grows = record { shape = refl; spent = refl; has = λ p i. i; live = λ p r l. (l.0, live_t (fork_counted s s.places) from z places h0 pub'.has pub'.closed new fits p r.0 l.0 l.1); name = λ p r l. refl };
+        grows = record {
+          shape = refl;
+          spent = refl;
+          has = λ p i. i;
+          live =
+              λ p r l. (l.0, live_t (fork_counted s s.places) from z places h0 pub'.has pub'.closed new fits p r.0 l.0 l.1);
+          name = λ p r l. refl;
+        };
         back = λ p i. i;
         writes = record { kept = λ p o. o; back = λ p o. o };
         heaps = λ p i. heap_t (fork_counted s s.places) from z places h0 pub'.has pub'.closed new fits p i;
@@ -233,7 +256,8 @@ fork_broken_law s from z places h pub' c new =
 
 -- ---- a fork
 
-module _ (s : Stored) (from place : Place) (mid places : List ℕ) (h : IsStore s) (has : IsPlace s from) (shut : IsOpen s.forks from → ⊥) (calls : s.calls < MOST_FORKS) (number : place.number ≡ length s.forks)
+module _ (s : Stored) (from place : Place) (mid places : List ℕ) (h : IsStore s) (has : IsPlace s from) (shut : IsOpen s.forks from → ⊥)
+    (calls : s.calls < MOST_FORKS) (number : place.number ≡ length s.forks)
     (a : IsNewPlace s.places mid from.begin.0 place.end.0) (b : IsNewPlace mid places from.begin.0 place.begin.0) where
   abbrev s0 : Stored
   s0 = fork_counted s s.places
@@ -416,7 +440,17 @@ module _ (s : Stored) (from place : Place) (mid places : List ℕ) (h : IsStore 
       root = h.versions.root;
       forked = λ v r is.
           let x = h.versions.forked v r is in
-          record { index = x.index; fork = x.fork; at = slice_get-kept s.forks row x.index x.fork x.at; place = x.place; published = x.published; parent = x.parent; parent_at = x.parent_at; from = x.from };
+          record {
+            index = x.index;
+            fork = x.fork;
+            at = slice_get-kept s.forks row x.index x.fork x.at;
+            place = x.place;
+            published =
+                x.published;
+            parent = x.parent;
+            parent_at = x.parent_at;
+            from = x.from;
+          };
       apart = h.versions.apart;
       placed = λ v r is. place_kept r.place (h.versions.placed v r is);
       published = λ v r is o. elim (open_back r.place o) [

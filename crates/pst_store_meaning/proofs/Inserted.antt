@@ -56,7 +56,8 @@ module _ (shape : List TypeShape) (end : ℕ) (old new : Arena) (k : ℕ) (a : I
   inserted_kind : (i g n : ℕ) → IsIn new i n → HasKind (type_at shape (new.ty i)) new.ty g (new.chart.holds i g n)
   inserted_kind i g n h =
       subst (λ (c : Content). HasKind (type_at shape (new.ty i)) new.ty g c) (sym (o.chart.holds i g n))
-      (kind-types (type_at shape (old.ty i)) (type_at shape (new.ty i)) old.ty new.ty g (old.chart.holds i g (back k n)) (ap (type_at shape) (o.ty i)) (λ y q. o.ty y) (a.kinds i g (back k n) (in_old i n h)))
+      (kind-types (type_at shape (old.ty i)) (type_at shape (new.ty i)) old.ty new.ty g (old.chart.holds i g (back k n)) (ap (type_at shape) (o.ty i))
+      (λ y q. o.ty y) (a.kinds i g (back k n) (in_old i n h)))
 
   inserted_arena : IsArena shape (suc end) new
   inserted_arena = record {

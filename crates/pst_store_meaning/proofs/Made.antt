@@ -39,27 +39,32 @@ pub default_pointer : (t : TypeShape) (g : ℕ) → t.values ≤ g → g < eleme
 default_pointer t g l m = rw (ltb-none g t.values l, lt-ltb g (t.values + length t.targets) m) refl
 
 pub default_kind : (t : TypeShape) (ty : ℕ → TypeNo) (g : ℕ) → HasKind t ty g (default_content t g)
-default_kind t ty g = elim (ltb g t.values) as (λ b. ltb g t.values ≡ b → HasKind t ty g (cond b (Number (pos 0)) (cond (ltb g (element_count t)) Null (cond (ltb g (element_count t + t.limit)) Free Null)))) [
-  | true ↦ λ e. ltb-true g t.values e
-  | false ↦ λ e. let low : t.values ≤ g = ltb-false g t.values e in
-      elim (ltb g (element_count t)) as (λ b. ltb g (element_count t) ≡ b → HasKind t ty g (cond b Null (cond (ltb g (element_count t + t.limit)) Free Null))) [
-        | true ↦ λ u. (low, inl (ltb-true g (element_count t) u))
-        | false ↦ λ u. let from : element_count t ≤ g = ltb-false g (element_count t) u in
-            elim (ltb g (element_count t + t.limit)) as (λ b. ltb g (element_count t + t.limit) ≡ b → HasKind t ty g (cond b Free Null)) [
-              | true ↦ λ w. record { from = from; below = ltb-true g (element_count t + t.limit) w }
-              | false ↦ λ w. (low, inr (ltb-false g (element_count t + t.limit) w))
-            ] refl
-      ] refl
-] refl
+default_kind t ty g = elim (ltb g t.values) as (λ b. ltb g t.values ≡ b
+    → HasKind t ty g (cond b (Number (pos 0)) (cond (ltb g (element_count t)) Null (cond (ltb g (element_count t + t.limit)) Free Null)))) [
+      | true ↦ λ e. ltb-true g t.values e
+      | false ↦ λ e. let low : t.values ≤ g = ltb-false g t.values e in
+          elim (ltb g (element_count t)) as (λ b. ltb g (element_count t) ≡ b → HasKind t ty g (cond b Null (cond (ltb g (element_count t + t.limit)) Free Null))) [
+            | true ↦ λ u. (low, inl (ltb-true g (element_count t) u))
+            | false ↦ λ u. let from : element_count t ≤ g = ltb-false g (element_count t) u in
+                elim (ltb g (element_count t + t.limit)) as (λ b. ltb g (element_count t + t.limit) ≡ b → HasKind t ty g (cond b Free Null)) [
+                  | true ↦ λ w. record { from = from; below = ltb-true g (element_count t + t.limit) w }
+                  | false ↦ λ w. (low, inr (ltb-false g (element_count t + t.limit) w))
+                ] refl
+          ] refl
+    ] refl
 
 pub default_plain : (t : TypeShape) (g : ℕ) → (default_content t g ≡ Number (pos 0)) ⊎ ((default_content t g ≡ Null) ⊎ (default_content t g ≡ Free))
-default_plain t g = elim (ltb g t.values) as (λ b. (cond b (Number (pos 0)) (cond (ltb g (element_count t)) Null (cond (ltb g (element_count t + t.limit)) Free Null)) ≡ Number (pos 0)) ⊎ ((cond b (Number (pos 0)) (cond (ltb g (element_count t)) Null (cond (ltb g (element_count t + t.limit)) Free Null)) ≡ Null) ⊎ (cond b (Number (pos 0)) (cond (ltb g (element_count t)) Null (cond (ltb g (element_count t + t.limit)) Free Null)) ≡ Free))) [
-  | true ↦ inl refl
-  | false ↦ inr (elim (ltb g (element_count t)) as (λ b. (cond b Null (cond (ltb g (element_count t + t.limit)) Free Null) ≡ Null) ⊎ (cond b Null (cond (ltb g (element_count t + t.limit)) Free Null) ≡ Free)) [
-    | true ↦ inl refl
-    | false ↦ elim (ltb g (element_count t + t.limit)) as (λ b. (cond b Free Null ≡ Null) ⊎ (cond b Free Null ≡ Free)) [ true ↦ inr refl | false ↦ inl refl ]
-  ])
-]
+default_plain t g = elim (ltb g t.values) as (λ b. (cond b (Number (pos 0))
+    (cond (ltb g (element_count t)) Null (cond (ltb g (element_count t + t.limit)) Free Null)) ≡ Number (pos 0))
+    ⊎ ((cond b (Number (pos 0)) (cond (ltb g (element_count t)) Null (cond (ltb g (element_count t + t.limit)) Free Null)) ≡ Null)
+    ⊎ (cond b (Number (pos 0)) (cond (ltb g (element_count t)) Null (cond (ltb g (element_count t + t.limit)) Free Null)) ≡ Free))) [
+      | true ↦ inl refl
+      | false ↦ inr (elim (ltb g (element_count t)) as (λ b. (cond b Null (cond (ltb g (element_count t + t.limit)) Free Null) ≡ Null)
+          ⊎ (cond b Null (cond (ltb g (element_count t + t.limit)) Free Null) ≡ Free)) [
+            | true ↦ inl refl
+            | false ↦ elim (ltb g (element_count t + t.limit)) as (λ b. (cond b Free Null ≡ Null) ⊎ (cond b Free Null ≡ Free)) [ true ↦ inr refl | false ↦ inl refl ]
+          ])
+    ]
 
 module _ (shape : List TypeShape) (end : ℕ) (old new : Arena) (q : Name) (t : TypeNo) (b : ℕ) (a : IsArena shape end old) (d : IsDrawn old) (e : IsDrawn new) (o : IsMade shape old new q t b)
     (fresh : (i : ℕ) → i < old.count → old.name i ≢ q) (above : 0 < t.0) (below : t.0 < length shape) where
@@ -160,7 +165,8 @@ module _ (shape : List TypeShape) (end : ℕ) (old new : Arena) (q : Name) (t : 
         (subst (λ (c : Content). HasKind (type_at shape (new.ty z)) new.ty g c) (sym (o.new_holds g))
         (subst (λ (u : TypeNo). HasKind (type_at shape u) new.ty g (default_content (type_at shape t) g)) (sym o.new_ty) (default_kind (type_at shape t) new.ty g))))
     | inr p ↦ subst (λ (c : Content). HasKind (type_at shape (new.ty i)) new.ty g c) (sym (o.holds i g n (apart_z i p)))
-        (kind-types (type_at shape (old.ty i)) (type_at shape (new.ty i)) old.ty new.ty g (old.chart.holds i g n) (ap (type_at shape) (o.ty i p)) (λ y s. o.ty y (target i g n y s)) (a.kinds i g n (in_old i n p h)))
+        (kind-types (type_at shape (old.ty i)) (type_at shape (new.ty i)) old.ty new.ty g (old.chart.holds i g n) (ap (type_at shape) (o.ty i p))
+        (λ y s. o.ty y (target i g n y s)) (a.kinds i g n (in_old i n p h)))
   ]
 
   made_arena : IsArena shape end new

@@ -67,7 +67,8 @@ count-set [] i old new at a b = absurd (cc)
 count-set (x ∷ xs) zero old new at a b =
     let same : x.published ≡ false = (let e : x ≡ old = cc in ap (λ (k : Fork). k.published) e ∙ a) in
     ap (λ c. cond c 1 0 + published_count xs) b ∙ (let e : 1 + published_count xs ≡ (0 + published_count xs) + 1 = omega arith in e) ∙ ap (λ c. (cond c 1 0 + published_count xs) + 1) (sym same)
-count-set (x ∷ xs) (suc i) old new at a b = ap (λ n. cond x.published 1 0 + n) (count-set xs i old new at a b) ∙ (let e : cond x.published 1 0 + (published_count xs + 1) ≡ (cond x.published 1 0 + published_count xs) + 1 = omega arith in e)
+count-set (x ∷ xs) (suc i) old new at a b = ap (λ n. cond x.published 1 0 + n) (count-set xs i old new at a b)
+    ∙ (let e : cond x.published 1 0 + (published_count xs + 1) ≡ (cond x.published 1 0 + published_count xs) + 1 = omega arith in e)
 
 -- ---- places
 
@@ -129,7 +130,8 @@ store_is_sound s h =
       placed = λ p r l. l.0;
       found = λ p r l.
           let j = l.1.covering in
-          let at : get (heap_at s.shape (arena s) (begin_of s p)) ((arena s).name r.0) ≡ Some _ = ap (get (heap_at s.shape (arena s) (begin_of s p))) (sym j.2) ∙ heap_has s.shape (arena s) (begin_of s p) h.arena.chained j.0 j.1 in
+          let at : get (heap_at s.shape (arena s) (begin_of s p)) ((arena s).name r.0) ≡ Some _ =
+          ap (get (heap_at s.shape (arena s) (begin_of s p))) (sym j.2) ∙ heap_has s.shape (arena s) (begin_of s p) h.arena.chained j.0 j.1 in
           subst IsSome (sym at) refl;
       written = λ p o. open_place s p o;
       parents = h.versions.tree.parents;

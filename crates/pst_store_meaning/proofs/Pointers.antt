@@ -66,7 +66,8 @@ pointer_twice h n f p q r e =
 
 -- ---- clearing
 
-module _ (shape : List TypeShape) (end : ℕ) (old mid : Arena) (x f b : ℕ) (t : TypeNo) (a : IsArena shape end old) (d : IsDrawn old) (e : IsDrawn mid) (h : IsIn old x b) (k : field_kind (type_at shape (old.ty x)) f ≡ Some (Pointer t)) where
+module _ (shape : List TypeShape) (end : ℕ) (old mid : Arena) (x f b : ℕ) (t : TypeNo) (a : IsArena shape end old) (d : IsDrawn old) (e : IsDrawn mid)
+    (h : IsIn old x b) (k : field_kind (type_at shape (old.ty x)) f ≡ Some (Pointer t)) where
   same_nodes : HasSameNodes old old
   same_nodes = record { count = refl; name = λ i. refl; ty = λ i. refl; lo = λ i. refl; hi = λ i. refl; later = λ i. refl }
 
@@ -75,11 +76,14 @@ module _ (shape : List TypeShape) (end : ℕ) (old mid : Arena) (x f b : ℕ) (t
   null_same none =
       let p = pointer_field (type_at shape (old.ty x)) f t k in
       let len : length (record_at shape old x b).values ≡ (type_at shape (old.ty x)).values = length-listed (type_at shape (old.ty x)).values (λ g. number (old.chart.holds x g b)) in
-      let ptrs : length (record_at shape old x b).pointers ≡ length (type_at shape (old.ty x)).targets = length-listed (length (type_at shape (old.ty x)).targets) (λ k. denoted old.name (old.chart.holds x ((type_at shape (old.ty x)).values + k) b)) in
+      let ptrs : length (record_at shape old x b).pointers ≡ length (type_at shape (old.ty x)).targets =
+      length-listed (length (type_at shape (old.ty x)).targets) (λ k. denoted old.name (old.chart.holds x ((type_at shape (old.ty x)).values + k) b)) in
       let at : (type_at shape (old.ty x)).values + (f - (type_at shape (old.ty x)).values) ≡ f = omega (arith, p.0) in
       let held : get_or (record_at shape old x b).pointers (f - length (record_at shape old x b).values) None ≡ None =
       ap (λ (m : ℕ). get_or (record_at shape old x b).pointers (f - m) None) len
-      ∙ get_or-listed (length (type_at shape (old.ty x)).targets) (λ k. denoted old.name (old.chart.holds x ((type_at shape (old.ty x)).values + k) b)) (f - (type_at shape (old.ty x)).values) None (omega (arith, p.0, p.1))
+      ∙ get_or-listed (length (type_at shape (old.ty x)).targets)
+      (λ k. denoted old.name (old.chart.holds x ((type_at shape (old.ty x)).values + k) b)) (f - (type_at shape (old.ty x)).values) None
+      (omega (arith, p.0, p.1))
       ∙ ap (λ (g : ℕ). denoted old.name (old.chart.holds x g b)) at ∙ ap (denoted old.name) none in
       let ps : set (record_at shape old x b).pointers (f - length (record_at shape old x b).values) None ≡ (record_at shape old x b).pointers =
       ap (λ (v : Option Name). set (record_at shape old x b).pointers (f - length (record_at shape old x b).values) v) (sym held)
@@ -121,7 +125,8 @@ module _ (old mid new : Arena) (o : HasSameNodes old mid) (p : HasSameNodes mid 
 pub pointer_law : PointerLaw
 pointer_law shape end old mid new x f y s b a d dm e h k c o =
     let m = cleared shape end old mid x f b (old.ty y) a d dm h k c in
-    let km : field_kind (type_at shape (mid.ty x)) f ≡ Some (Pointer (mid.ty y)) = ap (λ (t : TypeNo). field_kind (type_at shape t) f) (m.1.ty x) ∙ k ∙ ap (λ (t : TypeNo). Some (Pointer t)) (sym (m.1.ty y)) in
+    let km : field_kind (type_at shape (mid.ty x)) f ≡ Some (Pointer (mid.ty y)) = ap (λ (t : TypeNo). field_kind (type_at shape t) f) (m.1.ty x) ∙ k
+    ∙ ap (λ (t : TypeNo). Some (Pointer t)) (sym (m.1.ty y)) in
     let w = put_law shape end mid new x f y s b m.0.arena dm e o (in_new shape end old mid x f b a m.1 x b h) km in (
       record {
         arena = w.arena;

@@ -37,12 +37,15 @@ origin_there [] i p e = absurd (cc)
 origin_there (x ∷ xs) zero p e = omega arith
 origin_there (x ∷ xs) (suc i) p e = omega (arith, origin_there xs i p e)
 
-found : (rows : List (VersionRow Place)) (i : ℕ) (p : Place) → option_map (λ (row : VersionRow Place). row.place) (slice_get rows i) ≡ Some p → (row : VersionRow Place) × (slice_get rows i ≡ Some row) × (row.place ≡ p)
+found : (rows : List (VersionRow Place)) (i : ℕ) (p : Place) → option_map (λ (row : VersionRow Place). row.place) (slice_get rows i) ≡ Some p
+    → (row : VersionRow Place) × (slice_get rows i ≡ Some row) × (row.place ≡ p)
 found [] i p e = absurd (cc)
 found (x ∷ xs) zero p e = (x, refl, cc)
 found (x ∷ xs) (suc i) p e = found xs i p e
 
-module _ (s : Stored) (parent : VersionNo) (run : RunNo) (at : Place) (k : ℕ) (f : Fork) (h : IsStore s) (origin : option_map (λ (row : VersionRow Place). row.place) (slice_get s.versions parent.0) ≡ Some f.from) (is : slice_get s.forks k ≡ Some f) (place : f.place ≡ at) (unpublished : f.published ≡ false) where
+module _ (s : Stored) (parent : VersionNo) (run : RunNo) (at : Place) (k : ℕ) (f : Fork) (h : IsStore s)
+    (origin : option_map (λ (row : VersionRow Place). row.place) (slice_get s.versions parent.0) ≡ Some f.from) (is : slice_get s.forks k ≡ Some f)
+    (place : f.place ≡ at) (unpublished : f.published ≡ false) where
   abbrev u : Stored
   u = published s parent run at k f
 
@@ -56,7 +59,8 @@ module _ (s : Stored) (parent : VersionNo) (run : RunNo) (at : Place) (k : ℕ) 
   was : (j : ℕ) (g : Fork) → slice_get u.forks j ≡ Some g → ((j ≡ k) × (record f { published = true } ≡ g)) ⊎ ((j ≢ k) × (slice_get s.forks j ≡ Some g))
   was j g e = ⊎_elim
       (λ (q : j ≡ k).
-      let here : slice_get u.forks j ≡ Some (record f { published = true }) = ap (slice_get u.forks) q ∙ slice_get-set_same s.forks k (record f { published = true }) (slice_get-below s.forks k f is) in
+      let here : slice_get u.forks j ≡ Some (record f { published = true }) = ap (slice_get u.forks) q
+      ∙ slice_get-set_same s.forks k (record f { published = true }) (slice_get-below s.forks k f is) in
       inl (q, cc))
       (λ (q : j ≡ k → ⊥). inr (q, sym (slice_get-set_other s.forks k j (record f { published = true }) q) ∙ e))
       (cases_eq j k)

@@ -26,7 +26,8 @@ record_of-same shape t u name name' slots slots' e n d =
     (λ i. record {
       ty = t;
       values = listed-same (type_at shape t).values (λ g. number (slots' g)) (λ g. number (slots g)) (λ g l. n g (omega arith)) i;
-      pointers = listed-same (length (type_at shape t).targets) (λ k. denoted name' (slots' ((type_at shape t).values + k))) (λ k. denoted name (slots ((type_at shape t).values + k))) (λ k l. d ((type_at shape t).values + k) (omega arith)) i;
+      pointers = listed-same (length (type_at shape t).targets) (λ k. denoted name' (slots' ((type_at shape t).values + k)))
+          (λ k. denoted name (slots ((type_at shape t).values + k))) (λ k l. d ((type_at shape t).values + k) (omega arith)) i;
     })
 
 pub denoted-names : (name name' : ℕ → Name) (c : Content) → ((y : ℕ) → c ≡ Target y → name' y ≡ name y) → denoted name' c ≡ denoted name c

@@ -42,15 +42,16 @@ denoted_some name Free q e = absurd (cc)
 denoted_some name (FromOf ynode fslot) q e = let y : ℕ = ynode.0 in let f : ℕ = fslot.0 in absurd (cc)
 
 field_target : (t : TypeShape) (k : ℕ) (u : TypeNo) → field_kind t (t.values + k) ≡ Some (Pointer u) → get_or t.targets k root_type ≡ u
-field_target t k u e = elim (ltb (t.values + k) t.values) as (λ b. ltb (t.values + k) t.values ≡ b → cond b (Some Int) (option_map Pointer (slice_get t.targets ((t.values + k) - t.values))) ≡ Some (Pointer u) → get_or t.targets k root_type ≡ u) [
-  | true ↦ λ x h. absurd (let l = ltb-true (t.values + k) t.values x in omega arith)
-  | false ↦ λ x h.
-      let at : (t.values + k) - t.values ≡ k = omega arith in
-      elim (slice_get t.targets k) as (λ (o : Option TypeNo). slice_get t.targets k ≡ o → option_map Pointer o ≡ Some (Pointer u) → get_or t.targets k root_type ≡ u) [
-        | None ↦ λ y l. absurd (cc)
-        | Some v ↦ λ y l. get_or_from_slice_get t.targets k v root_type y ∙ (let same : v ≡ u = cc in same)
-      ] refl (ap (λ i. option_map Pointer (slice_get t.targets i)) (sym at) ∙ h)
-] refl e
+field_target t k u e = elim (ltb (t.values + k) t.values) as (λ b. ltb (t.values + k) t.values ≡ b
+    → cond b (Some Int) (option_map Pointer (slice_get t.targets ((t.values + k) - t.values))) ≡ Some (Pointer u) → get_or t.targets k root_type ≡ u) [
+      | true ↦ λ x h. absurd (let l = ltb-true (t.values + k) t.values x in omega arith)
+      | false ↦ λ x h.
+          let at : (t.values + k) - t.values ≡ k = omega arith in
+          elim (slice_get t.targets k) as (λ (o : Option TypeNo). slice_get t.targets k ≡ o → option_map Pointer o ≡ Some (Pointer u) → get_or t.targets k root_type ≡ u) [
+            | None ↦ λ y l. absurd (cc)
+            | Some v ↦ λ y l. get_or_from_slice_get t.targets k v root_type y ∙ (let same : v ≡ u = cc in same)
+          ] refl (ap (λ i. option_map Pointer (slice_get t.targets i)) (sym at) ∙ h)
+    ] refl e
 
 module _ (shape : List TypeShape) (end : ℕ) (w : Arena) (n : ℕ) (a : IsArena shape end w) (d : IsDrawn w) where
   type_of : (i : ℕ) → IsIn w i n → type_in (heap_at shape w n) (w.name i) ≡ Some (w.ty i)
@@ -80,14 +81,23 @@ module _ (shape : List TypeShape) (end : ℕ) (w : Arena) (n : ℕ) (a : IsArena
   has_targets i h k q e = ⊎_elim
       (λ (l : k < length (type_at shape (w.ty i)).targets).
       let slot : ℕ = (type_at shape (w.ty i)).values + k in
-      let den : denoted w.name (w.chart.holds i ((type_at shape (w.ty i)).values + k) n) ≡ Some q = sym (get_or-listed (length (type_at shape (w.ty i)).targets) (λ k. denoted w.name (w.chart.holds i ((type_at shape (w.ty i)).values + k) n)) k None l) ∙ e in
+      let den : denoted w.name (w.chart.holds i ((type_at shape (w.ty i)).values + k) n) ≡ Some q =
+      sym (get_or-listed (length (type_at shape (w.ty i)).targets) (λ k. denoted w.name (w.chart.holds i ((type_at shape (w.ty i)).values + k) n))
+      k None l) ∙ e in
       let t = denoted_some w.name (w.chart.holds i ((type_at shape (w.ty i)).values + k) n) q den in
-      let kind : field_kind (type_at shape (w.ty i)) ((type_at shape (w.ty i)).values + k) ≡ Some (Pointer (w.ty t.0)) = subst (λ (c : Content). HasKind (type_at shape (w.ty i)) w.ty ((type_at shape (w.ty i)).values + k) c) t.1 (a.kinds i ((type_at shape (w.ty i)).values + k) n h) in
+      let kind : field_kind (type_at shape (w.ty i)) ((type_at shape (w.ty i)).values + k) ≡ Some (Pointer (w.ty t.0)) =
+      subst (λ (c : Content). HasKind (type_at shape (w.ty i)) w.ty ((type_at shape (w.ty i)).values + k) c) t.1
+      (a.kinds i ((type_at shape (w.ty i)).values + k) n h) in
       let there = target_alive w i ((type_at shape (w.ty i)).values + k) n t.0 d a.mirrored t.1 in
       ap (type_in (heap_at shape w n)) (sym t.2) ∙ type_of t.0 there ∙ ap Some (sym (field_target (type_at shape (w.ty i)) k (w.ty t.0) kind)))
       (λ (l : length (type_at shape (w.ty i)).targets ≤ k).
       let none : get_or (listed (length (type_at shape (w.ty i)).targets) (λ k. denoted w.name (w.chart.holds i ((type_at shape (w.ty i)).values + k) n))) k None ≡ None =
-      get_or_past (listed (length (type_at shape (w.ty i)).targets) (λ k. denoted w.name (w.chart.holds i ((type_at shape (w.ty i)).values + k) n))) k None (omega (arith, length-listed (length (type_at shape (w.ty i)).targets) (λ k. denoted w.name (w.chart.holds i ((type_at shape (w.ty i)).values + k) n)))) in
+      get_or_past (listed (length (type_at shape (w.ty i)).targets) (λ k. denoted w.name (w.chart.holds i ((type_at shape (w.ty i)).values + k) n))) k
+      None (omega (
+        arith,
+        length-listed (length (type_at shape (w.ty i)).targets)
+            (λ k. denoted w.name (w.chart.holds i ((type_at shape (w.ty i)).values + k) n)),
+      )) in
       absurd (let k' : None ≡ Some q = sym none ∙ e in cc))
       (cases_lt k (length (type_at shape (w.ty i)).targets))
 
@@ -101,7 +111,13 @@ module _ (shape : List TypeShape) (end : ℕ) (w : Arena) (n : ℕ) (a : IsArena
         let t = typed q ty e in
         let deg : in_degree (heap_at shape w n) q ≡ in_degree (heap_at shape w n) (w.name t.node) = ap (in_degree (heap_at shape w n)) (sym t.named) in
         let lim : (type_at shape (w.ty t.node)).limit ≡ (type_at shape ty).limit = ap (λ (u : TypeNo). (type_at shape u).limit) t.typed in
-        omega (arith, deg, lim, degree_is shape end w n a d t.node t.alive, count_le (λ u. is_entry (w.chart.holds t.node (element_count (type_at shape (w.ty t.node)) + u) n)) (type_at shape (w.ty t.node)).limit);
+        omega (
+          arith,
+          deg,
+          lim,
+          degree_is shape end w n a d t.node t.alive,
+          count_le (λ u. is_entry (w.chart.holds t.node (element_count (type_at shape (w.ty t.node)) + u) n)) (type_at shape (w.ty t.node)).limit,
+        );
   }
 
 pub sound_law : SoundLaw
@@ -110,7 +126,8 @@ sound_law shape end w n a d = sound shape end w n a d
 -- ---- full
 
 other_from : (x f z g : ℕ) → (z ≡ x → g ≡ f → ⊥) → is_other_entry x f (From z g) ≡ true
-other_from x f z g off = let none : eqb z x && eqb g f ≡ false = false_from_ne_true (eqb z x && eqb g f) (λ e. let p = and_parts (eqb z x) (eqb g f) e in off (eqb-true z x p.0) (eqb-true g f p.1)) in rw none refl
+other_from x f z g off = let none : eqb z x && eqb g f ≡ false =
+    false_from_ne_true (eqb z x && eqb g f) (λ e. let p = and_parts (eqb z x) (eqb g f) e in off (eqb-true z x p.0) (eqb-true g f p.1)) in rw none refl
 
 not_other : (x f : ℕ) → is_other_entry x f (From x f) ≡ false
 not_other x f = rw (eq-eqb x x refl, eq-eqb f f refl) refl
@@ -136,7 +153,8 @@ leads_is y (TargetOf znode) e = let z : ℕ = znode.0 in ap Target (eqb-true z y
 leads_is y Free e = absurd (cc)
 leads_is y (FromOf znode fslot) e = let z : ℕ = znode.0 in let f : ℕ = fslot.0 in absurd (cc)
 
-module _ (shape : List TypeShape) (end : ℕ) (w : Arena) (n x f y : ℕ) (a : IsArena shape end w) (d : IsDrawn w) (hx : IsIn w x n) (hy : IsIn w y n) (k : field_kind (type_at shape (w.ty x)) f ≡ Some (Pointer (w.ty y))) where
+module _ (shape : List TypeShape) (end : ℕ) (w : Arena) (n x f y : ℕ) (a : IsArena shape end w) (d : IsDrawn w) (hx : IsIn w x n) (hy : IsIn w y n)
+    (k : field_kind (type_at shape (w.ty x)) f ≡ Some (Pointer (w.ty y))) where
   abbrev slot : ℕ → Content
   slot u = w.chart.holds y (element_count (type_at shape (w.ty y)) + u) n
 
@@ -151,7 +169,8 @@ module _ (shape : List TypeShape) (end : ℕ) (w : Arena) (n x f y : ℕ) (a : I
       let at : (type_at shape (w.ty x)).values + (f - (type_at shape (w.ty x)).values) ≡ f = omega (arith, p.0) in
       let ptr : pointer_at (record_at shape w x n) f ≡ denoted w.name (w.chart.holds x f n) =
       ap (λ (m : ℕ). get_or (record_at shape w x n).pointers (f - m) None) len
-      ∙ get_or-listed (length (type_at shape (w.ty x)).targets) (λ k. denoted w.name (w.chart.holds x ((type_at shape (w.ty x)).values + k) n)) (f - (type_at shape (w.ty x)).values) None (omega (arith, p.0, p.1))
+      ∙ get_or-listed (length (type_at shape (w.ty x)).targets) (λ k. denoted w.name (w.chart.holds x ((type_at shape (w.ty x)).values + k) n))
+      (f - (type_at shape (w.ty x)).values) None (omega (arith, p.0, p.1))
       ∙ ap (λ (g : ℕ). denoted w.name (w.chart.holds x g n)) at in
       ap (in_field (w.name y) f) (heap_has shape w n a.chained x hx) ∙ ap (holding (w.name y)) ptr
       ∙ holding_is shape end w n a d y hy (w.chart.holds x f n) (λ z e. target_alive w x f n z d a.mirrored e)
@@ -216,7 +235,8 @@ pub open_slot_law : OpenSlotLaw
 open_slot_law shape end old new x f y s b z t a o h i e =
     elim (open_content (type_at shape (old.ty z)) old.ty t x f (old.chart.holds z t b) i (a.kinds z t b h) e) [
       | inl free ↦ o.unlinked.holds z t b ∙ elim (put_cases old.chart x f Null y s Free b z t b) [
-        | inl p ↦ absurd (let held : old.chart.holds z t b ≡ Target y = ap (λ (i : ℕ). old.chart.holds i t b) p.0 ∙ ap (λ (g : ℕ). old.chart.holds x g b) p.1 ∙ a.mirrored.back y s b x f o.unlinked.pair in let k : Free ≡ Target y = sym free ∙ held in cc)
+        | inl p ↦ absurd (let held : old.chart.holds z t b ≡ Target y = ap (λ (i : ℕ). old.chart.holds i t b) p.0
+            ∙ ap (λ (g : ℕ). old.chart.holds x g b) p.1 ∙ a.mirrored.back y s b x f o.unlinked.pair in let k : Free ≡ Target y = sym free ∙ held in cc)
         | inr q ↦ elim q [ inl p ↦ p.3 | inr p ↦ p.2 ∙ free ]
       ]
       | inr own ↦
@@ -225,7 +245,8 @@ open_slot_law shape end old new x f y s b z t a o h i e =
           let same : z ≡ y = target_node z y (sym led ∙ held) in
           let slots : t ≡ s = a.mirrored.one y t s b x f (ap (λ (i : ℕ). old.chart.holds i t b) (sym same) ∙ own) o.unlinked.pair in
           o.unlinked.holds z t b ∙ elim (put_cases old.chart x f Null y s Free b z t b) [
-            | inl p ↦ absurd (let at : old.chart.holds z t b ≡ Target y = ap (λ (i : ℕ). old.chart.holds i t b) p.0 ∙ ap (λ (g : ℕ). old.chart.holds x g b) p.1 ∙ held in let k : From x f ≡ Target y = sym own ∙ at in cc)
+            | inl p ↦ absurd (let at : old.chart.holds z t b ≡ Target y = ap (λ (i : ℕ). old.chart.holds i t b) p.0
+                ∙ ap (λ (g : ℕ). old.chart.holds x g b) p.1 ∙ held in let k : From x f ≡ Target y = sym own ∙ at in cc)
             | inr q ↦ elim q [
               | inl p ↦ p.3
               | inr p ↦ absurd (false≢true (sym p.1 ∙ ap (λ (i : ℕ). is_there y s b i t b) same ∙ ap (λ (g : ℕ). is_there y s b y g b) slots ∙ is_there_same y s b))

@@ -88,7 +88,8 @@ module _ (shape : List TypeShape) (start : Place) (root : Node) (valid : IsValid
 
   at_root : (g n : ℕ) → IsIn (arena s) 0 n → (arena s).chart.holds 0 g n ≡ default_content (type_at shape root_type) g
   at_root g n h =
-      let alive : is_alive r root.row n ≡ true = (let low : r root.row.lo.0 ≤ n = h.low in let high : n < r root.row.hi.0 = h.high in rw (le-leb (r root.row.lo.0) n low, lt-ltb n (r root.row.hi.0) high) refl) in
+      let alive : is_alive r root.row n ≡ true = (let low : r root.row.lo.0 ≤ n = h.low in let high : n < r root.row.hi.0 = h.high in
+      rw (le-leb (r root.row.lo.0) n low, lt-ltb n (r root.row.hi.0) high) refl) in
       ap (λ v. cond v (content_in r root.row g n) Null) alive ∙ content g n
 
   no_target : (i g n y : ℕ) → (arena s).chart.holds i g n ≢ Target y
@@ -154,7 +155,8 @@ module _ (shape : List TypeShape) (start : Place) (root : Node) (valid : IsValid
       new.row_is r 2 (omega (arith, begin_at, end_at)) (omega (arith, end_at)),
       tt,
     );
-    wide = λ i n e. let o = one_there root n i e in subst (λ (n : Node). length n.row.slots ≡ width (type_at shape n.head.ty)) o.1 (new.wide ∙ ap (λ (t : TypeNo). width (type_at shape t)) (sym new.typed));
+    wide = λ i n e. let o = one_there root n i e in subst (λ (n : Node). length n.row.slots ≡ width (type_at shape n.head.ty)) o.1
+        (new.wide ∙ ap (λ (t : TypeNo). width (type_at shape t)) (sym new.typed));
     arena = subst (λ (n : ℕ). IsArena shape n (arena s)) (sym end_at) start_arena;
     rooted = record { some = omega arith; name = new.name; begins = lo_is };
     born = λ i l. (
@@ -199,7 +201,8 @@ module _ (shape : List TypeShape) (start : Place) (root : Node) (valid : IsValid
   start_rested = record {
     none = refl;
     held = λ i l n. (0, omega arith, sym (first i l));
-    small = λ i n e. let o = one_there root n i e in subst (λ (n : Node). length n.row.stamps ≤ capacity (type_at shape n.head.ty)) o.1 (let none : length root.row.stamps ≡ 0 = ap (λ (es : List Stamp). length es) new.stamped in omega arith);
+    small = λ i n e. let o = one_there root n i e in subst (λ (n : Node). length n.row.stamps ≤ capacity (type_at shape n.head.ty)) o.1
+        (let none : length root.row.stamps ≡ 0 = ap (λ (es : List Stamp). length es) new.stamped in omega arith);
   }
 
   root_record : record_at shape (arena s) 0 0 ≡ new_record shape root_type
@@ -207,9 +210,11 @@ module _ (shape : List TypeShape) (start : Place) (root : Node) (valid : IsValid
       ap (λ (u : TypeNo). record_of shape u (arena s).name (λ g. (arena s).chart.holds 0 g 0)) new.typed ∙
       (λ i. record {
         ty = root_type;
-        values = listed-replicate (type_at shape root_type).values (λ g. number ((arena s).chart.holds 0 g 0)) (pos 0) (λ g l. ap number (at_root g 0 inside ∙ default_value (type_at shape root_type) g l)) i;
+        values = listed-replicate (type_at shape root_type).values (λ g. number ((arena s).chart.holds 0 g 0)) (pos 0)
+            (λ g l. ap number (at_root g 0 inside ∙ default_value (type_at shape root_type) g l)) i;
         pointers = listed-replicate (length (type_at shape root_type).targets) (λ k. denoted (arena s).name ((arena s).chart.holds 0 ((type_at shape root_type).values + k) 0)) None
-            (λ k l. ap (denoted (arena s).name) (at_root ((type_at shape root_type).values + k) 0 inside ∙ default_pointer (type_at shape root_type) ((type_at shape root_type).values + k) (omega arith) (omega arith))) i;
+            (λ k l. ap (denoted (arena s).name) (at_root ((type_at shape root_type).values + k) 0 inside
+            ∙ default_pointer (type_at shape root_type) ((type_at shape root_type).values + k) (omega arith) (omega arith))) i;
       })
 
   start_heap : heap_at shape (arena s) (r start.begin.0) ≡ initial_heap shape

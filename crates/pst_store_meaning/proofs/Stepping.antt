@@ -83,7 +83,8 @@ grown shape old new k h = omega (arith, growth (map (load_of shape) old) (map (l
 
 -- ---- a new record
 
-module _ (s : Stored) (noted : Noted) (at : Place) (ty : TypeNo) (q : Name) (n : Node) (h : IsStore s) (o : IsOpen s.forks at) (known : IsNewType (state_of s) ty) (fresh : IsFresh (state_of s) q) (new : IsNewNode s.shape n q ty at) where
+module _ (s : Stored) (noted : Noted) (at : Place) (ty : TypeNo) (q : Name) (n : Node) (h : IsStore s) (o : IsOpen s.forks at)
+    (known : IsNewType (state_of s) ty) (fresh : IsFresh (state_of s) q) (new : IsNewNode s.shape n q ty at) where
   abbrev t : Stored
   t = with_nodes s (s.nodes ++ n ∷ []) noted (one_record s.counts)
 
@@ -107,7 +108,8 @@ module _ (s : Stored) (noted : Noted) (at : Place) (ty : TypeNo) (q : Name) (n :
 
   base_is : (g : ℕ) → rows_hold r (rows (s.nodes ++ n ∷ [])) (length s.nodes) g b ≡ default_content (type_at s.shape ty) g
   base_is g =
-      let alive : is_alive r n.row b ≡ true = (let low : r n.row.lo.0 ≤ b = omega (arith, lo_is) in let high : b < r n.row.hi.0 = omega (arith, hi_is) in rw (le-leb (r n.row.lo.0) b low, lt-ltb b (r n.row.hi.0) high) refl) in
+      let alive : is_alive r n.row b ≡ true = (let low : r n.row.lo.0 ≤ b = omega (arith, lo_is) in let high : b < r n.row.hi.0 =
+      omega (arith, hi_is) in rw (le-leb (r n.row.lo.0) b low, lt-ltb b (r n.row.hi.0) high) refl) in
       holds-new r s.nodes n g b ∙ ap (λ v. cond v (content_in r n.row g b) Null) alive ∙ in_force-none (stamps_in r n.row g) (base_in n.row g) b (no_stamps g) ∙ new.base g
 
   made : IsMade s.shape (arena s) (arena t) q ty b
@@ -135,13 +137,16 @@ module _ (s : Stored) (noted : Noted) (at : Place) (ty : TypeNo) (q : Name) (n :
   apart : (i : ℕ) → i < length s.nodes → (arena s).name i ≢ q
   apart i l e =
       let p = h.born i l in
-      let there : get (heap_at s.shape (arena s) (begin_of s p.0)) q ≡ Some _ = ap (get (heap_at s.shape (arena s) (begin_of s p.0))) (sym e ∙ sym p.2.starts.name) ∙ heap_has s.shape (arena s) (begin_of s p.0) h.arena.chained p.2.first
+      let there : get (heap_at s.shape (arena s) (begin_of s p.0)) q ≡ Some _ =
+      ap (get (heap_at s.shape (arena s) (begin_of s p.0))) (sym e ∙ sym p.2.starts.name)
+      ∙ heap_has s.shape (arena s) (begin_of s p.0) h.arena.chained p.2.first
       (lives_first (arena s) i (begin_of s p.0) (end_of s p.0) h.arena.chained p.2) in
       let none : get (heap_at s.shape (arena s) (begin_of s p.0)) q ≡ None = fresh.fresh p.0 p.1 in
       cc
 
   keeps : MadeKeeps s.shape (end_of s s.start) (arena s) (arena t) q ty b
-  keeps = made_law s.shape (end_of s s.start) (arena s) (arena t) q ty b h.arena (drawn r (length s.places) s.nodes h.rows) (drawn r (length s.places) (s.nodes ++ n ∷ []) rows_t) made apart known.above known.below
+  keeps = made_law s.shape (end_of s s.start) (arena s) (arena t) q ty b h.arena (drawn r (length s.places) s.nodes h.rows)
+      (drawn r (length s.places) (s.nodes ++ n ∷ []) rows_t) made apart known.above known.below
 
   loads_t : potential (loads t) ≡ potential (loads s)
   loads_t = ap potential (map_push (load_of s.shape) s.nodes n) ∙ potential-push (loads s) (load_of s.shape n) (ap (λ (es : List Stamp). length es) new.stamped)
@@ -150,14 +155,31 @@ module _ (s : Stored) (noted : Noted) (at : Place) (ty : TypeNo) (q : Name) (n :
   born_t i l = ⊎_elim
       (λ (v : i < length s.nodes). let p = h.born i v in (p.0, p.1, lives_made s.shape (arena s) (arena t) q ty b made apart i (begin_of s p.0) (end_of s p.0) v p.2))
       (λ (v : length s.nodes ≤ i).
-      let same : i ≡ length s.nodes = omega (arith, made.count) in
-      (at, open_place s at o, subst (λ (e : ℕ). LivesOver (arena t) i b e) (sym ends) (subst (λ (i : ℕ). LivesOver (arena t) i b (suc b)) (sym same) (lives_new s.shape (arena s) (arena t) q ty b made apart))))
+      let same : i ≡ length s.nodes = omega (arith, made.count) in (
+        at,
+        open_place s at o,
+        subst (λ (e : ℕ). LivesOver (arena t) i b e) (sym ends)
+            (subst (λ (i : ℕ). LivesOver (arena t) i b (suc b)) (sym same) (lives_new s.shape (arena s) (arena t) q ty b made apart)),
+      ))
       (cases_lt i (length s.nodes))
 
   store_t : IsStore t
   store_t = record {
     valid = h.valid;
-    nested = record { first = h.nested.first; some = h.nested.some; last = h.nested.last; numbered = h.nested.numbered; from = h.nested.from; inside = h.nested.inside; before = h.nested.before; closed = h.nested.closed; apart = h.nested.apart; relics = h.nested.relics; written = h.nested.written };
+    nested = record {
+      first = h.nested.first;
+      some = h.nested.some;
+      last = h.nested.last;
+      numbered = h.nested.numbered;
+      from = h.nested.from;
+      inside =
+          h.nested.inside;
+      before = h.nested.before;
+      closed = h.nested.closed;
+      apart = h.nested.apart;
+      relics = h.nested.relics;
+      written = h.nested.written;
+    };
     rows = rows_t;
     wide = λ i m e. elim (slice_get-push s.nodes n i m e) [
       | inl v ↦ h.wide i m v
@@ -165,7 +187,18 @@ module _ (s : Stored) (noted : Noted) (at : Place) (ty : TypeNo) (q : Name) (n :
     ];
     arena = keeps.arena;
     born = born_t;
-    versions = record { tree = h.versions.tree; root = h.versions.root; forked = h.versions.forked; apart = h.versions.apart; placed = h.versions.placed; published = h.versions.published; counted = h.versions.counted; made = h.versions.made; calls = h.versions.calls };
+    versions = record {
+      tree = h.versions.tree;
+      root = h.versions.root;
+      forked = h.versions.forked;
+      apart = h.versions.apart;
+      placed =
+          h.versions.placed;
+      published = h.versions.published;
+      counted = h.versions.counted;
+      made = h.versions.made;
+      calls = h.versions.calls;
+    };
     rooted = record { some = omega (arith, length-push s.nodes n); name = made.name 0 h.rooted.some ∙ h.rooted.name; begins = made.lo 0 h.rooted.some ∙ h.rooted.begins };
     bounded = omega (arith, h.bounded, loads_t, length-push s.nodes n);
     few = h.few;
@@ -207,12 +240,36 @@ module _ (s : Stored) (nodes : List Node) (noted : Noted) (counts : Counts) (at 
   wrote_store : length nodes + potential (map (load_of s.shape) nodes) ≤ bound counts → IsStore w
   wrote_store bounded = record {
     valid = h.valid;
-    nested = record { first = h.nested.first; some = h.nested.some; last = h.nested.last; numbered = h.nested.numbered; from = h.nested.from; inside = h.nested.inside; before = h.nested.before; closed = h.nested.closed; apart = h.nested.apart; relics = h.nested.relics; written = h.nested.written };
+    nested = record {
+      first = h.nested.first;
+      some = h.nested.some;
+      last = h.nested.last;
+      numbered = h.nested.numbered;
+      from = h.nested.from;
+      inside =
+          h.nested.inside;
+      before = h.nested.before;
+      closed = h.nested.closed;
+      apart = h.nested.apart;
+      relics = h.nested.relics;
+      written = h.nested.written;
+    };
     rows = rs.0;
     wide = rs.1;
     arena = keeps.arena;
     born = λ i l. let p = h.born i (omega (arith, same.count)) in (p.0, p.1, lives_same (arena s) (arena w) i (begin_of s p.0) (end_of s p.0) same p.2);
-    versions = record { tree = h.versions.tree; root = h.versions.root; forked = h.versions.forked; apart = h.versions.apart; placed = h.versions.placed; published = h.versions.published; counted = h.versions.counted; made = h.versions.made; calls = h.versions.calls };
+    versions = record {
+      tree = h.versions.tree;
+      root = h.versions.root;
+      forked = h.versions.forked;
+      apart = h.versions.apart;
+      placed =
+          h.versions.placed;
+      published = h.versions.published;
+      counted = h.versions.counted;
+      made = h.versions.made;
+      calls = h.versions.calls;
+    };
     rooted = record { some = omega (arith, same.count, h.rooted.some); name = same.name 0 ∙ h.rooted.name; begins = same.lo 0 ∙ h.rooted.begins };
     bounded = bounded;
     few = h.few;
@@ -241,7 +298,8 @@ module _ (s : Stored) (nodes : List Node) (noted : Noted) (counts : Counts) (at 
 
 pub value_law : ValueLaw
 value_law s nodes noted at x f v h o rs more set alive below =
-    let keeps = number_law s.shape (end_of s s.start) (arena s) (arena_with s nodes) x f (begin_of s at) v h.arena (drawn (rank s.places) (length s.places) s.nodes h.rows) (drawn (rank s.places) (length s.places) nodes rs.0) set alive below in (
+    let keeps = number_law s.shape (end_of s s.start) (arena s) (arena_with s nodes) x f (begin_of s at) v h.arena
+    (drawn (rank s.places) (length s.places) s.nodes h.rows) (drawn (rank s.places) (length s.places) nodes rs.0) set alive below in (
       wrote_store s nodes noted (one_number s.counts) at h o rs _ keeps set.nodes (omega (arith, h.bounded, set.nodes.count, grown s.shape s.nodes nodes 2 more)),
       record {
         keeps = wrote_keeps s nodes noted (one_number s.counts) at h o rs _ keeps set.nodes;
@@ -254,7 +312,8 @@ value_law s nodes noted at x f v h o rs more set alive below =
 
 pub null_law : NullLaw
 null_law s nodes noted at x f u h o rs more alive k c =
-    let m = cleared_law s.shape (end_of s s.start) (arena s) (arena_with s nodes) x f (begin_of s at) u h.arena (drawn (rank s.places) (length s.places) s.nodes h.rows) (drawn (rank s.places) (length s.places) nodes rs.0) alive k c in (
+    let m = cleared_law s.shape (end_of s s.start) (arena s) (arena_with s nodes) x f (begin_of s at) u h.arena
+    (drawn (rank s.places) (length s.places) s.nodes h.rows) (drawn (rank s.places) (length s.places) nodes rs.0) alive k c in (
       wrote_store s nodes noted (one_pointer s.counts) at h o rs _ m.0 m.1 (omega (arith, h.bounded, m.1.count, grown s.shape s.nodes nodes 6 more)),
       record {
         keeps = wrote_keeps s nodes noted (one_pointer s.counts) at h o rs _ m.0 m.1;
@@ -268,7 +327,8 @@ null_law s nodes noted at x f u h o rs more alive k c =
 pub link_law : LinkLaw
 link_law s mid nodes noted at x f y i h o rm rs more alive k c p =
     let d = drawn (rank s.places) (length s.places) s.nodes h.rows in
-    let m = pointer_law s.shape (end_of s s.start) (arena s) (arena_with s mid) (arena_with s nodes) x f y i (begin_of s at) h.arena d (drawn (rank s.places) (length s.places) mid rm.0) (drawn (rank s.places) (length s.places) nodes rs.0) alive k c p in (
+    let m = pointer_law s.shape (end_of s s.start) (arena s) (arena_with s mid) (arena_with s nodes) x f y i (begin_of s at) h.arena d
+    (drawn (rank s.places) (length s.places) mid rm.0) (drawn (rank s.places) (length s.places) nodes rs.0) alive k c p in (
       wrote_store s nodes noted (one_pointer s.counts) at h o rs _ m.0 m.1 (omega (arith, h.bounded, m.1.count, grown s.shape s.nodes nodes 6 more)),
       record {
         keeps = wrote_keeps s nodes noted (one_pointer s.counts) at h o rs _ m.0 m.1;
@@ -281,12 +341,14 @@ link_law s mid nodes noted at x f y i h o rm rs more alive k c p =
 
 -- ---- a split
 
-module _ (s : Stored) (nodes : List Node) (noted : Noted) (x position : ℕ) (h : IsStore s) (rs : HasRows s nodes) (o : IsSplit (arena s) (arena_with s nodes) x position) (falls : potential (map (load_of s.shape) nodes) + 1 ≤ potential (loads s)) where
+module _ (s : Stored) (nodes : List Node) (noted : Noted) (x position : ℕ) (h : IsStore s) (rs : HasRows s nodes)
+    (o : IsSplit (arena s) (arena_with s nodes) x position) (falls : potential (map (load_of s.shape) nodes) + 1 ≤ potential (loads s)) where
   abbrev v : Stored
   v = with_nodes s nodes noted s.counts
 
   split_keeps : SplitKeeps s.shape (end_of s s.start) (arena s) (arena v)
-  split_keeps = split_law s.shape (end_of s s.start) (arena s) (arena v) x position h.arena (drawn (rank s.places) (length s.places) s.nodes h.rows) (drawn (rank s.places) (length s.places) nodes rs.0) o
+  split_keeps = split_law s.shape (end_of s s.start) (arena s) (arena v) x position h.arena (drawn (rank s.places) (length s.places) s.nodes h.rows)
+      (drawn (rank s.places) (length s.places) nodes rs.0) o
 
   -- a record still lives where it was made
   born_v : AreBorn v
@@ -301,12 +363,36 @@ module _ (s : Stored) (nodes : List Node) (noted : Noted) (x position : ℕ) (h 
   store_v : IsStore v
   store_v = record {
     valid = h.valid;
-    nested = record { first = h.nested.first; some = h.nested.some; last = h.nested.last; numbered = h.nested.numbered; from = h.nested.from; inside = h.nested.inside; before = h.nested.before; closed = h.nested.closed; apart = h.nested.apart; relics = h.nested.relics; written = h.nested.written };
+    nested = record {
+      first = h.nested.first;
+      some = h.nested.some;
+      last = h.nested.last;
+      numbered = h.nested.numbered;
+      from = h.nested.from;
+      inside =
+          h.nested.inside;
+      before = h.nested.before;
+      closed = h.nested.closed;
+      apart = h.nested.apart;
+      relics = h.nested.relics;
+      written = h.nested.written;
+    };
     rows = rs.0;
     wide = rs.1;
     arena = split_keeps.arena;
     born = born_v;
-    versions = record { tree = h.versions.tree; root = h.versions.root; forked = h.versions.forked; apart = h.versions.apart; placed = h.versions.placed; published = h.versions.published; counted = h.versions.counted; made = h.versions.made; calls = h.versions.calls };
+    versions = record {
+      tree = h.versions.tree;
+      root = h.versions.root;
+      forked = h.versions.forked;
+      apart = h.versions.apart;
+      placed =
+          h.versions.placed;
+      published = h.versions.published;
+      counted = h.versions.counted;
+      made = h.versions.made;
+      calls = h.versions.calls;
+    };
     rooted = record { some = omega (arith, o.life.count); name = o.life.name 0 h.rooted.some ∙ h.rooted.name; begins = o.life.lo 0 h.rooted.some ∙ h.rooted.begins };
     bounded = omega (arith, h.bounded, falls, o.life.count);
     few = h.few;

@@ -22,7 +22,8 @@ slot_is x f i g e = let q : (eqb i x ≡ true) × (eqb g f ≡ true) = and_parts
 
 -- ---- a number
 
-module _ (shape : List TypeShape) (end : ℕ) (old new : Arena) (x f b : ℕ) (v : ℤ) (a : IsArena shape end old) (d : IsDrawn old) (e : IsDrawn new) (o : IsNumberSet old new x f b v) (h : IsIn old x b) (l : f < (type_at shape (old.ty x)).values) where
+module _ (shape : List TypeShape) (end : ℕ) (old new : Arena) (x f b : ℕ) (v : ℤ) (a : IsArena shape end old) (d : IsDrawn old) (e : IsDrawn new)
+    (o : IsNumberSet old new x f b v) (h : IsIn old x b) (l : f < (type_at shape (old.ty x)).values) where
   -- the slot never holds a pointer or an entry
   slot_target : (i g n y : ℕ) → old.chart.holds i g n ≡ Target y → i ≡ x → g ≡ f → ⊥
   slot_target i g n y p ix gf =
@@ -103,7 +104,8 @@ number_law = number_keeps
 -- two slots that are put: what is left is of the right kinds, and no other field changes
 module _ (shape : List TypeShape) (end : ℕ) (old new : Arena) (x f : ℕ) (c : Content) (y s : ℕ) (e : Content) (b : ℕ) (a : IsArena shape end old)
     (put : (i g n : ℕ) → new.chart.holds i g n ≡ put_two old.chart x f c y s e b i g n) (inverse : IsInverse (type_at shape (old.ty y)) s) where
-  put_kind : HasKind (type_at shape (old.ty x)) old.ty f c → HasKind (type_at shape (old.ty y)) old.ty s e → (i g n : ℕ) → IsIn old i n → HasKind (type_at shape (old.ty i)) old.ty g (new.chart.holds i g n)
+  put_kind : HasKind (type_at shape (old.ty x)) old.ty f c → HasKind (type_at shape (old.ty y)) old.ty s e → (i g n : ℕ) → IsIn old i n
+      → HasKind (type_at shape (old.ty i)) old.ty g (new.chart.holds i g n)
   put_kind k m i g n h = subst (λ (c : Content). HasKind (type_at shape (old.ty i)) old.ty g c) (sym (put i g n)) (elim (put_cases old.chart x f c y s e b i g n) [
     | inl p ↦ subst (λ (z : Content). HasKind (type_at shape (old.ty i)) old.ty g z) (sym p.3)
         (subst (λ (i : ℕ). HasKind (type_at shape (old.ty i)) old.ty g c) (sym p.0) (subst (λ (g : ℕ). HasKind (type_at shape (old.ty x)) old.ty g c) (sym p.1) k))
@@ -116,7 +118,8 @@ module _ (shape : List TypeShape) (end : ℕ) (old new : Arena) (x f : ℕ) (c :
 
   put_others : (i g n : ℕ) → g < element_count (type_at shape (old.ty i)) → (i ≡ x → g ≡ f → n ≡ b → ⊥) → new.chart.holds i g n ≡ old.chart.holds i g n
   put_others i g n l off = put i g n ∙ put_other old.chart x f c y s e b i g n (not_there x f b i g n off)
-      (not_there y s b i g n (λ p q r. let l' : g < element_count (type_at shape (old.ty y)) = subst (λ (i : ℕ). g < element_count (type_at shape (old.ty i))) p l in absurd (omega (arith, inverse.from))))
+      (not_there y s b i g n (λ p q r. let l' : g < element_count (type_at shape (old.ty y)) =
+      subst (λ (i : ℕ). g < element_count (type_at shape (old.ty i))) p l in absurd (omega (arith, inverse.from))))
 
 module _ (shape : List TypeShape) (end : ℕ) (old new : Arena) (x f y s b : ℕ) (a : IsArena shape end old) (d : IsDrawn old) (e : IsDrawn new) where
   taken_keeps : IsPointerTaken old new x f y s b → WriteKeeps shape end old new b (with_pointer (heap_at shape old b) (old.name x) f None)

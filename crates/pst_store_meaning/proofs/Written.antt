@@ -30,14 +30,16 @@ use Rattle.pst_store_meaning.proofs.RecordLaws.{record_of-same, denoted-names, k
 
 -- a pointer field is behind the values
 pub pointer_field : (t : TypeShape) (g : ℕ) (u : TypeNo) → field_kind t g ≡ Some (Pointer u) → (t.values ≤ g) × (g < element_count t)
-pointer_field t g u e = elim (nat_lt g t.values) as (λ b. nat_lt g t.values ≡ b → cond b (Some Int) (option_map Pointer (slice_get t.targets (g - t.values))) ≡ Some (Pointer u) → (t.values ≤ g) × (g < element_count t)) [
-  | true ↦ λ x h. absurd (cc)
-  | false ↦ λ x h. let low : t.values ≤ g = ltb-false g t.values x in
-      elim (slice_get t.targets (g - t.values)) as (λ (o : Option TypeNo). slice_get t.targets (g - t.values) ≡ o → option_map Pointer o ≡ Some (Pointer u) → (t.values ≤ g) × (g < element_count t)) [
-        | None ↦ λ y k. absurd (cc)
-        | Some v ↦ λ y k. let w : g - t.values < length t.targets = slice_get_within t.targets (g - t.values) v y in (low, omega arith)
-      ] refl h
-] refl e
+pointer_field t g u e = elim (nat_lt g t.values) as (λ b. nat_lt g t.values ≡ b
+    → cond b (Some Int) (option_map Pointer (slice_get t.targets (g - t.values))) ≡ Some (Pointer u) → (t.values ≤ g) × (g < element_count t)) [
+      | true ↦ λ x h. absurd (cc)
+      | false ↦ λ x h. let low : t.values ≤ g = ltb-false g t.values x in
+          elim (slice_get t.targets (g - t.values)) as (λ (o : Option TypeNo).
+          slice_get t.targets (g - t.values) ≡ o → option_map Pointer o ≡ Some (Pointer u) → (t.values ≤ g) × (g < element_count t)) [
+            | None ↦ λ y k. absurd (cc)
+            | Some v ↦ λ y k. let w : g - t.values < length t.targets = slice_get_within t.targets (g - t.values) v y in (low, omega arith)
+          ] refl h
+    ] refl e
 
 -- a value slot holds neither a pointer nor an entry
 pub no_target : (t : TypeShape) (ty : ℕ → TypeNo) (g y : ℕ) → HasKind t ty g (Target y) → g < t.values → ⊥
@@ -85,7 +87,8 @@ module _ (shape : List TypeShape) (end : ℕ) (old new : Arena) (x f b : ℕ) (a
     one_type = λ i j h g n. o.ty i ∙ a.one_type i j (was i h) (was j g) (sym (o.name i) ∙ n ∙ o.name j) ∙ sym (o.ty j);
     known = λ i h. subst (λ (t : TypeNo). t.0 < length shape) (sym (o.ty i)) (a.known i (was i h));
     mirrored = mir;
-    kinds = λ i g n h. kind-types (type_at shape (old.ty i)) (type_at shape (new.ty i)) old.ty new.ty g (new.chart.holds i g n) (ap (type_at shape) (o.ty i)) (λ y q. o.ty y) (kinds i g n (in_old i n h));
+    kinds = λ i g n h. kind-types (type_at shape (old.ty i)) (type_at shape (new.ty i)) old.ty new.ty g (new.chart.holds i g n)
+        (ap (type_at shape) (o.ty i)) (λ y q. o.ty y) (kinds i g n (in_old i n h));
     root = λ n h. let r = a.root n h in (r.0, in_new r.0 n r.1, o.name r.0 ∙ r.2, o.ty r.0 ∙ r.3);
     one_root = λ i h t. o.name i ∙ a.one_root i (was i h) (sym (o.ty i) ∙ t);
   }
@@ -118,14 +121,20 @@ module _ (shape : List TypeShape) (end : ℕ) (old new : Arena) (x f b : ℕ) (a
         ap (λ (t : TypeNo). record_of shape t new.name (λ g. new.chart.holds x g b)) (o.ty x) ∙
         (λ i. record {
           ty = old.ty x;
-          values = listed-set (type_at shape (old.ty x)).values (λ g. number (old.chart.holds x g b)) (λ g. number (new.chart.holds x g b)) f v l (ap number c) (λ j m ne. ap number (others x j b (omega arith) (λ p q r. ne q))) i;
-          pointers = listed-same (length (type_at shape (old.ty x)).targets) (λ k. denoted new.name (new.chart.holds x ((type_at shape (old.ty x)).values + k) b)) (λ k. denoted old.name (old.chart.holds x ((type_at shape (old.ty x)).values + k) b))
-              (λ k m. ap (denoted new.name) (others x ((type_at shape (old.ty x)).values + k) b (omega arith) (λ p q r. absurd (omega arith))) ∙ denoted-names old.name new.name (old.chart.holds x ((type_at shape (old.ty x)).values + k) b) (λ y q. o.name y)) i;
+          values = listed-set (type_at shape (old.ty x)).values (λ g. number (old.chart.holds x g b)) (λ g. number (new.chart.holds x g b)) f v l
+              (ap number c) (λ j m ne. ap number (others x j b (omega arith) (λ p q r. ne q))) i;
+          pointers = listed-same (length (type_at shape (old.ty x)).targets)
+              (λ k. denoted new.name (new.chart.holds x ((type_at shape (old.ty x)).values + k) b))
+              (λ k. denoted old.name (old.chart.holds x ((type_at shape (old.ty x)).values + k) b))
+              (λ k m. ap (denoted new.name) (others x ((type_at shape (old.ty x)).values + k) b (omega arith) (λ p q r. absurd (omega arith)))
+              ∙ denoted-names old.name new.name (old.chart.holds x ((type_at shape (old.ty x)).values + k) b) (λ y q. o.name y)) i;
         }) in
-        here h ∙ ap (λ (r : Rec). insert (heap_at shape old b) (old.name x) r) rec ∙ sym (with_value-at (heap_at shape old b) (old.name x) f v (record_at shape old x b) (heap_has shape old b a.chained x h))
+        here h ∙ ap (λ (r : Rec). insert (heap_at shape old b) (old.name x) r) rec
+        ∙ sym (with_value-at (heap_at shape old b) (old.name x) f v (record_at shape old x b) (heap_has shape old b a.chained x h))
 
     -- a pointer is written
-    pub pointer_here : (c : Content) (p : Option Name) → IsIn old x b → (type_at shape (old.ty x)).values ≤ f → f < element_count (type_at shape (old.ty x)) → new.chart.holds x f b ≡ c → denoted old.name c ≡ p
+    pub pointer_here : (c : Content) (p : Option Name) → IsIn old x b → (type_at shape (old.ty x)).values ≤ f
+        → f < element_count (type_at shape (old.ty x)) → new.chart.holds x f b ≡ c → denoted old.name c ≡ p
         → heap_at shape new b ≡ with_pointer (heap_at shape old b) (old.name x) f p
     pointer_here c p h low high is den =
         let k : ℕ = f - (type_at shape (old.ty x)).values in
@@ -137,10 +146,15 @@ module _ (shape : List TypeShape) (end : ℕ) (old new : Arena) (x f b : ℕ) (a
         ap (λ (t : TypeNo). record_of shape t new.name (λ g. new.chart.holds x g b)) (o.ty x) ∙
         (λ i. record {
           ty = old.ty x;
-          values = listed-same (type_at shape (old.ty x)).values (λ g. number (new.chart.holds x g b)) (λ g. number (old.chart.holds x g b)) (λ g m. ap number (others x g b (omega arith) (λ p q r. absurd (omega arith)))) i;
-          pointers = listed-set (length (type_at shape (old.ty x)).targets) (λ k. denoted old.name (old.chart.holds x ((type_at shape (old.ty x)).values + k) b)) (λ k. denoted new.name (new.chart.holds x ((type_at shape (old.ty x)).values + k) b)) (f - (type_at shape (old.ty x)).values) p (omega arith) now
-              (λ j m ne. ap (denoted new.name) (others x ((type_at shape (old.ty x)).values + j) b (omega arith) (λ p q r. ne (omega arith))) ∙ denoted-names old.name new.name (old.chart.holds x ((type_at shape (old.ty x)).values + j) b) (λ y q. o.name y)) i;
+          values = listed-same (type_at shape (old.ty x)).values (λ g. number (new.chart.holds x g b)) (λ g. number (old.chart.holds x g b))
+              (λ g m. ap number (others x g b (omega arith) (λ p q r. absurd (omega arith)))) i;
+          pointers = listed-set (length (type_at shape (old.ty x)).targets)
+              (λ k. denoted old.name (old.chart.holds x ((type_at shape (old.ty x)).values + k) b))
+              (λ k. denoted new.name (new.chart.holds x ((type_at shape (old.ty x)).values + k) b)) (f - (type_at shape (old.ty x)).values) p (omega arith) now
+              (λ j m ne. ap (denoted new.name) (others x ((type_at shape (old.ty x)).values + j) b (omega arith) (λ p q r. ne (omega arith)))
+              ∙ denoted-names old.name new.name (old.chart.holds x ((type_at shape (old.ty x)).values + j) b) (λ y q. o.name y)) i;
         }) in
         let same : record (record_at shape old x b) { pointers = set (record_at shape old x b).pointers (f - (type_at shape (old.ty x)).values) p } ≡ pointer_set (record_at shape old x b) f p =
         ap (λ (m : ℕ). record (record_at shape old x b) { pointers = set (record_at shape old x b).pointers (f - m) p }) (sym len) in
-        here h ∙ ap (λ (r : Rec). insert (heap_at shape old b) (old.name x) r) (rec ∙ same) ∙ sym (with_pointer-at (heap_at shape old b) (old.name x) f p (record_at shape old x b) (heap_has shape old b a.chained x h))
+        here h ∙ ap (λ (r : Rec). insert (heap_at shape old b) (old.name x) r) (rec ∙ same)
+        ∙ sym (with_pointer-at (heap_at shape old b) (old.name x) f p (record_at shape old x b) (heap_has shape old b a.chained x h))

@@ -75,6 +75,7 @@ module _ {P R : Type 0} where
   pub ring_stamped : (a b : State P R) (first second : R) (from at : P) → IsStamped a from at b → HasRing a first second from → HasRing b first second at
   ring_stamped a b first second from at w h = record { first = w.live first h.first; second = w.live second h.second }
 
-  pub rings_pushed : (a b : State P R) (first second : R) (p : P) (old new : List P) → Grows a b → HasRing a first second p → new ≡ old ++ p ∷ [] → All (HasRing a first second) old → All (HasRing b first second) new
+  pub rings_pushed : (a b : State P R) (first second : R) (p : P) (old new : List P) → Grows a b → HasRing a first second p → new ≡ old ++ p ∷ []
+      → All (HasRing a first second) old → All (HasRing b first second) new
   rings_pushed a b first second p old new g h e all = subst (λ (ps : List P). All (HasRing b first second) ps) (sym e)
       (All-push (HasRing b first second) old p (rings_grow a b first second old g all) (ring_grows a b first second p g h))

@@ -32,7 +32,11 @@ module _ {P R : Type 0} where
     pub fork_open : IfSome (slice_get c.versions 0) (λ (row : VersionRow P). IsOpenFork c at row.place)
     fork_open = subst (λ (o : Option (VersionRow P)). IfSome o (λ (row : VersionRow P). IsOpenFork c at row.place)) (sym first_there)
         (subst (IsOpenFork c at) (sym same)
-        (record { index = length a.forks; row = ap (λ (rows : List (ForkRow P)). slice_get rows (length a.forks)) (k.forks ∙ f.forks) ∙ slice_get-last a.forks (record { place = at; from = from; published = false }) }))
+        (record {
+          index = length a.forks;
+          row = ap (λ (rows : List (ForkRow P)). slice_get rows (length a.forks)) (k.forks ∙ f.forks)
+              ∙ slice_get-last a.forks (record { place = at; from = from; published = false });
+        }))
 
   -- ---- the ring
 

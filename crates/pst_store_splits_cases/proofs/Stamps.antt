@@ -15,6 +15,7 @@ module _ {P R : Type 0} where
   pub stamped : (a b c : State P R) (from at : P) (n : Name) (slot : ℕ) (v : ℤ) → Forked a from at b → ValueStored b at n slot v c → IsStamped a from at c
   stamped a b c from at n slot v f d = record { grows = Grows_trans a b c f.grows d.keeps.grows; live = λ r l. d.keeps.grows.live at r (f.live r l) }
 
-  pub rings_stamped : (a b : State P R) (first second : R) (from at : P) (old new : List P) → IsStamped a from at b → HasRing a first second from → new ≡ old ++ at ∷ [] → All (HasRing a first second) old → All (HasRing b first second) new
+  pub rings_stamped : (a b : State P R) (first second : R) (from at : P) (old new : List P) → IsStamped a from at b → HasRing a first second from
+      → new ≡ old ++ at ∷ [] → All (HasRing a first second) old → All (HasRing b first second) new
   rings_stamped a b first second from at old new w h e all = subst (λ (ps : List P). All (HasRing b first second) ps) (sym e)
       (All-push (HasRing b first second) old at (rings_grow a b first second old w.grows all) (record { first = w.live first h.first; second = w.live second h.second }))

@@ -27,10 +27,12 @@ pub record HasOnePlace (o : Option Stored) (shape : List TypeShape) (p : Place) 
   pub calls : (state_in o).fork_calls ≡ 0
   pub counts : (state_in o).counts ≡ record { records = 1; pointer_writes = 0; value_writes = 0 }
 
-pub one_place : (o : Option Stored) (shape : List TypeShape) (p : Place) → IsSomeAnd o (IsStarted shape) → Some p ≡ option_map (λ (row : VersionRow Place). row.place) (slice_get (state_in o).versions 0) → HasOnePlace o shape p
+pub one_place : (o : Option Stored) (shape : List TypeShape) (p : Place) → IsSomeAnd o (IsStarted shape)
+    → Some p ≡ option_map (λ (row : VersionRow Place). row.place) (slice_get (state_in o).versions 0) → HasOnePlace o shape p
 one_place None shape p h e = absurd h
 one_place (Some s) shape p h e =
-    let start : p ≡ s.start = (let first : Some p ≡ Some s.start = e ∙ ap (λ (rows : List (VersionRow Place)). option_map (λ (row : VersionRow Place). row.place) (slice_get rows 0)) h.versions in cc) in
+    let start : p ≡ s.start = (let first : Some p ≡ Some s.start = e
+    ∙ ap (λ (rows : List (VersionRow Place)). option_map (λ (row : VersionRow Place). row.place) (slice_get rows 0)) h.versions in cc) in
     record {
       shape_is = h.shape_is;
       published = record { has = inl start; closed = λ w. none_there w.forked.index w.forked.fork (ap (λ (forks : List Fork). slice_get forks w.forked.index) (sym h.forks) ∙ w.forked.at) };

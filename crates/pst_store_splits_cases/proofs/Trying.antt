@@ -31,7 +31,11 @@ module _ {P R : Type 0} where
 module _ {P R : Type 0} (a b : State P R) (from at : P) (slot n : ℕ) (h : IsReady a from slot (n + 1)) (f : Forked a from at b) where
   -- the fork has what the place has
   pub fork_number : HoldsNumber b slot at
-  fork_number = record { has = f.has; field = ap (λ (shape : List TypeShape). kind_in shape (b.heap at) root_name slot) f.grows.shape ∙ ap (λ (heap : Heap). kind_in a.shape heap root_name slot) f.heap ∙ h.number.field }
+  fork_number = record {
+    has = f.has;
+    field = ap (λ (shape : List TypeShape). kind_in shape (b.heap at) root_name slot) f.grows.shape
+        ∙ ap (λ (heap : Heap). kind_in a.shape heap root_name slot) f.heap ∙ h.number.field;
+  }
 
   room_forked : HasRoomFor b (n + 1)
   room_forked = subst (λ (k : Counts). (k.records + (n + 1) ≤ 2 ^ 60) × (k.pointer_writes + (n + 1) ≤ 2 ^ 60) × (k.value_writes + (n + 1) ≤ 2 ^ 60) → HasRoomFor b (n + 1)) f.counts
@@ -51,7 +55,8 @@ module _ {P R : Type 0} (a b : State P R) (from at : P) (slot n : ℕ) (h : IsRe
       has = d.keeps.grows.has p (f.grows.has p i);
       field = elim (d.others.stay p (f.grows.has p i)) [
         | inl e ↦ absurd (f.fresh (subst a.has e i))
-        | inr e ↦ ap (λ (shape : List TypeShape). kind_in shape (c.heap p) root_name slot) (d.keeps.grows.shape ∙ f.grows.shape) ∙ ap (λ (heap : Heap). kind_in a.shape heap root_name slot) (e ∙ f.heaps p i) ∙ k.field
+        | inr e ↦ ap (λ (shape : List TypeShape). kind_in shape (c.heap p) root_name slot) (d.keeps.grows.shape ∙ f.grows.shape)
+            ∙ ap (λ (heap : Heap). kind_in a.shape heap root_name slot) (e ∙ f.heaps p i) ∙ k.field
       ];
     }
 

@@ -1,4 +1,4 @@
-//! The store, empty and started, with what no clause says: that the calls which take memory succeed, that one split keeps what is
+//! The store, empty and started, with what no clause says: that the calls which take memory succeed, that a repair keeps what is
 //! read, that a call which was refused can be made again and a node which waits is split then, and that the clauses mean what is
 //! meant.
 //!

@@ -1,4 +1,4 @@
-//! One split of a node that is far over its capacity, without any other beside it.
+//! The repair of a node that is far over its capacity, without any other beside it.
 
 ghost use Rattle.std.specs.Prelude.{◌≡◌, ◌∷◌, [], All, IfOk};
 ghost use Rattle.pst_store_meaning.specs.Store.{state_of};
@@ -16,12 +16,12 @@ use std::alloc::Global;
 /// The number of forks at which the first item's number is written, which stamps two values each time.
 const FORKS: u32 = 12;
 
-/// The store before and after the split.
+/// The store before and after the repair.
 #[derive(Drop)]
 struct Trial {
     before: Vec<(Reading, Reading)>,
     after: Vec<(Reading, Reading)>,
-    was_split: bool,
+    waited: [bool; 2],
     nodes: [u64; 2],
     potential: [u64; 2],
 }
@@ -79,7 +79,7 @@ fn stamp_all<O: Order + Drop>(
     Ok(places)
 }
 
-/// Stamps the first item of a ring at the forks of its version, and then splits once.
+/// Stamps the first item of a ring at the forks of its version, and then splits what waits.
 fn split<O: Order + Drop>(
     alloc: Global,
     store: &mut Started<O, Arena>,
@@ -91,12 +91,13 @@ fn split<O: Order + Drop>(
     let before = readings(alloc, store, places.as_slice(), ring.2, ring.3)?;
     let nodes = store.node_count();
     let potential = store.potential();
-    let was_split = store.split_once()?;
+    let waited = store.pending();
+    store.repair()?;
     let after = readings(alloc, store, places.as_slice(), ring.2, ring.3)?;
     Ok(Trial {
         before,
         after,
-        was_split,
+        waited: [waited, store.pending()],
         nodes: [nodes, store.node_count()],
         potential: [potential, store.potential()],
     })
@@ -121,11 +122,11 @@ fn split_new(alloc: Global) -> Result<Trial, Trouble> {
 }
 
 #[test]
-fn one_split_keeps_what_a_ring_reads_at_a_version_and_its_forks(
+fn a_repair_keeps_what_a_ring_reads_at_a_version_and_its_forks(
     rt: HostRuntime,
 ) -> Result<(), Trouble> {
     let trial = split_new(rt.alloc())?;
-    assert!(rt; trial.was_split);
+    assert!(rt; trial.waited == [true, false]);
     assert!(rt; trial.before.as_slice() == trial.after.as_slice());
     // The first item's number is 0 at the version and 1 to 12 at its forks; the second one's is 0 everywhere.
     assert_eq!(rt; trial.after.len(), 13);
@@ -133,9 +134,11 @@ fn one_split_keeps_what_a_ring_reads_at_a_version_and_its_forks(
         let wanted = ((n as i64, Some(SECOND)), (0, Some(FIRST)));
         assert!(rt; trial.after.get(n) == Some(&wanted));
     }
-    assert_eq!(rt; trial.nodes, [3, 4]);
-    // 24 values are stamped in the first item's node, whose capacity is 10, so that 19 of them are above the half of it.
+    // 24 values are stamped in the first item's node, whose capacity is 10: one split leaves more in one of its halves than that, so
+    // that it takes two splits at least. 19 of them are above the half of the capacity, and each split lowers that by 1 at least.
+    assert_eq!(rt; trial.nodes[0], 3);
+    assert!(rt; trial.nodes[1] >= 5);
     assert_eq!(rt; trial.potential[0], 19);
-    assert!(rt; trial.potential[1] < 19);
+    assert!(rt; trial.potential[1].saturating_add(trial.nodes[1].saturating_sub(3)) <= 19);
     Ok(())
 }

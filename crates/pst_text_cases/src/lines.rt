@@ -4,7 +4,7 @@ ghost use Rattle.std.specs.Prelude.{◌≤◌, Some};
 ghost use Rattle.pst_io.specs.Lines.{IsOpen};
 
 use crate::devices::drain;
-use pst_io::{Lines, LinesFault, MemSource};
+use pst_io::{Lines, LinesFault, MOST_SERVED, MemSource};
 use std::alloc::Global;
 use std::test::Fail;
 
@@ -167,5 +167,100 @@ fn an_input_of_64_mebibytes_is_read_and_one_byte_more_is_too_long(
 ) -> Result<(), Fail> {
     assert!(rt; is_read_to(rt.alloc(), b"\n", None)?);
     assert!(rt; is_read_to(rt.alloc(), b"\ny", Some(LinesFault::TooLong))?);
+    Ok(())
+}
+
+/// The bytes that are handed out of an input that comes in pieces of at most so many bytes, a slash where they are as many as
+/// were asked for and else a minus, or an exclamation mark at a fault, and what lines are behind them, as a report tells them.
+fn handed(
+    alloc: Global,
+    lines: &mut Lines,
+    source: &mut MemSource,
+    count: usize,
+) -> Result<Vec<u8>, Fail>
+    requires { IsOpen lines.old (Some source.old.left) }
+{
+    let mut text = Vec::new(alloc);
+    match lines.hand(source, count, &mut text) {
+        Ok(whole) => {
+            text.push(if whole { b'/' } else { b'-' })?;
+            let report = heard(alloc, lines, source)?;
+            text.extend_from_slice(report.text.as_slice())?;
+            text.push(if report.fault.is_some() { b'!' } else { b';' })?;
+        }
+        Err(_) => text.push(b'!')?,
+    }
+    Ok(text)
+}
+
+/// Inputs, how many bytes a reader may read of them, how many it is asked for, and what it hands out.
+const HANDED: [(&str, usize, usize, &str); 14] = [
+    ("", 9, 0, "/;"),
+    ("", 9, 1, "-;"),
+    ("abc", 9, 0, "/abc.;"),
+    ("abc", 9, 2, "ab/c.;"),
+    ("abc", 9, 3, "abc/;"),
+    ("abc", 9, 4, "abc-;"),
+    ("ab\ncd\nef", 9, 2, "ab/|cd|ef.;"),
+    ("ab\ncd\nef", 9, 3, "ab\n/cd|ef.;"),
+    ("ab\ncd\nef", 9, 4, "ab\nc/d|ef.;"),
+    ("ab\ncd\n", 6, 6, "ab\ncd\n/;"),
+    ("ab\ncd\n", 6, 7, "ab\ncd\n-;"),
+    ("ab\ncd\n", 5, 5, "ab\ncd/!"),
+    ("ab\ncd\n", 5, 6, "ab\ncd!"),
+    ("ab\ncd\n", 4, 2, "ab/|!"),
+];
+
+/// Whether this is handed out of an input, by pieces of these sizes.
+fn is_handed(
+    alloc: Global,
+    input: &str,
+    most: usize,
+    count: usize,
+    want: &str,
+) -> Result<bool, Fail> {
+    let mut as_wanted = true;
+    for piece in [1usize, 2, 3, 5, 100_000] {
+        let mut source = MemSource::new(
+            input.as_bytes().to_vec(alloc)?,
+            piece.max(1),
+            Vec::new(alloc),
+        );
+        let mut lines = Lines::up_to(alloc, most.min(MOST_SERVED));
+        let text = handed(alloc, &mut lines, &mut source, count)?;
+        as_wanted = as_wanted && text.as_slice() == want.as_bytes();
+    }
+    Ok(as_wanted)
+}
+
+#[test]
+fn bytes_are_handed_out_whatever_the_pieces(rt: HostRuntime) -> Result<(), Fail> {
+    for (input, most, count, want) in HANDED {
+        assert!(rt;
+            is_handed(rt.alloc(), input, most, count, want)?,
+            "{count} of {input:?}"
+        );
+    }
+    Ok(())
+}
+
+/// Whether bytes are handed out behind a line that was, up to a failed read, and the bytes behind it are still left.
+fn ends_at_a_failed_read_behind_a_line(alloc: Global) -> Result<bool, Fail> {
+    let mut source = MemSource::new(b"ab\ncdef".to_vec(alloc)?, 1, [6].to_vec(alloc)?);
+    let mut lines = Lines::new(alloc);
+    let mut text = Vec::new(alloc);
+    let fault = match lines.next(&mut source) {
+        Ok(true) => lines.hand(&mut source, 4, &mut text).err(),
+        _ => None,
+    };
+    let mut rest = Vec::new(alloc);
+    drain(&mut source, 10, &mut rest)?;
+    let as_wanted = text.as_slice() == b"cd".as_slice() && rest.as_slice() == b"ef".as_slice();
+    Ok(as_wanted && lines.failed() && fault == Some(LinesFault::Failed))
+}
+
+#[test]
+fn bytes_are_handed_out_behind_a_line_up_to_a_failed_read(rt: HostRuntime) -> Result<(), Fail> {
+    assert!(rt; ends_at_a_failed_read_behind_a_line(rt.alloc())?);
     Ok(())
 }

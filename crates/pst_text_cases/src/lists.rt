@@ -1,6 +1,6 @@
 //! Copies of lists, and keywords.
 
-use pst_base::{Kind, Kinds, NoMemory, Numbers, Targets, Text, TypeNo, is_keyword, keyword_number};
+use pst_base::{Kind, Kinds, NoMemory, Numbers, Targets, Text, TypeNo, is_keyword};
 use std::alloc::Global;
 
 /// Whether a text and its copy are the same.
@@ -38,9 +38,6 @@ fn lists_are_copied(rt: HostRuntime) -> Result<(), NoMemory> {
 }
 
 #[test]
-fn keywords_have_their_numbers(rt: HostRuntime) {
-    assert!(rt; keyword_number(b"record") == Some(0));
-    assert!(rt; keyword_number(b"int") == Some(18));
-    assert!(rt; keyword_number(b"integer").is_none());
+fn keywords_are_told_from_names(rt: HostRuntime) {
     assert!(rt; is_keyword(b"while") && !is_keyword(b"language"));
 }

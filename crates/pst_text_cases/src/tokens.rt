@@ -1,6 +1,6 @@
 //! Texts with their tokens.
 
-use pst_lex::{LexFault, Lexer, Mark, Token, TokenKind, find_fault, mark_at};
+use pst_lex::{LexFault, Lexer, Token, TokenKind, find_fault};
 use std::alloc::{AllocError, Global};
 use std::test::Fail;
 
@@ -8,7 +8,7 @@ use std::test::Fail;
 const SMALL: usize = 1_000;
 
 /// The line of a token, its first byte and the one behind its last, and what it is: a name by its bytes, a number, or the
-/// position of a keyword (`k`) or symbol (`s`).
+/// name of a keyword or symbol.
 fn shown(alloc: Global, token: &Token<'_>) -> Result<String, AllocError> {
     let line = token.line;
     let from = token.span.from;
@@ -19,8 +19,7 @@ fn shown(alloc: Global, token: &Token<'_>) -> Result<String, AllocError> {
             format!(in alloc; "{line}:{from}-{to} {text}; ")
         }
         TokenKind::Number(value) => format!(in alloc; "{line}:{from}-{to} {value}; "),
-        TokenKind::Keyword(index) => format!(in alloc; "{line}:{from}-{to} k{index}; "),
-        TokenKind::Symbol(index) => format!(in alloc; "{line}:{from}-{to} s{index}; "),
+        TokenKind::Mark(mark) => format!(in alloc; "{line}:{from}-{to} {mark:?}; "),
     }
 }
 
@@ -45,15 +44,21 @@ fn all_shown(alloc: Global, text: &[u8]) -> Result<String, Fail> {
 #[test]
 fn symbols_are_as_long_as_they_can_be(rt: HostRuntime) -> Result<(), Fail> {
     let alloc = rt.alloc();
-    assert_eq!(rt; all_shown(alloc, b"===")?.as_str(), "1:0-2 s9; 1:2-3 s8; 1");
+    assert_eq!(rt;
+        all_shown(alloc, b"===")?.as_str(),
+        "1:0-2 Equal; 1:2-3 Assign; 1"
+    );
     assert_eq!(rt;
         all_shown(alloc, b"<==")?.as_str(),
-        "1:0-2 s12; 1:2-3 s8; 1"
+        "1:0-2 LessEqual; 1:2-3 Assign; 1"
     );
-    assert_eq!(rt; all_shown(alloc, b"=<")?.as_str(), "1:0-1 s8; 1:1-2 s11; 1");
+    assert_eq!(rt;
+        all_shown(alloc, b"=<")?.as_str(),
+        "1:0-1 Assign; 1:1-2 Less; 1"
+    );
     assert_eq!(rt;
         all_shown(alloc, b"!=>=>%")?.as_str(),
-        "1:0-2 s10; 1:2-4 s14; 1:4-5 s13; 1:5-6 s19; 1"
+        "1:0-2 NotEqual; 1:2-4 GreaterEqual; 1:4-5 Greater; 1:5-6 Percent; 1"
     );
     Ok(())
 }
@@ -63,7 +68,7 @@ fn words_are_as_long_as_they_can_be(rt: HostRuntime) -> Result<(), Fail> {
     let alloc = rt.alloc();
     assert_eq!(rt;
         all_shown(alloc, b"5.x")?.as_str(),
-        "1:0-1 5; 1:1-2 s7; 1:2-3 x; 1"
+        "1:0-1 5; 1:1-2 Dot; 1:2-3 x; 1"
     );
     assert_eq!(rt;
         all_shown(alloc, b"9223372036854775807 0")?.as_str(),
@@ -71,11 +76,11 @@ fn words_are_as_long_as_they_can_be(rt: HostRuntime) -> Result<(), Fail> {
     );
     assert_eq!(rt;
         all_shown(alloc, b"int ints _ Int")?.as_str(),
-        "1:0-3 k18; 1:4-8 ints; 1:9-10 _; 1:11-14 Int; 1"
+        "1:0-3 Int; 1:4-8 ints; 1:9-10 _; 1:11-14 Int; 1"
     );
     assert_eq!(rt;
         all_shown(alloc, b"a1234567890123456789012345678901:")?.as_str(),
-        "1:0-32 a1234567890123456789012345678901; 1:32-33 s5; 1"
+        "1:0-32 a1234567890123456789012345678901; 1:32-33 Colon; 1"
     );
     Ok(())
 }
@@ -98,22 +103,13 @@ fn tokens_stand_in_their_places(rt: HostRuntime) -> Result<(), Fail> {
     let alloc = rt.alloc();
     assert_eq!(rt;
         all_shown(alloc, b"proc p() {\n")?.as_str(),
-        "1:0-4 k4; 1:5-6 p; 1:6-7 s2; 1:7-8 s3; 1:9-10 s0; 2"
+        "1:0-4 Proc; 1:5-6 p; 1:6-7 OpenParen; 1:7-8 CloseParen; 1:9-10 OpenBrace; 2"
     );
     assert_eq!(rt;
         all_shown(alloc, b"}),;+-*/")?.as_str(),
-        "1:0-1 s1; 1:1-2 s3; 1:2-3 s6; 1:3-4 s4; 1:4-5 s15; 1:5-6 s16; 1:6-7 s17; 1:7-8 s18; 1"
+        "1:0-1 CloseBrace; 1:1-2 CloseParen; 1:2-3 Comma; 1:3-4 Semicolon; 1:4-5 Plus; 1:5-6 Minus; 1:6-7 Star; 1:7-8 Slash; 1"
     );
     Ok(())
-}
-
-#[test]
-fn marks_are_keywords_and_symbols(rt: HostRuntime) {
-    assert_eq!(rt; mark_at(&TokenKind::Keyword(18)), Some(Mark::Int));
-    assert_eq!(rt; mark_at(&TokenKind::Keyword(19)), None);
-    assert_eq!(rt; mark_at(&TokenKind::Symbol(12)), Some(Mark::LessEqual));
-    assert_eq!(rt; mark_at(&TokenKind::Symbol(20)), None);
-    assert_eq!(rt; mark_at(&TokenKind::Number(7)), None);
 }
 
 #[test]

@@ -51,7 +51,8 @@ starts parts p vs into f c w = enter_where (nat_lt (length c + 1) 256) (slice_ge
 -- each call does what it means, where d more may become active
 abbrev pub CallsRun : Routines → Parts → ℕ → Type 0
 CallsRun r parts d =
-    (p : ℕ) (vs : List Value) (f : Frame) (into : Option Reg) (c : List Caller) (w : World) → length c + d ≡ 255 → Callable r.procedures p (length vs) → Called (starts parts p vs into f c w) parts c f into w (call r d p vs f.line w)
+    (p : ℕ) (vs : List Value) (f : Frame) (into : Option Reg) (c : List Caller) (w : World) → length c + d ≡ 255 → Callable r.procedures p (length vs)
+    → Called (starts parts p vs into f c w) parts c f into w (call r d p vs f.line w)
 
 -- ---- arguments
 
@@ -68,7 +69,8 @@ ArgumentsRun parts me temp k rs c w line at regs at' (Gives_all vs) = GetsAll pa
 ArgumentsRun parts me temp k rs c w line at regs at' (Traps_at t) =
     Ends parts (record { procedure = me; at = at; registers = regs; line = line }) c w (Trapped t line w)
 
-module _ (parts : Parts) (me : Procedure) (temp : Temp) (locals size : ℕ) (lay : Layout temp locals) (valid : (i : ℕ) (x : Instr) → slice_get me.instructions i ≡ Some x → WritesBelow size x) (c : List Caller) where
+module _ (parts : Parts) (me : Procedure) (temp : Temp) (locals size : ℕ) (lay : Layout temp locals)
+    (valid : (i : ℕ) (x : Instr) → slice_get me.instructions i ≡ Some x → WritesBelow size x) (c : List Caller) where
   abbrev fr : ℕ → List Value → ℕ → Frame
   fr at regs line = record { procedure = me; at = at; registers = regs; line = line }
 
@@ -77,7 +79,10 @@ module _ (parts : Parts) (me : Procedure) (temp : Temp) (locals size : ℕ) (lay
   registers_length (e ∷ es) k = ap suc (registers_length es (k + 1))
 
   -- one argument and the others
-  more_run : (k : ℕ) (r : Reg) (rs : List Reg) (line at at1 at' : ℕ) (regs : List Value) (w : World) (a : Answer) (b : Answers) → ((k' : ℕ) (kind : Kind) → k + 1 ≤ k' → r.0 ≢ (temp k' kind).0) → ExprRuns parts me temp k r c w line at regs at1 a → ((regs1 : List Value) → length regs1 ≡ length regs → Kept temp k regs regs1 → ArgumentsRun parts me temp (k + 1) rs c w line at1 regs1 at' b) → ArgumentsRun parts me temp k (r ∷ rs) c w line at regs at' (one_more a b)
+  more_run : (k : ℕ) (r : Reg) (rs : List Reg) (line at at1 at' : ℕ) (regs : List Value) (w : World) (a : Answer) (b : Answers)
+      → ((k' : ℕ) (kind : Kind) → k + 1 ≤ k' → r.0 ≢ (temp k' kind).0) → ExprRuns parts me temp k r c w line at regs at1 a
+      → ((regs1 : List Value) → length regs1 ≡ length regs → Kept temp k regs regs1 → ArgumentsRun parts me temp (k + 1) rs c w line at1 regs1 at' b)
+      → ArgumentsRun parts me temp k (r ∷ rs) c w line at regs at' (one_more a b)
   more_run k r rs line at at1 at' regs w (Traps t) b apart ra rb = ra
   more_run k r rs line at at1 at' regs w (Gives v) (Traps_at t) apart ra rb =
       ends_on parts _ _ _ _ _ _ _ ra.leads (rb ra.after ra.same ra.kept)
@@ -92,7 +97,10 @@ module _ (parts : Parts) (me : Procedure) (temp : Temp) (locals size : ℕ) (lay
         same = b.same ∙ ra.same;
       }
 
-  arguments_run : (es : List Expr) (k line at : ℕ) (env regs : List Value) (w : World) → AllOperands locals es → length regs ≡ size → Holds locals env regs → HasAt me.instructions at (arguments_code parts.shape temp es k) → ArgumentsRun parts me temp k (registers parts.shape temp es k) c w line at regs (at + length (arguments_code parts.shape temp es k)) (values parts.shape es env w.heap)
+  arguments_run : (es : List Expr) (k line at : ℕ) (env regs : List Value) (w : World) → AllOperands locals es → length regs ≡ size
+      → Holds locals env regs → HasAt me.instructions at (arguments_code parts.shape temp es k)
+      → ArgumentsRun parts me temp k (registers parts.shape temp es k) c w line at regs (at + length (arguments_code parts.shape temp es k))
+      (values parts.shape es env w.heap)
   arguments_run [] k line at env regs w ok same holds has =
       let e : at ≡ at + 0 = omega arith in
       record {
@@ -105,15 +113,25 @@ module _ (parts : Parts) (me : Procedure) (temp : Temp) (locals size : ℕ) (lay
       }
   arguments_run (e ∷ es) k line at env regs w ok same holds has =
       let ce = expr_code parts.shape temp e k in
-      let len : at + length ce + length (arguments_code parts.shape temp es (k + 1)) ≡ at + length (arguments_code parts.shape temp (e ∷ es) k) = omega (arith, length-append ce (arguments_code parts.shape temp es (k + 1))) in
-      subst (λ n. ArgumentsRun parts me temp k (registers parts.shape temp (e ∷ es) k) c w line at regs n (values parts.shape (e ∷ es) env w.heap)) len (more_run k (register parts.shape temp e k) (registers parts.shape temp es (k + 1)) line at (at + length ce) _ regs w (value parts.shape e env w.heap) (values parts.shape es env w.heap) (λ k' kind le. register_apart parts.shape temp locals lay e ok.0 k k' kind (omega arith)) (expr_runs parts me temp locals size lay valid c line w env e ok.0 k at regs same holds (has_front me.instructions at ce _ has)) (λ regs1 same1 kept. arguments_run es (k + 1) line (at + length ce) env regs1 w ok.1 (same1 ∙ same) (holds_kept temp locals lay k env regs regs1 holds kept) (has_back me.instructions at ce _ has)))
+      let len : at + length ce + length (arguments_code parts.shape temp es (k + 1)) ≡ at + length (arguments_code parts.shape temp (e ∷ es) k) =
+      omega (arith, length-append ce (arguments_code parts.shape temp es (k + 1))) in
+      subst (λ n. ArgumentsRun parts me temp k (registers parts.shape temp (e ∷ es) k) c w line at regs n (values parts.shape (e ∷ es) env w.heap))
+      len (more_run k (register parts.shape temp e k) (registers parts.shape temp es (k + 1)) line at (at + length ce) _ regs w
+      (value parts.shape e env w.heap) (values parts.shape es env w.heap)
+      (λ k' kind le. register_apart parts.shape temp locals lay e ok.0 k k' kind (omega arith))
+      (expr_runs parts me temp locals size lay valid c line w env e ok.0 k at regs same holds (has_front me.instructions at ce _ has))
+      (λ regs1 same1 kept. arguments_run es (k + 1) line (at + length ce) env regs1 w ok.1 (same1 ∙ same)
+      (holds_kept temp locals lay k env regs regs1 holds kept) (has_back me.instructions at ce _ has)))
 
   -- ---- the call itself
 
   abbrev Does : Frame → World → ℕ → Ending → Type 0
   Does f w at' o = Runs parts me locals size c f w at' o
 
-  back_in : (x : Option ℕ) (v : Option Value) (line at at' : ℕ) (env regs : List Value) (w w' : World) → at + 1 ≡ at' → IsPlace locals x → locals ≤ size → length regs ≡ size → length env ≡ locals → Holds locals env regs → w'.charges ≤ w.charges → Leads parts (fr at regs line) c w (with_result (option_map reg x) v (behind (fr at regs line) regs)) c w' → Passes parts me locals size c (fr at regs line) w at' (keep_result x v env) w'
+  back_in : (x : Option ℕ) (v : Option Value) (line at at' : ℕ) (env regs : List Value) (w w' : World) → at + 1 ≡ at' → IsPlace locals x
+      → locals ≤ size → length regs ≡ size → length env ≡ locals → Holds locals env regs → w'.charges ≤ w.charges
+      → Leads parts (fr at regs line) c w (with_result (option_map reg x) v (behind (fr at regs line) regs)) c w'
+      → Passes parts me locals size c (fr at regs line) w at' (keep_result x v env) w'
   back_in (Some d) (Some v) line at at' env regs w w' e ok room same long holds fewer l = record {
     after = slice_set regs d v;
     line = line;
@@ -142,7 +160,10 @@ module _ (parts : Parts) (me : Procedure) (temp : Temp) (locals size : ℕ) (lay
     fewer = fewer;
   }
 
-  called_run : (start : Move) (i : Instr) (x : Option ℕ) (line at at' : ℕ) (env regs : List Value) (w : World) (o : Ending) → at + 1 ≡ at' → IsPlace locals x → locals ≤ size → length regs ≡ size → length env ≡ locals → Holds locals env regs → slice_get me.instructions at ≡ Some i → act parts (Some i) (fr at regs line) c w ≡ start → Called start parts c (fr at regs line) (option_map reg x) w o → Does (fr at regs line) w at' (after_call x env o)
+  called_run : (start : Move) (i : Instr) (x : Option ℕ) (line at at' : ℕ) (env regs : List Value) (w : World) (o : Ending) → at + 1 ≡ at'
+      → IsPlace locals x → locals ≤ size → length regs ≡ size → length env ≡ locals → Holds locals env regs → slice_get me.instructions at ≡ Some i
+      → act parts (Some i) (fr at regs line) c w ≡ start → Called start parts c (fr at regs line) (option_map reg x) w o
+      → Does (fr at regs line) w at' (after_call x env o)
   called_run start i x line at at' env regs w (Normal env' w') e ok room same long holds here is r = absurd r
   called_run start i x line at at' env regs w (Returned v w') e ok room same long holds here is r =
       back_in x v line at at' env regs w w' e ok room same long holds r.fewer record {
@@ -154,17 +175,29 @@ module _ (parts : Parts) (me : Procedure) (temp : Temp) (locals size : ℕ) (lay
       record { within = suc r.within; comes = ap spent (step parts (fr at regs line) c w i start here is r.within) ∙ r.comes }
 
   module _ (r : Routines) (d : ℕ) (deep : length c + d ≡ 255) (calls_run : CallsRun r parts d) where
-    then_call : (x : Option ℕ) (p : ℕ) (rs : List Reg) (line at at1 at' : ℕ) (env regs : List Value) (w : World) (a : Answers) → at1 + 1 ≡ at' → IsPlace locals x → locals ≤ size → length regs ≡ size → length env ≡ locals → Holds locals env regs → Callable r.procedures p (length rs) → slice_get me.instructions at1 ≡ Some (instr.Call (proc_no p) (option_map reg x) rs) → ArgumentsRun parts me temp 0 rs c w line at regs at1 a → Does (fr at regs line) w at' (with_answers a line w (λ vs. after_call x env (call r d p vs line w)))
+    then_call : (x : Option ℕ) (p : ℕ) (rs : List Reg) (line at at1 at' : ℕ) (env regs : List Value) (w : World) (a : Answers) → at1 + 1 ≡ at'
+        → IsPlace locals x → locals ≤ size → length regs ≡ size → length env ≡ locals → Holds locals env regs → Callable r.procedures p (length rs)
+        → slice_get me.instructions at1 ≡ Some (instr.Call (proc_no p) (option_map reg x) rs) → ArgumentsRun parts me temp 0 rs c w line at regs at1 a
+        → Does (fr at regs line) w at' (with_answers a line w (λ vs. after_call x env (call r d p vs line w)))
     then_call x p rs line at at1 at' env regs w (Traps_at t) e ok room same long holds can here g = g
     then_call x p rs line at at1 at' env regs w (Gives_all vs) e ok room same long holds can here g =
         let can' = subst (Callable r.procedures p) (sym g.count) can in
-        runs_after parts me locals size c _ _ w w at' _ (omega arith) g.leads (called_run (starts parts p vs (option_map reg x) (fr at1 g.after line) c w) (instr.Call (proc_no p) (option_map reg x) rs) x line at1 at' env g.after w (call r d p vs line w) e ok room (g.same ∙ same) long (holds_kept temp locals lay 0 env regs g.after holds g.kept) here (ap (λ l. starts parts p l (option_map reg x) (fr at1 g.after line) c w) g.values_are) (calls_run p vs (fr at1 g.after line) (option_map reg x) c w deep can'))
+        runs_after parts me locals size c _ _ w w at' _ (omega arith) g.leads
+        (called_run (starts parts p vs (option_map reg x) (fr at1 g.after line) c w) (instr.Call (proc_no p) (option_map reg x) rs) x line at1 at'
+        env g.after w (call r d p vs line w) e ok room (g.same ∙ same) long (holds_kept temp locals lay 0 env regs g.after holds g.kept) here
+        (ap (λ l. starts parts p l (option_map reg x) (fr at1 g.after line) c w) g.values_are)
+        (calls_run p vs (fr at1 g.after line) (option_map reg x) c w deep can'))
 
-    pub call_run : (x : Option ℕ) (p : ℕ) (es : List Expr) (line at line0 : ℕ) (env regs : List Value) (w : World) → IsPlace locals x → AllOperands locals es → Callable r.procedures p (length es) → locals ≤ size → length regs ≡ size → length env ≡ locals → Holds locals env regs → HasAt me.instructions at (call_code parts.shape temp x p es line) → Does (fr at regs line0) w (at + length (call_code parts.shape temp x p es line)) (call_with parts.shape x es (λ vs w. call r d p vs line w) line env w)
+    pub call_run : (x : Option ℕ) (p : ℕ) (es : List Expr) (line at line0 : ℕ) (env regs : List Value) (w : World) → IsPlace locals x
+        → AllOperands locals es → Callable r.procedures p (length es) → locals ≤ size → length regs ≡ size → length env ≡ locals
+        → Holds locals env regs → HasAt me.instructions at (call_code parts.shape temp x p es line)
+        → Does (fr at regs line0) w (at + length (call_code parts.shape temp x p es line))
+        (call_with parts.shape x es (λ vs w. call r d p vs line w) line env w)
     call_run x p es line at line0 env regs w ok_x ok_es can room same long holds has =
         let ca = arguments_code parts.shape temp es 0 in let rs = registers parts.shape temp es 0 in
         let here = (has_back me.instructions (at + 1) ca _ has.1).0 in
         let len : at + 1 + length ca + 1 ≡ at + length (call_code parts.shape temp x p es line) = omega (arith, length-append ca (instr.Call (proc_no p) (option_map reg x) rs ∷ [])) in
         let can' = subst (Callable r.procedures p) (sym (registers_length es 0)) can in
         charge_run parts me locals size c (fr at regs line0) w line _ _ has.0 (λ m is.
-        then_call x p rs line (at + 1) (at + 1 + length ca) _ env regs (record w { charges = m }) _ len ok_x room same long holds can' here (arguments_run es 0 line (at + 1) env regs (record w { charges = m }) ok_es same holds (has_front me.instructions (at + 1) ca _ has.1)))
+        then_call x p rs line (at + 1) (at + 1 + length ca) _ env regs (record w { charges = m }) _ len ok_x room same long holds can' here
+        (arguments_run es 0 line (at + 1) env regs (record w { charges = m }) ok_es same holds (has_front me.instructions (at + 1) ca _ has.1)))

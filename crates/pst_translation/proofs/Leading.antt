@@ -83,7 +83,8 @@ pub ends_on : (parts : Parts) (f f1 : Frame) (c c1 : List Caller) (w w1 : World)
 ends_on parts f f1 c c1 w w1 o l e = let a = l.by e.within in record { within = a.0; comes = ap spent a.2 ∙ e.comes }
 
 -- one instruction
-pub step : (parts : Parts) (f : Frame) (c : List Caller) (w : World) (i : Instr) (m : Move) → next_instr f ≡ Some i → act parts (Some i) f c w ≡ m → (k : ℕ) → steps parts (suc k) f c w ≡ go_on m (steps parts k)
+pub step : (parts : Parts) (f : Frame) (c : List Caller) (w : World) (i : Instr) (m : Move) → next_instr f ≡ Some i → act parts (Some i) f c w ≡ m
+    → (k : ℕ) → steps parts (suc k) f c w ≡ go_on m (steps parts k)
 step parts f c w i m h e k = ap (λ o. go_on (act parts o f c w) (steps parts k)) h ∙ ap (λ x. go_on x (steps parts k)) e
 
 -- one that goes on
@@ -95,7 +96,8 @@ pub last : (parts : Parts) (f : Frame) (c : List Caller) (w : World) (o : Ending
 last parts f c w o i h e = record { within = 1; comes = ap spent (step parts f c w i (Over o) h e 0) }
 
 -- one that waits for its charge
-pub last_waits : (parts : Parts) (f : Frame) (c : List Caller) (w : World) (line : ℕ) (i : Instr) → next_instr f ≡ Some i → act parts (Some i) f c w ≡ Waits line f c w → Ends parts f c w (Spent line w)
+pub last_waits : (parts : Parts) (f : Frame) (c : List Caller) (w : World) (line : ℕ) (i : Instr) → next_instr f ≡ Some i
+    → act parts (Some i) f c w ≡ Waits line f c w → Ends parts f c w (Spent line w)
 last_waits parts f c w line i h e = record { within = 1; comes = ap spent (step parts f c w i (Waits line f c w) h e 0) }
 
 -- ---- registers

@@ -51,10 +51,12 @@ module _ (r : Routines) (typed : IsTyped r) where
         procedure = procedure_code r.shape is.procedure;
         found = at_place r c.procedure is.procedure is.found;
         fits = is.fits;
-        ends = subst (λ q. EndsIn (code_of r) (procedure_code r.shape is.procedure) arguments w (run_body r.shape (call r 255) q arguments w)) (sym is.found) (does r typed c.procedure is.procedure is.found arguments fit w);
+        ends = subst (λ q. EndsIn (code_of r) (procedure_code r.shape is.procedure) arguments w (run_body r.shape (call r 255) q arguments w))
+            (sym is.found) (does r typed c.procedure is.procedure is.found arguments fit w);
       }
 
-  next-ends : (e : Ending) (go : World → Ending) (calls : List TaskCall) → ((v : World) → CallsEndIn (code_of r) calls v (go v)) → NextEndsIn e (λ v. CallsEndIn (code_of r) calls v (next_call e go)) (next_call e go)
+  next-ends : (e : Ending) (go : World → Ending) (calls : List TaskCall) → ((v : World) → CallsEndIn (code_of r) calls v (go v))
+      → NextEndsIn e (λ v. CallsEndIn (code_of r) calls v (next_call e go)) (next_call e go)
   next-ends (Normal env v) go calls all = all v
   next-ends (Returned x v) go calls all = all v
   next-ends (Trapped t line v) go calls all = refl
@@ -77,7 +79,9 @@ module _ (r : Routines) (typed : IsTyped r) where
         one_end (code_of r) (procedure_code r.shape g.0) arguments w e (run_body r.shape (call r 255) (Some g.0) arguments w) theirs (does r typed c.procedure g.0 g.1 arguments fit w)
         ∙ ap (λ q. run_body r.shape (call r 255) q arguments w) (sym g.1)
 
-    next-same : (e : Ending) (calls : List TaskCall) (o : Ending) → ((v : World) → CallsEndIn (code_of r) calls v o → o ≡ in_order (one_call r) calls v) → NextEndsIn e (λ v. CallsEndIn (code_of r) calls v o) o → o ≡ next_call e (in_order (one_call r) calls)
+    next-same : (e : Ending) (calls : List TaskCall) (o : Ending)
+        → ((v : World) → CallsEndIn (code_of r) calls v o → o ≡ in_order (one_call r) calls v)
+        → NextEndsIn e (λ v. CallsEndIn (code_of r) calls v o) o → o ≡ next_call e (in_order (one_call r) calls)
     next-same (Normal env v) calls o all h = all v h
     next-same (Returned x v) calls o all h = all v h
     next-same (Trapped t line v) calls o all h = h

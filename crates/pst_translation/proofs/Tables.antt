@@ -38,7 +38,8 @@ apart_at false false m k k' q q' f g h e = h (omega arith)
 apart : (table : List Need) (k k' : ℕ) (kind kind' : Kind) → index_in table k kind ≡ index_in table k' kind' → k ≡ k'
 apart [] k k' kind kind' e = e
 apart (n ∷ ns) k k' kind kind' e =
-    apart_at (same_need n (need k kind)) (same_need n (need k' kind')) n.level k k' (index_in ns k kind) (index_in ns k' kind') (same_level n k kind) (same_level n k' kind') (apart ns k k' kind kind') e
+    apart_at (same_need n (need k kind)) (same_need n (need k' kind')) n.level k k' (index_in ns k kind) (index_in ns k' kind') (same_level n k kind)
+    (same_level n k' kind') (apart ns k k' kind kind') e
 
 pub layout : (locals : ℕ) (table : List Need) → Layout (temp_of locals table) locals
 layout locals table = record {

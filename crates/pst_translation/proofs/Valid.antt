@@ -55,7 +55,8 @@ module _ (r : Routines) (t : IsTyped r) (p : syntax.Procedure) (tp : IsTypedProc
   known = recursion_from_All (IsKind r.shape) p.kinds tp.kinds
 
   fair : AllByRecursion (IsFair r.shape) needs
-  fair = all_join (IsFair r.shape) (block_needs r.shape p.body) (end_needs p.result) (block_fair r t.valid p known t.procedures p.body tp.body tp.shallow.expressions) (end_fair r.shape p.result tp.result)
+  fair = all_join (IsFair r.shape) (block_needs r.shape p.body) (end_needs p.result)
+      (block_fair r t.valid p known t.procedures p.body tp.body tp.shallow.expressions) (end_fair r.shape p.result tp.result)
 
   few_temps : length table ≤ 4745
   few_temps = few_noted r.shape t.valid.few needs fair
@@ -72,12 +73,14 @@ module _ (r : Routines) (t : IsTyped r) (p : syntax.Procedure) (tp : IsTypedProc
   stays x kind e = get_kept p.kinds (map (λ n. n.kind) table) x kind e
 
   held : AllByRecursion (Held (code_of r) pc p.kinds temp stays) needs
-  held = all_weaker (Placed table) (Held (code_of r) pc p.kinds temp stays) (λ n placed. get_back p.kinds (map (λ n. n.kind) table) (index_in table n.level n.kind) ∙ kind_at table n placed) needs (noted_covers needs [])
+  held = all_weaker (Placed table) (Held (code_of r) pc p.kinds temp stays)
+      (λ n placed. get_back p.kinds (map (λ n. n.kind) table) (index_in table n.level n.kind) ∙ kind_at table n placed) needs (noted_covers needs [])
 
   all_kinds : All (IsKind r.shape) pc.kinds
   all_kinds =
       All-append (IsKind r.shape) p.kinds (map (λ n. n.kind) table) tp.kinds
-      (All-map (IsKind r.shape) (λ (n : Need). n.kind) table (All-from_recursion (λ (n : Need). IsKind r.shape n.kind) table (all_weaker (IsFair r.shape) (λ (n : Need). IsKind r.shape n.kind) (λ n f. f.1) table (noted_fair r.shape t.valid.few needs fair))))
+      (All-map (IsKind r.shape) (λ (n : Need). n.kind) table (All-from_recursion (λ (n : Need). IsKind r.shape n.kind) table
+      (all_weaker (IsFair r.shape) (λ (n : Need). IsKind r.shape n.kind) (λ n f. f.1) table (noted_fair r.shape t.valid.few needs fair))))
 
   kinds_size : length pc.kinds ≡ length p.kinds + length table
   kinds_size =
@@ -180,7 +183,8 @@ few_registers r t i p at = few r t p (t.procedures i p at)
 pub compiled_is_valid : (r : Routines) → IsTyped r → IsValidCode (code_of r)
 compiled_is_valid r t = record {
   shape = t.valid;
-  few = let size : length (map (procedure_code r.shape) r.procedures) ≡ length r.procedures = length-map r.procedures (procedure_code r.shape) in let most : length r.procedures ≤ MOST_PROCEDURES = t.few in omega arith;
+  few = let size : length (map (procedure_code r.shape) r.procedures) ≡ length r.procedures = length-map r.procedures (procedure_code r.shape) in
+      let most : length r.procedures ≤ MOST_PROCEDURES = t.few in omega arith;
   names = names_differ r t;
   procedures = λ i pc at. let o : Origin r i pc = origin r i pc at in subst (IsValidProcedure (code_of r)) o.is (valid_procedure r t o.from (t.procedures i o.from o.at));
 }

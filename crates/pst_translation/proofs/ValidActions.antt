@@ -82,7 +82,8 @@ module _ (r : Routines) (q : syntax.Procedure) (p : Procedure) (temp : Temp) (st
       let f : Put (root_kind r.shape slot) (sort e) = put (root_kind r.shape slot) (sort e) t.1 in
       (tt, join (expr_code r.shape temp e 0) _ (fits e 0 f.kind f.is h) ((writes t.0, alike (kind_of p (reg_of e 0)) (root_kind r.shape slot) f.kind (kind_is e 0 f.kind f.is h) f.there), tt))
 
-  store_fits : (o : Expr) (slot : ℕ) (e : Expr) (line at : ℕ) → IsTypedAction r q (Store o slot e) → AreHeld (expr_needs r.shape o 0 ++ expr_needs r.shape e 1) → FitAll (action_code r.shape temp (Store o slot e) line at)
+  store_fits : (o : Expr) (slot : ℕ) (e : Expr) (line at : ℕ) → IsTypedAction r q (Store o slot e)
+      → AreHeld (expr_needs r.shape o 0 ++ expr_needs r.shape e 1) → FitAll (action_code r.shape temp (Store o slot e) line at)
   store_fits o slot e line at t h =
       let f : Put (field_of r.shape (sort o) slot) (sort e) = put (field_of r.shape (sort o) slot) (sort e) t.1 in
       let g : FieldOf r.shape (sort o) slot f.kind = field_is r.shape (sort o) slot f.kind f.there in
@@ -98,7 +99,9 @@ module _ (r : Routines) (q : syntax.Procedure) (p : Procedure) (temp : Temp) (st
         ),
       )
 
-  store_element_fits : (o : Expr) (slot elements : ℕ) (i e : Expr) (line at : ℕ) → IsTypedAction r q (StoreIndexed o slot elements i e) → AreHeld (expr_needs r.shape o 0 ++ (expr_needs r.shape i 1 ++ expr_needs r.shape e 2)) → FitAll (action_code r.shape temp (StoreIndexed o slot elements i e) line at)
+  store_element_fits : (o : Expr) (slot elements : ℕ) (i e : Expr) (line at : ℕ) → IsTypedAction r q (StoreIndexed o slot elements i e)
+      → AreHeld (expr_needs r.shape o 0 ++ (expr_needs r.shape i 1 ++ expr_needs r.shape e 2))
+      → FitAll (action_code r.shape temp (StoreIndexed o slot elements i e) line at)
   store_element_fits o slot elements i e line at t h =
       let f : Put (array_of r.shape (sort o) slot elements) (sort e) = put (array_of r.shape (sort o) slot elements) (sort e) t.2 in
       let g : ArrayOf r.shape (sort o) slot elements f.kind = array_is r.shape (sort o) slot elements f.kind f.there in
@@ -109,7 +112,8 @@ module _ (r : Routines) (q : syntax.Procedure) (p : Procedure) (temp : Temp) (st
       let object : kind_of p (reg_of o 0) ≡ Some (Pointer g.ty) = kind_is o 0 (Pointer g.ty) g.object ho in
       let index : kind_of p (reg_of i 1) ≡ Some Int = kind_is i 1 Int t.1 hi in
       let slots_are : slots_kind r.shape (kind_of p (reg_of o 0)) slot elements ≡ Some f.kind = ap (λ (k : Option Kind). slots_kind r.shape k slot elements) object ∙ g.array in
-      let written : Alike (kind_of p (reg_of e 2)) (slots_kind r.shape (kind_of p (reg_of o 0)) slot elements) = alike (kind_of p (reg_of e 2)) (slots_kind r.shape (kind_of p (reg_of o 0)) slot elements) f.kind (kind_is e 2 f.kind f.is he) slots_are in (
+      let written : Alike (kind_of p (reg_of e 2)) (slots_kind r.shape (kind_of p (reg_of o 0)) slot elements) =
+      alike (kind_of p (reg_of e 2)) (slots_kind r.shape (kind_of p (reg_of o 0)) slot elements) f.kind (kind_is e 2 f.kind f.is he) slots_are in (
         tt,
         join (expr_code r.shape temp o 0) _ (fits o 0 (Pointer g.ty) g.object ho) (
           pointer (kind_of p (reg_of o 0)) g.ty object,
@@ -137,7 +141,8 @@ module _ (r : Routines) (q : syntax.Procedure) (p : Procedure) (temp : Temp) (st
   arguments_fit (e ∷ es) (kind ∷ kinds) k t h =
       let first : sort e ≡ Some (Of kind) = cc in
       let rest : AreOf es kinds = cc in
-      join (expr_code r.shape temp e k) _ (fits e k kind first (front (expr_needs r.shape e k) (arguments_needs r.shape es (k + 1)) h)) (arguments_fit es kinds (k + 1) rest (back (expr_needs r.shape e k) (arguments_needs r.shape es (k + 1)) h))
+      join (expr_code r.shape temp e k) _ (fits e k kind first (front (expr_needs r.shape e k) (arguments_needs r.shape es (k + 1)) h))
+      (arguments_fit es kinds (k + 1) rest (back (expr_needs r.shape e k) (arguments_needs r.shape es (k + 1)) h))
 
   arguments_kinds : (es : List Expr) (kinds : List Kind) (k : ℕ) → AreOf es kinds → AreHeld (arguments_needs r.shape es k) → map (kind_of p) (registers r.shape temp es k) ≡ map Some kinds
   arguments_kinds [] [] k t h = refl
@@ -159,7 +164,8 @@ module _ (r : Routines) (q : syntax.Procedure) (p : Procedure) (temp : Temp) (st
   same_parameters : (callee : syntax.Procedure) → IsTypedProcedure r callee → parameters_of (procedure_code r.shape callee) ≡ typed.parameters_of callee
   same_parameters callee t = take-append-le callee.arguments callee.kinds _ t.parameters
 
-  callee_fits : (local : Option ℕ) (es : List Expr) (o : Option syntax.Procedure) → ((callee : syntax.Procedure) → o ≡ Some callee → IsTypedProcedure r callee) → typed.IsCall r.shape q local es o → AreHeld (arguments_needs r.shape es 0)
+  callee_fits : (local : Option ℕ) (es : List Expr) (o : Option syntax.Procedure)
+      → ((callee : syntax.Procedure) → o ≡ Some callee → IsTypedProcedure r callee) → typed.IsCall r.shape q local es o → AreHeld (arguments_needs r.shape es 0)
       → IsCall p (option_map reg local) (registers r.shape temp es 0) (option_map (procedure_code r.shape) o)
   callee_fits local es None known t h = t
   callee_fits local es (Some callee) known t h = record {
@@ -168,13 +174,16 @@ module _ (r : Routines) (q : syntax.Procedure) (p : Procedure) (temp : Temp) (st
     result_fits = result_into local callee.result t.result_fits;
   }
 
-  argument_codes : (local : Option ℕ) (es : List Expr) (o : Option syntax.Procedure) → typed.IsCall r.shape q local es o → AreHeld (arguments_needs r.shape es 0) → FitAll (arguments_code r.shape temp es 0)
+  argument_codes : (local : Option ℕ) (es : List Expr) (o : Option syntax.Procedure) → typed.IsCall r.shape q local es o
+      → AreHeld (arguments_needs r.shape es 0) → FitAll (arguments_code r.shape temp es 0)
   argument_codes local es None t h = absurd t
   argument_codes local es (Some callee) t h = arguments_fit es (typed.parameters_of callee) 0 t.arguments_fit h
 
-  call_fits : (local : Option ℕ) (callee : ℕ) (es : List Expr) (line at : ℕ) → IsTypedAction r q (Call local callee es) → AreHeld (arguments_needs r.shape es 0) → FitAll (action_code r.shape temp (Call local callee es) line at)
+  call_fits : (local : Option ℕ) (callee : ℕ) (es : List Expr) (line at : ℕ) → IsTypedAction r q (Call local callee es)
+      → AreHeld (arguments_needs r.shape es 0) → FitAll (action_code r.shape temp (Call local callee es) line at)
   call_fits local callee es line at t h =
-      let called : IsCall p (option_map reg local) (registers r.shape temp es 0) (option_map (procedure_code r.shape) (slice_get r.procedures callee)) = callee_fits local es (slice_get r.procedures callee) (others callee) t h in (
+      let called : IsCall p (option_map reg local) (registers r.shape temp es 0) (option_map (procedure_code r.shape) (slice_get r.procedures callee))
+      = callee_fits local es (slice_get r.procedures callee) (others callee) t h in (
         tt,
         join (arguments_code r.shape temp es 0) _ (argument_codes local es (slice_get r.procedures callee) t h)
             (subst (λ (o : Option Procedure). IsCall p (option_map reg local) (registers r.shape temp es 0) o) (sym (slice_get-map (procedure_code r.shape) r.procedures callee)) called, tt),
@@ -194,8 +203,12 @@ module _ (r : Routines) (q : syntax.Procedure) (p : Procedure) (temp : Temp) (st
     action_fits (New x ty) line at t h = (tt, ((writes t.0, t.1.0, stays x (Pointer ty) t.2), tt))
     action_fits (Call local callee es) line at t h = call_fits local callee es line at t h
     action_fits (Print e) line at t h = (tt, join (expr_code r.shape temp e 0) _ (fits e 0 Int t h) (kind_is e 0 Int t h, tt))
-    action_fits (If e first) line at t h =
-        (tt, join (test_code r.shape temp e false _ (at + 1)) _ (conditions e _ (at + 1) t.0 (front (test_needs r.shape e) (block_needs r.shape first) h)) (block_fits first _ t.1 (back (test_needs r.shape e) (block_needs r.shape first) h)))
+    action_fits (If e first) line at t h = (
+      tt,
+      join (test_code r.shape temp e false _ (at + 1)) _
+          (conditions e _ (at + 1) t.0 (front (test_needs r.shape e) (block_needs r.shape first) h))
+          (block_fits first _ t.1 (back (test_needs r.shape e) (block_needs r.shape first) h)),
+    )
     action_fits (Either e first other) line at t h =
         let rest : AreHeld (block_needs r.shape first ++ block_needs r.shape other) = back (test_needs r.shape e) (block_needs r.shape first ++ block_needs r.shape other) h in (
           tt,
@@ -213,7 +226,9 @@ module _ (r : Routines) (q : syntax.Procedure) (p : Procedure) (temp : Temp) (st
     pub block_fits : (actions : Actions) (at : ℕ) → IsTypedBlock r q actions → AreHeld (block_needs r.shape actions) → FitAll (block_code r.shape temp actions at)
     block_fits Empty at t h = tt
     block_fits (Then line action rest) at t h =
-        join (action_code r.shape temp action line at) _ (action_fits action line at t.0 (front (action_needs r.shape action) (block_needs r.shape rest) h)) (block_fits rest _ t.1 (back (action_needs r.shape action) (block_needs r.shape rest) h))
+        join (action_code r.shape temp action line at) _ (action_fits action line at t.0
+        (front (action_needs r.shape action) (block_needs r.shape rest) h))
+        (block_fits rest _ t.1 (back (action_needs r.shape action) (block_needs r.shape rest) h))
 
   default_fits : (kind : Kind) (d : Reg) → kind_of p d ≡ Some kind → Fits parts p (default_code kind d)
   default_fits Int d e = e

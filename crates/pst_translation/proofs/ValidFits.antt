@@ -16,7 +16,8 @@ use Rattle.pst_translation.specs.declared.need.Need.{Need}
 use Rattle.pst_translation.specs.Code.{Temp, kind_or, register, arithmetic, expr_code, compare_code, test_code}
 use Rattle.pst_translation.specs.Needs.{need, expr_needs, test_needs}
 use Rattle.pst_translation.proofs.ValidLists.{all_join, all_front, all_back}
-use Rattle.pst_translation.proofs.ValidSorts.{kind_held, FieldOf, load_kind, ArrayOf, element_kind, null_kind, negated, no_not, denied, Operands, number_operands, and_operands, or_operands, IsOrdered, is_logical, Compared, compared_operands}
+use Rattle.pst_translation.proofs.ValidSorts.{kind_held, FieldOf, load_kind, ArrayOf, element_kind, null_kind, negated, no_not, denied, Operands}
+use Rattle.pst_translation.proofs.ValidSorts.{number_operands, and_operands, or_operands, IsOrdered, is_logical, Compared, compared_operands}
 
 pub alike : (a b : Option Kind) (kind : Kind) → a ≡ Some kind → b ≡ Some kind → Alike a b
 alike a b kind e f = subst (λ (o : Option Kind). Alike o b) (sym e) f
@@ -124,14 +125,17 @@ module _ (parts : Parts) (p : Procedure) (locals : List Kind) (temp : Temp) (sta
       let hb : AreHeld (expr_needs parts.shape b (k + 1)) = front (expr_needs parts.shape b (k + 1)) (need k Int ∷ []) rest in
       join (expr_code parts.shape temp a k) _ (expr_fits a k Int both.left_is ha)
       (join (expr_code parts.shape temp b (k + 1)) _ (expr_fits b (k + 1) Int both.right_is hb)
-      (arithmetic_fits operator (temp k Int) (register parts.shape temp a k) (register parts.shape temp b (k + 1)) (back (expr_needs parts.shape b (k + 1)) (need k Int ∷ []) rest).0 (register_kind a k Int both.left_is ha) (register_kind b (k + 1) Int both.right_is hb)))
+      (arithmetic_fits operator (temp k Int) (register parts.shape temp a k) (register parts.shape temp b (k + 1))
+      (back (expr_needs parts.shape b (k + 1)) (need k Int ∷ []) rest).0 (register_kind a k Int both.left_is ha)
+      (register_kind b (k + 1) Int both.right_is hb)))
 
   -- ---- conditions
 
   ints : (a b : Reg) (kind : Kind) → kind ≡ Int → kind_of p a ≡ Some kind → kind_of p b ≡ Some kind → (kind_of p a ≡ Some Int) × (kind_of p b ≡ Some Int)
   ints a b kind same e f = (e ∙ ap Some same, f ∙ ap Some same)
 
-  compare_fits : (operator : Op) (want : Bool) (a b : Reg) (to : ℕ) (kind : Kind) → IsOrdered operator kind → kind_of p a ≡ Some kind → kind_of p b ≡ Some kind → FitAll (compare_code operator want a b to)
+  compare_fits : (operator : Op) (want : Bool) (a b : Reg) (to : ℕ) (kind : Kind) → IsOrdered operator kind → kind_of p a ≡ Some kind
+      → kind_of p b ≡ Some kind → FitAll (compare_code operator want a b to)
   compare_fits op.Add true a b to kind is e f = tt
   compare_fits op.Add false a b to kind is e f = tt
   compare_fits op.Sub true a b to kind is e f = tt
@@ -159,7 +163,8 @@ module _ (parts : Parts) (p : Procedure) (locals : List Kind) (temp : Temp) (sta
   compare_fits op.Or true a b to kind is e f = tt
   compare_fits op.Or false a b to kind is e f = tt
 
-  comparison_fits : (operator : Op) (want : Bool) (a b : Expr) (to : ℕ) → is_logical operator ≡ false → sort (Binary operator a b) ≡ Some Truth → AreHeld (expr_needs parts.shape a 0 ++ expr_needs parts.shape b 1)
+  comparison_fits : (operator : Op) (want : Bool) (a b : Expr) (to : ℕ) → is_logical operator ≡ false → sort (Binary operator a b) ≡ Some Truth
+      → AreHeld (expr_needs parts.shape a 0 ++ expr_needs parts.shape b 1)
       → FitAll (expr_code parts.shape temp a 0 ++ (expr_code parts.shape temp b 1 ++ compare_code operator want (register parts.shape temp a 0) (register parts.shape temp b 1) to))
   comparison_fits operator want a b to other s h =
       let c : Compared operator (sort a) (sort b) = compared_operands operator (sort a) (sort b) other s in
@@ -167,7 +172,8 @@ module _ (parts : Parts) (p : Procedure) (locals : List Kind) (temp : Temp) (sta
       let hb : AreHeld (expr_needs parts.shape b 1) = back (expr_needs parts.shape a 0) (expr_needs parts.shape b 1) h in
       join (expr_code parts.shape temp a 0) _ (expr_fits a 0 c.kind c.operands.left_is ha)
       (join (expr_code parts.shape temp b 1) _ (expr_fits b 1 c.kind c.operands.right_is hb)
-      (compare_fits operator want (register parts.shape temp a 0) (register parts.shape temp b 1) to c.kind c.ordered (register_kind a 0 c.kind c.operands.left_is ha) (register_kind b 1 c.kind c.operands.right_is hb)))
+      (compare_fits operator want (register parts.shape temp a 0) (register parts.shape temp b 1) to c.kind c.ordered
+      (register_kind a 0 c.kind c.operands.left_is ha) (register_kind b 1 c.kind c.operands.right_is hb)))
 
   pub test_fits : (e : Expr) (want : Bool) (to at : ℕ) → sort e ≡ Some Truth → AreHeld (test_needs parts.shape e) → FitAll (test_code parts.shape temp e want to at)
   test_fits (Number n) want to at s h = tt
@@ -181,16 +187,20 @@ module _ (parts : Parts) (p : Procedure) (locals : List Kind) (temp : Temp) (sta
   test_fits (Not e) want to at s h = test_fits e (not want) to at (denied parts.shape locals e s) h
   test_fits (Binary op.And a b) true to at s h =
       let o : Operands Truth (sort a) (sort b) = and_operands (sort a) (sort b) s in
-      join _ _ (test_fits a _ _ _ o.left_is (front (test_needs parts.shape a) (test_needs parts.shape b) h)) (test_fits b _ _ _ o.right_is (back (test_needs parts.shape a) (test_needs parts.shape b) h))
+      join _ _ (test_fits a _ _ _ o.left_is (front (test_needs parts.shape a) (test_needs parts.shape b) h))
+      (test_fits b _ _ _ o.right_is (back (test_needs parts.shape a) (test_needs parts.shape b) h))
   test_fits (Binary op.And a b) false to at s h =
       let o : Operands Truth (sort a) (sort b) = and_operands (sort a) (sort b) s in
-      join _ _ (test_fits a _ _ _ o.left_is (front (test_needs parts.shape a) (test_needs parts.shape b) h)) (test_fits b _ _ _ o.right_is (back (test_needs parts.shape a) (test_needs parts.shape b) h))
+      join _ _ (test_fits a _ _ _ o.left_is (front (test_needs parts.shape a) (test_needs parts.shape b) h))
+      (test_fits b _ _ _ o.right_is (back (test_needs parts.shape a) (test_needs parts.shape b) h))
   test_fits (Binary op.Or a b) true to at s h =
       let o : Operands Truth (sort a) (sort b) = or_operands (sort a) (sort b) s in
-      join _ _ (test_fits a _ _ _ o.left_is (front (test_needs parts.shape a) (test_needs parts.shape b) h)) (test_fits b _ _ _ o.right_is (back (test_needs parts.shape a) (test_needs parts.shape b) h))
+      join _ _ (test_fits a _ _ _ o.left_is (front (test_needs parts.shape a) (test_needs parts.shape b) h))
+      (test_fits b _ _ _ o.right_is (back (test_needs parts.shape a) (test_needs parts.shape b) h))
   test_fits (Binary op.Or a b) false to at s h =
       let o : Operands Truth (sort a) (sort b) = or_operands (sort a) (sort b) s in
-      join _ _ (test_fits a _ _ _ o.left_is (front (test_needs parts.shape a) (test_needs parts.shape b) h)) (test_fits b _ _ _ o.right_is (back (test_needs parts.shape a) (test_needs parts.shape b) h))
+      join _ _ (test_fits a _ _ _ o.left_is (front (test_needs parts.shape a) (test_needs parts.shape b) h))
+      (test_fits b _ _ _ o.right_is (back (test_needs parts.shape a) (test_needs parts.shape b) h))
   test_fits (Binary op.Add a b) want to at s h = comparison_fits op.Add want a b to refl s h
   test_fits (Binary op.Sub a b) want to at s h = comparison_fits op.Sub want a b to refl s h
   test_fits (Binary op.Mul a b) want to at s h = comparison_fits op.Mul want a b to refl s h

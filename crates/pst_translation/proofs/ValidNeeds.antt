@@ -1,5 +1,6 @@
 -- What a well-typed procedure needs: registers of low levels, for kinds that the record types have.
-use Rattle.std.proofs.Common.{◌≡◌, ℕ, zero, suc, ◌+◌, ◌-◌, ◌<◌, ◌≤◌, Bool, true, false, cond, nat_lt, ◌&&◌, List, [], ◌∷◌, ◌++◌, map, take, length, Option, Some, None, refl, sym, ap, subst, arith, slice_get}
+use Rattle.std.proofs.Common.{◌≡◌, ℕ, zero, suc, ◌+◌, ◌-◌, ◌<◌, ◌≤◌, Bool, true, false, cond, nat_lt, ◌&&◌, List, [], ◌∷◌, ◌++◌, map, take, length, Option}
+use Rattle.std.proofs.Common.{Some, None, refl, sym, ap, subst, arith, slice_get}
 use Rattle.std.specs.List.{AllByRecursion}
 use Rattle.std.specs.Option.{option_map}
 use Rattle.std.proofs.lemmas.Bool.{ltb-true}
@@ -13,7 +14,8 @@ use Rattle.pst_base.specs.declared.names.TypeNo.{TypeNo}
 use Rattle.pst_base.specs.declared.shape.TypeShape.{TypeShape}
 use Rattle.pst_base.specs.Shape.{IsValid, IsTarget, type_at, root_type, field_kind}
 use Rattle.pst_program.specs.Syntax as syntax
-use Rattle.pst_program.specs.Syntax.{Expr, Action, Actions, Number, Null, Local, Root, Parens, Load, LoadIndexed, Negate, Not, Binary, Set, SetRoot, Store, StoreIndexed, New, Call, Print, If, Either, While, Return, Empty, Then, Routines}
+use Rattle.pst_program.specs.Syntax.{Expr, Action, Actions, Number, Null, Local, Root, Parens, Load, LoadIndexed, Negate, Not, Binary, Set, SetRoot, Store}
+use Rattle.pst_program.specs.Syntax.{StoreIndexed, New, Call, Print, If, Either, While, Return, Empty, Then, Routines}
 use Rattle.pst_program.specs.Meaning.{is_target}
 use Rattle.pst_program.specs.Typed as typed
 use Rattle.pst_program.specs.Typed.{Sort, Of, Truth, root_kind, sort_of, given, depth, deepest, action_depth, block_depth, IsKind, IsResult, IsTypedProcedure, IsTypedAction, IsTypedBlock}
@@ -22,13 +24,15 @@ use Rattle.pst_translation.specs.declared.need.Need.{Need}
 use Rattle.pst_translation.specs.Code.{kind_or}
 use Rattle.pst_translation.specs.Needs.{need, expr_needs, test_needs, arguments_needs, return_needs, action_needs, block_needs, end_needs}
 use Rattle.pst_translation.proofs.ValidLists.{all_join, all_at}
-use Rattle.pst_translation.proofs.ValidSorts.{kind_held, of_same, FieldOf, field_is, load_kind, ArrayOf, array_is, element_kind, negated, no_not, denied, Operands, number_operands, and_operands, or_operands, is_logical, Compared, compared_operands}
+use Rattle.pst_translation.proofs.ValidSorts.{kind_held, of_same, FieldOf, field_is, load_kind, ArrayOf, array_is, element_kind, negated, no_not, denied}
+use Rattle.pst_translation.proofs.ValidSorts.{Operands, number_operands, and_operands, or_operands, is_logical, Compared, compared_operands}
 use Rattle.pst_translation.proofs.ValidTables.{IsFair}
 use Rattle.pst_translation.proofs.ValidActions.{Put, put}
 
 -- ---- kinds
 
-target_kind : (targets : List TypeNo) (shape : List TypeShape) (i : ℕ) (kind : Kind) → AllByRecursion (IsTarget shape) targets → option_map Pointer (slice_get targets i) ≡ Some kind → IsKind shape kind
+target_kind : (targets : List TypeNo) (shape : List TypeShape) (i : ℕ) (kind : Kind) → AllByRecursion (IsTarget shape) targets
+    → option_map Pointer (slice_get targets i) ≡ Some kind → IsKind shape kind
 target_kind [] shape i kind all e = absurd (cc)
 target_kind (ty ∷ targets) shape zero kind all e = let same : Pointer ty ≡ kind = cc in subst (IsKind shape) same all.0
 target_kind (ty ∷ targets) shape (suc i) kind all e = target_kind targets shape i kind all.1 e
@@ -105,7 +109,8 @@ module _ (shape : List TypeShape) (valid : IsValid shape) (kinds : List Kind) (k
       let l = element_kind shape kinds e slot elements i kind' kind s in
       let f : ArrayOf shape (sort e) slot elements kind' = l.0 in
       join (expr_needs shape e k) _ (expr_fair e k (Pointer f.ty) f.object (omega arith))
-      (join (expr_needs shape i (k + 1)) (need k kind' ∷ []) (expr_fair i (k + 1) Int l.1 (omega arith)) ((omega arith, subst (IsKind shape) (sym l.2) (sort_known (LoadIndexed e slot elements i kind') kind s)), tt))
+      (join (expr_needs shape i (k + 1)) (need k kind' ∷ []) (expr_fair i (k + 1) Int l.1 (omega arith))
+      ((omega arith, subst (IsKind shape) (sym l.2) (sort_known (LoadIndexed e slot elements i kind') kind s)), tt))
   expr_fair (Negate e) k kind s d = join (expr_needs shape e k) (need k Int ∷ []) (expr_fair e k Int (negated shape kinds e kind s).0 (omega arith)) ((omega arith, tt), tt)
   expr_fair (Not e) k kind s d = tt
   expr_fair (Binary operator a b) k kind s d =
@@ -113,7 +118,8 @@ module _ (shape : List TypeShape) (valid : IsValid shape) (kinds : List Kind) (k
       join (expr_needs shape a k) _ (expr_fair a k Int both.left_is (omega arith))
       (join (expr_needs shape b (k + 1)) (need k Int ∷ []) (expr_fair b (k + 1) Int both.right_is (omega arith)) ((omega arith, tt), tt))
 
-  comparison_fair : (operator : Op) (a b : Expr) → is_logical operator ≡ false → sort (Binary operator a b) ≡ Some Truth → depth (Binary operator a b) ≤ 64 → Fair (expr_needs shape a 0 ++ expr_needs shape b 1)
+  comparison_fair : (operator : Op) (a b : Expr) → is_logical operator ≡ false → sort (Binary operator a b) ≡ Some Truth
+      → depth (Binary operator a b) ≤ 64 → Fair (expr_needs shape a 0 ++ expr_needs shape b 1)
   comparison_fair operator a b other s d =
       let c : Compared operator (sort a) (sort b) = compared_operands operator (sort a) (sort b) other s in
       join (expr_needs shape a 0) (expr_needs shape b 1) (expr_fair a 0 c.kind c.operands.left_is (omega arith)) (expr_fair b 1 c.kind c.operands.right_is (omega arith))
@@ -148,7 +154,8 @@ module _ (shape : List TypeShape) (valid : IsValid shape) (kinds : List Kind) (k
 
 -- ---- statements
 
-module _ (r : Routines) (valid : IsValid r.shape) (q : syntax.Procedure) (known : AllByRecursion (IsKind r.shape) q.kinds) (others : (i : ℕ) (callee : syntax.Procedure) → slice_get r.procedures i ≡ Some callee → IsTypedProcedure r callee) where
+module _ (r : Routines) (valid : IsValid r.shape) (q : syntax.Procedure) (known : AllByRecursion (IsKind r.shape) q.kinds)
+    (others : (i : ℕ) (callee : syntax.Procedure) → slice_get r.procedures i ≡ Some callee → IsTypedProcedure r callee) where
   abbrev sort_in : Expr → Option Sort
   sort_in e = sort_of r.shape q.kinds e
 
@@ -170,14 +177,16 @@ module _ (r : Routines) (valid : IsValid r.shape) (q : syntax.Procedure) (known 
       let g : FieldOf r.shape (sort_in o) slot f.kind = field_is r.shape (sort_in o) slot f.kind f.there in
       joins (expr_needs r.shape o 0) (expr_needs r.shape e 1) (one o 0 (Pointer g.ty) g.object (omega arith)) (one e 1 f.kind f.is (omega arith))
 
-  store_element_fair : (o : Expr) (slot elements : ℕ) (i e : Expr) → IsTypedAction r q (StoreIndexed o slot elements i e) → action_depth (StoreIndexed o slot elements i e) ≤ 64 → AllFair (expr_needs r.shape o 0 ++ (expr_needs r.shape i 1 ++ expr_needs r.shape e 2))
+  store_element_fair : (o : Expr) (slot elements : ℕ) (i e : Expr) → IsTypedAction r q (StoreIndexed o slot elements i e)
+      → action_depth (StoreIndexed o slot elements i e) ≤ 64 → AllFair (expr_needs r.shape o 0 ++ (expr_needs r.shape i 1 ++ expr_needs r.shape e 2))
   store_element_fair o slot elements i e t d =
       let f = put (typed.array_of r.shape (sort_in o) slot elements) (sort_in e) t.2 in
       let g : ArrayOf r.shape (sort_in o) slot elements f.kind = array_is r.shape (sort_in o) slot elements f.kind f.there in
       joins (expr_needs r.shape o 0) (expr_needs r.shape i 1 ++ expr_needs r.shape e 2) (one o 0 (Pointer g.ty) g.object (omega arith))
       (joins (expr_needs r.shape i 1) (expr_needs r.shape e 2) (one i 1 Int t.1 (omega arith)) (one e 2 f.kind f.is (omega arith)))
 
-  arguments_fair : (es : List Expr) (kinds : List Kind) (k : ℕ) → map sort_in es ≡ map (λ (kind : Kind). Some (Of kind)) kinds → deepest es ≤ 64 → k + length kinds ≤ 9 → AllFair (arguments_needs r.shape es k)
+  arguments_fair : (es : List Expr) (kinds : List Kind) (k : ℕ) → map sort_in es ≡ map (λ (kind : Kind). Some (Of kind)) kinds → deepest es ≤ 64
+      → k + length kinds ≤ 9 → AllFair (arguments_needs r.shape es k)
   arguments_fair [] kinds k t d few = tt
   arguments_fair (e ∷ es) [] k t d few = absurd (cc)
   arguments_fair (e ∷ es) (kind ∷ kinds) k t d few =
@@ -185,7 +194,9 @@ module _ (r : Routines) (valid : IsValid r.shape) (q : syntax.Procedure) (known 
       let rest : map sort_in es ≡ map (λ (kind : Kind). Some (Of kind)) kinds = cc in
       joins (expr_needs r.shape e k) (arguments_needs r.shape es (k + 1)) (one e k kind first (omega arith)) (arguments_fair es kinds (k + 1) rest (omega arith) (omega arith))
 
-  call_fair : (local : Option ℕ) (es : List Expr) (o : Option syntax.Procedure) → ((callee : syntax.Procedure) → o ≡ Some callee → IsTypedProcedure r callee) → typed.IsCall r.shape q local es o → deepest es ≤ 64 → AllFair (arguments_needs r.shape es 0)
+  call_fair : (local : Option ℕ) (es : List Expr) (o : Option syntax.Procedure)
+      → ((callee : syntax.Procedure) → o ≡ Some callee → IsTypedProcedure r callee) → typed.IsCall r.shape q local es o → deepest es ≤ 64
+      → AllFair (arguments_needs r.shape es 0)
   call_fair local es None known t d = absurd t
   call_fair local es (Some callee) known t d =
       let is : IsTypedProcedure r callee = known callee refl in

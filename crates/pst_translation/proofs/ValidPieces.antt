@@ -32,7 +32,8 @@ pub moved : (code code' : List Instr) (i i' to : ℕ) → slice_get code i ≡ s
 moved code code' i i' to e j = record { instr = j.instr; there = sym e ∙ j.there; goes = j.goes }
 
 -- what holds of the jumps of both pieces holds of their jumps as one
-pub jumps_of : (a b : List Instr) (P : ℕ → ℕ → Type 0) → ((i to : ℕ) → i < length a → JumpsTo a i to → P i to) → ((i to : ℕ) → JumpsTo b i to → P (length a + i) to) → (i to : ℕ) → JumpsTo (a ++ b) i to → P i to
+pub jumps_of : (a b : List Instr) (P : ℕ → ℕ → Type 0) → ((i to : ℕ) → i < length a → JumpsTo a i to → P i to)
+    → ((i to : ℕ) → JumpsTo b i to → P (length a + i) to) → (i to : ℕ) → JumpsTo (a ++ b) i to → P i to
 jumps_of a b P f g i to j = from (place a b i) where
   from : Place a b i → P i to
   from (Front lt e) = f i to lt (moved (a ++ b) a i i to e j)
@@ -40,7 +41,8 @@ jumps_of a b P f g i to j = from (place a b i) where
 
 -- ---- two pieces
 
-module _ (a b : List Instr) (at exit other : ℕ) (pa : Piece a at exit) (pb : Piece b (at + length a) other) (past : at + length (a ++ b) ≤ exit) (meets : (exit ≤ at + length (a ++ b)) ⊎ (exit ≡ other)) where
+module _ (a b : List Instr) (at exit other : ℕ) (pa : Piece a at exit) (pb : Piece b (at + length a) other) (past : at + length (a ++ b) ≤ exit)
+    (meets : (exit ≤ at + length (a ++ b)) ⊎ (exit ≡ other)) where
   whole : length (a ++ b) ≡ length a + length b
   whole = length-append a b
 

@@ -1,5 +1,6 @@
 -- Pieces of code: one charge and what it pays for, loops, expressions and conditions.
-use Rattle.std.proofs.Common.{◌≡◌, ◌⊎◌, inl, inr, ℕ, zero, suc, ◌+◌, ◌-◌, ◌<◌, ◌≤◌, Bool, true, false, not, List, [], ◌∷◌, ◌++◌, length, Some, None, refl, sym, ◌∙◌, subst, arith, slice_get, length-append}
+use Rattle.std.proofs.Common.{◌≡◌, ◌⊎◌, inl, inr, ℕ, zero, suc, ◌+◌, ◌-◌, ◌<◌, ◌≤◌, Bool, true, false, not, List, [], ◌∷◌, ◌++◌, length, Some, None, refl, sym}
+use Rattle.std.proofs.Common.{◌∙◌, subst, arith, slice_get, length-append}
 use Rattle.std.specs.List.{AllByRecursion}
 use Rattle.std.proofs.lemmas.Option.{slice_get_within}
 use Rattle.pst_base.specs.declared.names.Kind.{Kind}
@@ -142,7 +143,8 @@ module _ (line : ℕ) (inner : List Instr) (at exit other : ℕ) (p : Piece (cod
   loop_piece = record {
     ahead = omega (arith, loop_size);
     low = jumps_of head (code.Jump at ∷ []) (λ i to. at ≤ to) (λ i to within j. p.low i to j) (λ i to j. let home = goes_back i to j in omega arith);
-    high = jumps_of head (code.Jump at ∷ []) (λ i to. (to ≤ at + length loop) ⊎ (to ≡ other)) (λ i to within j. loop_high to (p.high i to j)) (λ i to j. let home = goes_back i to j in inl (omega arith));
+    high = jumps_of head (code.Jump at ∷ []) (λ i to. (to ≤ at + length loop) ⊎ (to ≡ other)) (λ i to within j. loop_high to (p.high i to j))
+        (λ i to j. let home = goes_back i to j in inl (omega arith));
     back = jumps_of head (code.Jump at ∷ []) (λ i to. to ≤ at + i → IsCharge (slice_get loop (to - at))) loop_back (λ i to j le. home_back to (goes_back i to j));
     paid = loop_pays;
   }
@@ -283,7 +285,8 @@ module _ (shape : List TypeShape) (temp : Temp) where
   test_length (Binary op.GreaterEqual a b) want to at = three _ _ _ _ (compare_length op.GreaterEqual want (register shape temp a 0) (register shape temp b 1) to)
 
   -- two operands and a jump
-  comparison : (operator : Op) (want : Bool) (a b : Expr) (to at : ℕ) → at + (length (expr_code shape temp a 0) + (length (expr_code shape temp b 1) + length (compare_code operator true (reg 0) (reg 0) 0))) ≤ to
+  comparison : (operator : Op) (want : Bool) (a b : Expr) (to at : ℕ)
+      → at + (length (expr_code shape temp a 0) + (length (expr_code shape temp b 1) + length (compare_code operator true (reg 0) (reg 0) 0))) ≤ to
       → Piece (expr_code shape temp a 0 ++ (expr_code shape temp b 1 ++ compare_code operator want (register shape temp a 0) (register shape temp b 1) to)) at to
   comparison operator want a b to at far =
       let ca : List Instr = expr_code shape temp a 0 in
@@ -298,7 +301,8 @@ module _ (shape : List TypeShape) (temp : Temp) where
       (omega arith) (inr refl)
 
   -- one condition and then another, which stands behind it; the first goes where the other goes, or just behind both
-  both_tests : (e f : Expr) (want want' : Bool) (exit to at : ℕ) → at + (test_size shape temp e + test_size shape temp f) ≤ exit → (exit ≤ at + (test_size shape temp e + test_size shape temp f)) ⊎ (exit ≡ to)
+  both_tests : (e f : Expr) (want want' : Bool) (exit to at : ℕ) → at + (test_size shape temp e + test_size shape temp f) ≤ exit
+      → (exit ≤ at + (test_size shape temp e + test_size shape temp f)) ⊎ (exit ≡ to)
       → Piece (test_code shape temp e want exit at) at exit → Piece (test_code shape temp f want' to (at + test_size shape temp e)) (at + test_size shape temp e) to
       → Piece (test_code shape temp e want exit at ++ test_code shape temp f want' to (at + test_size shape temp e)) at to
   both_tests e f want want' exit to at far meets pa pb =

@@ -25,7 +25,8 @@ closes c at exit p near = with_exit c at exit (at + length c) p near (omega arit
 pub then_closed : (a b : List Instr) (at : ℕ) → Closed a at → Closed b (at + length a) → Closed (a ++ b) at
 then_closed a b at pa pb =
     let whole : length (a ++ b) ≡ length a + length b = length-append a b in
-    joined a b at (at + length (a ++ b)) (at + length (a ++ b)) (closed_on a at (at + length (a ++ b)) pa (omega arith)) (closed_on b (at + length a) (at + length (a ++ b)) pb (omega arith)) (omega arith) (inr refl)
+    joined a b at (at + length (a ++ b)) (at + length (a ++ b)) (closed_on a at (at + length (a ++ b)) pa (omega arith))
+    (closed_on b (at + length a) (at + length (a ++ b)) pb (omega arith)) (omega arith) (inr refl)
 
 same_code : (a b : List Instr) (at : ℕ) → a ≡ b → Closed a at → Closed b at
 same_code a b at e p = subst (λ (c : List Instr). Closed c at) e p
@@ -39,7 +40,8 @@ module _ (shape : List TypeShape) (temp : Temp) where
       let ce : List Instr = expr_code shape temp e 1 in
       let last : Instr = code.Store ro (slot_no slot) (register shape temp e 1) in
       let quiet : AllByRecursion Quiet (co ++ code.Check ro ∷ ce) = all_join Quiet co (code.Check ro ∷ ce) (expr_quiet shape temp o 0) ((refl, refl), expr_quiet shape temp e 1) in
-      let e : code.Charge line ∷ ((co ++ code.Check ro ∷ ce) ++ last ∷ []) ≡ code.Charge line ∷ (co ++ (code.Check ro ∷ (ce ++ last ∷ []))) = ap (λ (c : List Instr). code.Charge line ∷ c) (append_assoc co (code.Check ro ∷ ce) (last ∷ [])) in
+      let e : code.Charge line ∷ ((co ++ code.Check ro ∷ ce) ++ last ∷ []) ≡ code.Charge line ∷ (co ++ (code.Check ro ∷ (ce ++ last ∷ []))) =
+      ap (λ (c : List Instr). code.Charge line ∷ c) (append_assoc co (code.Check ro ∷ ce) (last ∷ [])) in
       same_code _ _ at e (straight_piece line at _ (co ++ code.Check ro ∷ ce) last quiet refl (omega arith))
 
   -- a statement that stores into an element
@@ -63,7 +65,8 @@ module _ (shape : List TypeShape) (temp : Temp) where
   return_closed (Some e) line at = straight_piece line at _ (expr_code shape temp e 0) (code.Return (Some (register shape temp e 0))) (expr_quiet shape temp e 0) refl (omega arith)
 
   -- a condition, and behind it what is done where it holds
-  tested : (e : Expr) (first : List Instr) (exit at : ℕ) → Closed first (at + test_size shape temp e) → at + test_size shape temp e + length first ≤ exit → Piece (test_code shape temp e false exit at ++ first) at exit
+  tested : (e : Expr) (first : List Instr) (exit at : ℕ) → Closed first (at + test_size shape temp e)
+      → at + test_size shape temp e + length first ≤ exit → Piece (test_code shape temp e false exit at ++ first) at exit
   tested e first exit at p far =
       let size : length (test_code shape temp e false exit at) ≡ test_size shape temp e = test_length shape temp e false exit at in
       let whole : length (test_code shape temp e false exit at ++ first) ≡ length (test_code shape temp e false exit at) + length first = length-append (test_code shape temp e false exit at) first in
@@ -84,7 +87,8 @@ module _ (shape : List TypeShape) (temp : Temp) where
       let size : length (test_code shape temp e false exit (at + 1) ++ inner) ≡ test_size shape temp e + length inner = tested_size e inner exit (at + 1) in
       closes _ at exit (charged line _ at exit (tested e inner exit (at + 1) (closed start) (omega arith))) (omega arith)
 
-  either_closed : (e : Expr) (first other : Actions) (line at : ℕ) → ((at : ℕ) → Closed (block_code shape temp first at) at) → ((at : ℕ) → Closed (block_code shape temp other at) at) → Closed (action_code shape temp (Either e first other) line at) at
+  either_closed : (e : Expr) (first other : Actions) (line at : ℕ) → ((at : ℕ) → Closed (block_code shape temp first at) at)
+      → ((at : ℕ) → Closed (block_code shape temp other at) at) → Closed (action_code shape temp (Either e first other) line at) at
   either_closed e first other line at closed closed' =
       let start : ℕ = at + 1 + test_size shape temp e in
       let inner : List Instr = block_code shape temp first start in
@@ -98,8 +102,11 @@ module _ (shape : List TypeShape) (temp : Temp) where
       let more : length (front ++ jump ∷ []) ≡ length front + 1 = length-append front (jump ∷ []) in
       let all : length ((front ++ jump ∷ []) ++ rest) ≡ length (front ++ jump ∷ []) + length rest = length-append (front ++ jump ∷ []) rest in
       let seam : at + 1 + length (front ++ jump ∷ []) ≡ middle = omega arith in
-      let two : Piece (front ++ jump ∷ []) (at + 1) end = joined front (jump ∷ []) (at + 1) middle end (tested e inner middle (at + 1) (closed start) (omega arith)) (jump_piece jump (at + 1 + length front) end refl refl (omega arith)) (omega arith) (inl (omega arith)) in
-      let three : Piece ((front ++ jump ∷ []) ++ rest) (at + 1) end = joined (front ++ jump ∷ []) rest (at + 1) end end two (subst (λ (n : ℕ). Piece rest n end) (sym seam) (closed' middle)) (omega arith) (inr refl) in
+      let two : Piece (front ++ jump ∷ []) (at + 1) end = joined front (jump ∷ []) (at + 1) middle end
+      (tested e inner middle (at + 1) (closed start) (omega arith)) (jump_piece jump (at + 1 + length front) end refl refl (omega arith))
+      (omega arith) (inl (omega arith)) in
+      let three : Piece ((front ++ jump ∷ []) ++ rest) (at + 1) end =
+      joined (front ++ jump ∷ []) rest (at + 1) end end two (subst (λ (n : ℕ). Piece rest n end) (sym seam) (closed' middle)) (omega arith) (inr refl) in
       let order : (front ++ jump ∷ []) ++ rest ≡ test ++ (inner ++ (jump ∷ rest)) = append_assoc front (jump ∷ []) rest ∙ append_assoc test inner (jump ∷ rest) in
       same_code _ _ at (ap (λ (c : List Instr). code.Charge line ∷ c) order) (closes _ at end (charged line _ at end three) (omega arith))
 
@@ -111,8 +118,10 @@ module _ (shape : List TypeShape) (temp : Temp) where
       let test : List Instr = test_code shape temp e false exit (at + 1) in
       let size : length (test ++ inner) ≡ test_size shape temp e + length inner = tested_size e inner exit (at + 1) in
       let head : Piece (code.Charge line ∷ (test ++ inner)) at exit = charged line (test ++ inner) at exit (tested e inner exit (at + 1) (closed start) (omega arith)) in
-      let whole : length ((code.Charge line ∷ (test ++ inner)) ++ code.Jump at ∷ []) ≡ length (code.Charge line ∷ (test ++ inner)) + 1 = length-append (code.Charge line ∷ (test ++ inner)) (code.Jump at ∷ []) in
-      let order : (code.Charge line ∷ (test ++ inner)) ++ code.Jump at ∷ [] ≡ code.Charge line ∷ (test ++ (inner ++ code.Jump at ∷ [])) = ap (λ (c : List Instr). code.Charge line ∷ c) (append_assoc test inner (code.Jump at ∷ [])) in
+      let whole : length ((code.Charge line ∷ (test ++ inner)) ++ code.Jump at ∷ []) ≡ length (code.Charge line ∷ (test ++ inner)) + 1 =
+      length-append (code.Charge line ∷ (test ++ inner)) (code.Jump at ∷ []) in
+      let order : (code.Charge line ∷ (test ++ inner)) ++ code.Jump at ∷ [] ≡ code.Charge line ∷ (test ++ (inner ++ code.Jump at ∷ [])) =
+      ap (λ (c : List Instr). code.Charge line ∷ c) (append_assoc test inner (code.Jump at ∷ [])) in
       same_code _ _ at order (loop_piece line (test ++ inner) at exit _ head (omega arith) (omega arith))
 
   mutual
@@ -122,7 +131,8 @@ module _ (shape : List TypeShape) (temp : Temp) where
     action_closed (Store o slot e) line at = store_closed o slot e line at
     action_closed (StoreIndexed o slot elements i e) line at = store_element_closed o slot elements i e line at
     action_closed (New x ty) line at = straight_piece line at _ [] (code.New (reg x) ty) tt refl (omega arith)
-    action_closed (Call result p es) line at = straight_piece line at _ (arguments_code shape temp es 0) (code.Call (proc_no p) (option_map reg result) (registers shape temp es 0)) (arguments_quiet shape temp es 0) refl (omega arith)
+    action_closed (Call result p es) line at = straight_piece line at _ (arguments_code shape temp es 0)
+        (code.Call (proc_no p) (option_map reg result) (registers shape temp es 0)) (arguments_quiet shape temp es 0) refl (omega arith)
     action_closed (Print e) line at = straight_piece line at _ (expr_code shape temp e 0) (code.Print (register shape temp e 0)) (expr_quiet shape temp e 0) refl (omega arith)
     action_closed (If e first) line at = if_closed e first line at (block_closed first)
     action_closed (Either e first other) line at = either_closed e first other line at (block_closed first) (block_closed other)
@@ -133,7 +143,8 @@ module _ (shape : List TypeShape) (temp : Temp) where
     pub block_closed : (actions : Actions) (at : ℕ) → Closed (block_code shape temp actions at) at
     block_closed Empty at = quiet_piece [] at _ tt (omega arith)
     block_closed (Then line action rest) at =
-        then_closed (action_code shape temp action line at) (block_code shape temp rest (at + length (action_code shape temp action line at))) at (action_closed action line at) (block_closed rest (at + length (action_code shape temp action line at)))
+        then_closed (action_code shape temp action line at) (block_code shape temp rest (at + length (action_code shape temp action line at))) at
+        (action_closed action line at) (block_closed rest (at + length (action_code shape temp action line at)))
 
 pub end_quiet : (temp : Temp) (result : Option Kind) → AllByRecursion Quiet (end_code temp result)
 end_quiet temp None = ((refl, refl), tt)

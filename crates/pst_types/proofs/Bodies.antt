@@ -32,7 +32,8 @@ all_noted_apart (body ∷ bodies) (item ∷ items) scope =
 
 -- ---- a body that is taken out of a declaration is the next of the bodies
 
-pub taken_out : (bodies : List Block) (body : Block) (heads : List Declaration) (i : ℕ) (head was : Declaration) → length bodies ≡ i → i < length heads → with_body (phrases_of body) (item_of head) ≡ item_of (get_or heads i was) →
+pub taken_out : (bodies : List Block) (body : Block) (heads : List Declaration) (i : ℕ) (head was : Declaration) → length bodies ≡ i
+    → i < length heads → with_body (phrases_of body) (item_of head) ≡ item_of (get_or heads i was) →
     with_bodies (map phrases_of (bodies ++ body ∷ [])) (map item_of (set heads i head)) ≡ with_bodies (map phrases_of bodies) (map item_of heads)
 taken_out bodies body [] i head was count below is = absurd (omega arith)
 taken_out [] body (h ∷ hs) zero head was count below is = ap (λ item. item ∷ map item_of hs) is

@@ -21,7 +21,8 @@ limited (Some n) f (Ok members) make = refl
 limited (Some n) f (Err g) make = refl
 
 -- a record type is judged where its limit and its fields are
-pub record_judged : (scope : Scope) (before : NamedProgram) (line : ℕ) (x : List ℕ) (limit : ℤ) (fields : List tree.FieldText) (n : ℕ) (members : Members) → members_judged scope line limit fields ≡ Ok (n, members) →
+pub record_judged : (scope : Scope) (before : NamedProgram) (line : ℕ) (x : List ℕ) (limit : ℤ) (fields : List tree.FieldText) (n : ℕ)
+    (members : Members) → members_judged scope line limit fields ≡ Ok (n, members) →
     (now : NamedProgram) × (declared scope before (tree.Record line x limit fields) ≡ Ok now)
 record_judged scope before line x limit fields n members is =
     let add : ℕ → Members → NamedProgram = λ k ms. record before { shape = before.shape ++ shape_of scope k ms ∷ []; names = before.names ++ names_of x ms ∷ [] } in

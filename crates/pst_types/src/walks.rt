@@ -20,7 +20,7 @@ ghost use Rattle.pst_types.specs.View.{draft_of, Declares};
 ghost use Rattle.pst_types.specs.Added.{members_judged, with_type};
 ghost use Rattle.pst_types.specs.Bodies.{item_with, items_with};
 
-use pst_base::{MOST_LIMIT, Shape, TypeShape};
+use pst_base::{MOST_IN_DEGREE, Shape, TypeShape};
 use pst_grammar::{Block, Declaration, Fields, Identifier, Tree, TypeName};
 use pst_program::{Program, TypeEntry, TypeNames, TypedProc, TypedProcs};
 use pst_types_procedures::{approve_procedure, as_procedure, judge_procedure, note};
@@ -81,7 +81,7 @@ fn root_alone(alloc: Global, scope: &Scope) -> Result<Draft, TypeFault>
 fn limit_of(limit: i64) -> Option<u8>
     ensures { result ≡ limit_of limit }
 {
-    if (1..=i64::from(MOST_LIMIT)).contains(&limit) {
+    if (1..=i64::from(MOST_IN_DEGREE)).contains(&limit) {
         Some(limit as u8)
     } else {
         None

@@ -9,7 +9,8 @@ use Rattle.pst_types_scope.specs.declared.names.Variable.{Variable}
 use Rattle.pst_types_scope.specs.View.{entries_of, local_of}
 use Rattle.pst_types_scope.proofs.Lookups.{length_entries}
 
-pub few_parameters : (scope : Scope) (list : List LocalText) (none es : List (Bor (List ℕ) × Variable)) (n : ℕ) → none ≡ [] → through (variable scope 8) (entries_of local_of none) list ≡ Ok (entries_of local_of es) → n ≡ length es → n ≤ 8
+pub few_parameters : (scope : Scope) (list : List LocalText) (none es : List (Bor (List ℕ) × Variable)) (n : ℕ) → none ≡ []
+    → through (variable scope 8) (entries_of local_of none) list ≡ Ok (entries_of local_of es) → n ≡ length es → n ≤ 8
 few_parameters scope list none es n empty e count =
     let start : length (entries_of local_of none) ≡ 0 = length_entries local_of none ∙ ap length empty in
     let few : length (entries_of local_of none) ≤ 8 = omega (arith, start) in

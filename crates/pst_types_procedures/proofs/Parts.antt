@@ -47,7 +47,8 @@ parts scope p =
 -- ---- the verdict alone
 
 -- a verdict is that of what is made of the answer, too
-pub approved_made : {A B : Type 0} (make : A → B) (verdict : Result (Unit {0}) TypeFault) (answer : Result A TypeFault) → Approves verdict answer → Approves verdict (and_then answer (λ a. Ok (make a)))
+pub approved_made : {A B : Type 0} (make : A → B) (verdict : Result (Unit {0}) TypeFault) (answer : Result A TypeFault) → Approves verdict answer
+    → Approves verdict (and_then answer (λ a. Ok (make a)))
 approved_made make (Ok done) answer (a, is) = (make a, ap (λ r. and_then r (λ x. Ok (make x))) is)
 approved_made make (Err f) answer bad = fails_then f answer (λ a. Ok (make a)) bad
 
@@ -55,7 +56,8 @@ approved_made make (Err f) answer bad = fails_then f answer (λ a. Ok (make a)) 
 pub stands_fail : (scope : Scope) (p : tree.ProcedureText) (f : TypeFault) → Fails f (stand_in scope p) → Fails f (procedure scope p)
 stands_fail scope p f bad = fails_as f _ _ (sym (parts scope p)) (fails_then f (stand_in scope p) (λ s. procedure_in s.0 s.1 p) bad)
 
-pub stands_then : (scope : Scope) (p : tree.ProcedureText) (setting : Setting) (n : ℕ) (verdict : Result (Unit {0}) TypeFault) → stand_in scope p ≡ Ok (setting, n) → Approves verdict (block setting p.body) → Approves verdict (procedure scope p)
+pub stands_then : (scope : Scope) (p : tree.ProcedureText) (setting : Setting) (n : ℕ) (verdict : Result (Unit {0}) TypeFault)
+    → stand_in scope p ≡ Ok (setting, n) → Approves verdict (block setting p.body) → Approves verdict (procedure scope p)
 stands_then scope p setting n verdict is approved =
     subst (λ answer. Approves verdict answer) (sym (parts scope p ∙ ap (λ r. and_then r (λ s. procedure_in s.0 s.1 p)) is))
     (approved_made (made_in setting n p) verdict (block setting p.body) approved)

@@ -19,22 +19,38 @@ pub value_added : (m : Members) (x : Bor (List ℕ)) (w : Word) (k : Option ℕ)
     let after : names.Members = record { values = n; pointers = m.pointers; list = entries_of member_of es } in after ≡ names.with_member (members_of m) x.now (kind_word w) k
 value_added m x w k n es is_int counted free e =
     let f = ap (entries_of member_of) e ∙ inserted member_of m.list.entries x (record { rank = m.values; kind = w; elements = k }) free in
-    let P : Word → Type 0 = λ v. let before : names.Members = record { values = names.bounded (m.values + names.elements_of k); pointers = m.pointers; list = (members_of m).list ++ (x.now, record { rank = m.values; kind = kind_word v; elements = k }) ∷ [] } in before ≡ names.with_member (members_of m) x.now (kind_word v) k in
+    let P : Word → Type 0 = λ v. let before : names.Members =
+    record {
+      values = names.bounded (m.values + names.elements_of k);
+      pointers = m.pointers;
+      list =
+          (members_of m).list ++ (x.now, record { rank = m.values; kind = kind_word v; elements = k }) ∷ [];
+    } in
+    before ≡ names.with_member (members_of m) x.now (kind_word v) k in
     (λ i. record { values = counted i; pointers = m.pointers; list = f i }) ∙ subst P (sym is_int) refl
 
-pub pointer_added : (m : Members) (x : Bor (List ℕ)) (w : Word) (t : Bor (List ℕ)) (k : Option ℕ) (n : ℕ) (es : List (Bor (List ℕ) × Member)) → w ≡ word.Named t → n ≡ names.bounded (m.pointers + names.elements_of k) →
+pub pointer_added : (m : Members) (x : Bor (List ℕ)) (w : Word) (t : Bor (List ℕ)) (k : Option ℕ) (n : ℕ) (es : List (Bor (List ℕ) × Member))
+    → w ≡ word.Named t → n ≡ names.bounded (m.pointers + names.elements_of k) →
     names.is_named x.now (members_of m).list ≡ false → es ≡ insert_entry (λ a b. bytes_eq a.now b.now) m.list.entries x (record { rank = m.pointers; kind = w; elements = k }) →
     let after : names.Members = record { values = m.values; pointers = n; list = entries_of member_of es } in after ≡ names.with_member (members_of m) x.now (kind_word w) k
 pointer_added m x w t k n es is_named counted free e =
     let f = ap (entries_of member_of) e ∙ inserted member_of m.list.entries x (record { rank = m.pointers; kind = w; elements = k }) free in
-    let P : Word → Type 0 = λ v. let before : names.Members = record { values = m.values; pointers = names.bounded (m.pointers + names.elements_of k); list = (members_of m).list ++ (x.now, record { rank = m.pointers; kind = kind_word v; elements = k }) ∷ [] } in before ≡ names.with_member (members_of m) x.now (kind_word v) k in
+    let P : Word → Type 0 = λ v. let before : names.Members =
+    record {
+      values = m.values;
+      pointers = names.bounded (m.pointers + names.elements_of k);
+      list =
+          (members_of m).list ++ (x.now, record { rank = m.pointers; kind = kind_word v; elements = k }) ∷ [];
+    } in
+    before ≡ names.with_member (members_of m) x.now (kind_word v) k in
     (λ i. record { values = m.values; pointers = counted i; list = f i }) ∙ subst P (sym is_named) refl
 
 -- the names and slots of fields
 abbrev pub field_names : names.Members → List (Bor (List ℕ) × Member) → List FieldName
 field_names m es = map (λ f. record { name = f.0; slot = record { 0 = names.slot_of m f.1 }; elements = f.1.elements }) (entries_of member_of es)
 
-same_slot : (m : names.Members) (ks : List (Bor (List ℕ))) (vs : List Member) (es : List (Bor (List ℕ) × Member)) (i : ℕ) (dk : Bor (List ℕ)) (dv : Member) (f : FieldName) (slot : SlotNo) → ks ≡ map (λ e. e.0) es → vs ≡ map (λ e. e.1) es →
+same_slot : (m : names.Members) (ks : List (Bor (List ℕ))) (vs : List Member) (es : List (Bor (List ℕ) × Member)) (i : ℕ) (dk : Bor (List ℕ))
+    (dv : Member) (f : FieldName) (slot : SlotNo) → ks ≡ map (λ e. e.0) es → vs ≡ map (λ e. e.1) es →
     f.name ≡ (get_or ks i dk).now → f.slot ≡ slot → f.elements ≡ (get_or vs i dv).elements → slot.0 ≡ names.slot_of m (member_of (get_or vs i dv)) →
     let e = get_or es i (dk, dv) in let g : FieldName = record { name = e.0.now; slot = record { 0 = names.slot_of m (member_of e.1) }; elements = e.1.elements } in f ≡ g
 same_slot m ks vs es i dk dv f slot keys values named at many numbered =
@@ -46,8 +62,11 @@ same_slot m ks vs es i dk dv f slot keys values named at many numbered =
     λ j. record { name = n j; slot = record { 0 = s j }; elements = l j }
 
 -- one more field's name is made
-pub names_on : (m : names.Members) (ks : List (Bor (List ℕ))) (vs : List Member) (es : List (Bor (List ℕ) × Member)) (i : ℕ) (dk : Bor (List ℕ)) (dv : Member) (f : FieldName) (slot : SlotNo) (done after all : List FieldName) → ks ≡ map (λ e. e.0) es → vs ≡ map (λ e. e.1) es →
-    i < length ks → f.name ≡ (get_or ks i dk).now → f.slot ≡ slot → f.elements ≡ (get_or vs i dv).elements → slot.0 ≡ names.slot_of m (member_of (get_or vs i dv)) → after ≡ done ++ f ∷ [] → done ++ field_names m (drop i es) ≡ all → after ++ field_names m (drop (i + 1) es) ≡ all
+pub names_on : (m : names.Members) (ks : List (Bor (List ℕ))) (vs : List Member) (es : List (Bor (List ℕ) × Member)) (i : ℕ) (dk : Bor (List ℕ))
+    (dv : Member) (f : FieldName) (slot : SlotNo) (done after all : List FieldName) → ks ≡ map (λ e. e.0) es → vs ≡ map (λ e. e.1) es →
+    i < length ks → f.name ≡ (get_or ks i dk).now → f.slot ≡ slot → f.elements ≡ (get_or vs i dv).elements
+    → slot.0 ≡ names.slot_of m (member_of (get_or vs i dv)) → after ≡ done ++ f ∷ [] → done ++ field_names m (drop i es) ≡ all
+    → after ++ field_names m (drop (i + 1) es) ≡ all
 names_on m ks vs es i dk dv f slot done after all keys values below named at many numbered more before =
     let same = same_slot m ks vs es i dk dv f slot keys values named at many numbered in
     let short : length ks ≡ length es = ap length keys ∙ length-map es (λ (e : Bor (List ℕ) × Member). e.0) in

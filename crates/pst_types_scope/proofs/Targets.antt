@@ -19,12 +19,14 @@ pub targets_are : (scope : Scope) (es : List (Bor (List ℕ) × Member)) → tar
 targets_are scope [] = refl
 targets_are scope (e ∷ es) = ap (with_targets scope (kind_word e.1.kind) (elements_of e.1.elements)) (targets_are scope es)
 
-pub targets_at : (scope : Scope) (ms : List Member) (i : ℕ) (m : Member) → i < length ms → m ≡ get_or ms i m → targets_in scope (drop i ms) ≡ with_targets scope (kind_word m.kind) (elements_of m.elements) (targets_in scope (drop (i + 1) ms))
+pub targets_at : (scope : Scope) (ms : List Member) (i : ℕ) (m : Member) → i < length ms → m ≡ get_or ms i m
+    → targets_in scope (drop i ms) ≡ with_targets scope (kind_word m.kind) (elements_of m.elements) (targets_in scope (drop (i + 1) ms))
 targets_at scope ms i m below is = ap (targets_in scope) (at_index ms i m below is)
 
 pub ruleset targets = (targets_are, targets_at, append_assoc)
 
-pub targets_done : (scope : Scope) (es : List (Bor (List ℕ) × Member)) (ms : List Member) (i : ℕ) (done all : List TypeNo) → ms ≡ map (λ e. e.1) es → i ≡ length ms → done ++ targets_in scope (drop i ms) ≡ targets_in scope ms → all ≡ done →
+pub targets_done : (scope : Scope) (es : List (Bor (List ℕ) × Member)) (ms : List Member) (i : ℕ) (done all : List TypeNo) → ms ≡ map (λ e. e.1) es
+    → i ≡ length ms → done ++ targets_in scope (drop i ms) ≡ targets_in scope ms → all ≡ done →
     targets_of scope (entries_of member_of es) ≡ all
 targets_done scope es ms i done all values end so_far is =
     let past : drop i ms ≡ [] = ap (λ k. drop k ms) end ∙ drop-length ms in

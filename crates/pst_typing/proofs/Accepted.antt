@@ -1,11 +1,12 @@
 -- What is accepted is well typed.
-use Rattle.std.proofs.Common.{◌≡◌, ℕ, ◌+◌, ◌<◌, ◌≤◌, true, List, [], ◌∷◌, map, length, take, All, replicate, ◌++◌, Option, Some, None, slice_get, get_or, unwrap_or, Ok, refl, sym, ap, subst, ◌∙◌, arith, suc, zero, length-append}
+use Rattle.std.proofs.Common.{◌≡◌, ℕ, ◌+◌, ◌<◌, ◌≤◌, true, List, [], ◌∷◌, map, length, take, All, replicate, ◌++◌, Option, Some, None, slice_get, get_or}
+use Rattle.std.proofs.Common.{unwrap_or, Ok, refl, sym, ap, subst, ◌∙◌, arith, suc, zero, length-append}
 use Rattle.std.specs.Option.{option_map}
 use Rattle.std.proofs.lemmas.Option.{slice_get_within}
 use Rattle.std.proofs.lemmas.List.{length-map}
 use Rattle.pst_base.specs.declared.names.TypeNo.{TypeNo}
 use Rattle.pst_base.specs.declared.shape.TypeShape.{TypeShape}
-use Rattle.pst_base.specs.declared.shape.TheConstants.{MOST_ROOTS, MOST_LIMIT, MOST_ELEMENTS}
+use Rattle.pst_base.specs.declared.shape.TheConstants.{MOST_ROOTS, MOST_IN_DEGREE, MOST_ELEMENTS}
 use Rattle.pst_base.specs.Shape as shape
 use Rattle.pst_grammar.specs.Syntax as tree
 use Rattle.pst_grammar.specs.Depth as depth
@@ -71,21 +72,25 @@ repeated types ty (suc n) rest here go zero d below = here
 repeated types ty (suc n) rest here go (suc k) d below = let inside : k < length (replicate n ty ++ rest) = omega arith in repeated types ty n rest here go k d inside
 
 -- the elements of one field before others
-field_targets : (scope : Scope) (types : List TypeShape) (kind : tree.TypeWord) (n : ℕ) (rest : List TypeNo) → Sound scope types → is_known scope kind ≡ true → ((k : ℕ) (d : TypeNo) → k < length rest → shape.IsTarget types (get_or rest k d)) →
+field_targets : (scope : Scope) (types : List TypeShape) (kind : tree.TypeWord) (n : ℕ) (rest : List TypeNo) → Sound scope types
+    → is_known scope kind ≡ true → ((k : ℕ) (d : TypeNo) → k < length rest → shape.IsTarget types (get_or rest k d)) →
     (k : ℕ) (d : TypeNo) → k < length (with_targets scope kind n rest) → shape.IsTarget types (get_or (with_targets scope kind n rest) k d)
 field_targets scope types tree.Int n rest sound known go k d below = go k d below
 field_targets scope types (tree.Named t) n rest sound known go k d below = repeated types (number_of scope t) n rest (known_target scope types t sound known) go k d below
 
 -- the types of pointer elements are entries of the shape
-targets_fit : (scope : Scope) (types : List TypeShape) (ms : List (List ℕ × Member)) → Sound scope types → AllKnown scope ms → (k : ℕ) (d : TypeNo) → k < length (targets_of scope ms) → shape.IsTarget types (get_or (targets_of scope ms) k d)
+targets_fit : (scope : Scope) (types : List TypeShape) (ms : List (List ℕ × Member)) → Sound scope types → AllKnown scope ms → (k : ℕ) (d : TypeNo)
+    → k < length (targets_of scope ms) → shape.IsTarget types (get_or (targets_of scope ms) k d)
 targets_fit scope types [] sound known k d below = absurd (omega arith)
-targets_fit scope types (m ∷ ms) sound known k d below = field_targets scope types m.1.kind (elements_of m.1.elements) (targets_of scope ms) sound known.0 (targets_fit scope types ms sound known.1) k d below
+targets_fit scope types (m ∷ ms) sound known k d below = field_targets scope types m.1.kind (elements_of m.1.elements) (targets_of scope ms) sound
+    known.0 (targets_fit scope types ms sound known.1) k d below
 
 record FieldsFit (types : List TypeShape) (s : TypeShape) (most : ℕ) : Type 0 where
   pub count : shape.element_count s ≤ most
   pub targets : All (shape.IsTarget types) s.targets
 
-fields_fit : (scope : Scope) (types : List TypeShape) (limit most : ℕ) (m : Members) → Sound scope types → IsLaid scope m → AllKnown scope m.list → m.values + m.pointers ≤ most → FieldsFit types (shape_of scope limit m) most
+fields_fit : (scope : Scope) (types : List TypeShape) (limit most : ℕ) (m : Members) → Sound scope types → IsLaid scope m → AllKnown scope m.list
+    → m.values + m.pointers ≤ most → FieldsFit types (shape_of scope limit m) most
 fields_fit scope types limit most m sound laid known few = record {
   count = omega (arith, laid.pointers, few);
   targets = targets_fit scope types m.list sound known;
@@ -93,7 +98,7 @@ fields_fit scope types limit most m sound laid known few = record {
 
 -- what holds of each entry of the shape but the root's
 record Fine (types : List TypeShape) (s : TypeShape) : Type 0 where
-  pub limit : (1 ≤ s.limit) × (s.limit ≤ MOST_LIMIT)
+  pub limit : (1 ≤ s.limit) × (s.limit ≤ MOST_IN_DEGREE)
   pub fields : FieldsFit types s MOST_ELEMENTS
 
 fine_entry : (scope : Scope) (p : NamedProgram) (g : Together scope scope p) (ty : TypeNo) → 0 < ty.0 → ty.0 < length p.shape → Fine p.shape (shape.type_at p.shape ty)
@@ -152,7 +157,15 @@ pub record Made (scope : Scope) (text : tree.ProcedureText) (q : program.Procedu
   pub result : is_result_known scope text.result ≡ true
   pub second : through (variable scope (length parameters + 64)) parameters text.locals ≡ Ok variables
   pub judged : block (record { scope = scope; query = text.query; result = text.result; locals = variables }) text.body ≡ Ok body
-  pub is : q ≡ record { name = text.name; query = text.query; arguments = length parameters; result = option_map (kind_of scope) text.result; kinds = map (λ (v : List ℕ × Local). kind_of scope v.1.kind) variables; body = body }
+  pub is : q ≡ record {
+    name = text.name;
+    query = text.query;
+    arguments = length parameters;
+    result = option_map (kind_of scope) text.result;
+    kinds =
+        map (λ (v : List ℕ × Local). kind_of scope v.1.kind) variables;
+    body = body;
+  }
 
 pub made : (scope : Scope) (text : tree.ProcedureText) (q : program.Procedure) → procedure scope text ≡ Ok q → Made scope text q
 made scope text q e =
@@ -166,7 +179,8 @@ known_result : (scope : Scope) (result : Option tree.TypeWord) → is_result_kno
 known_result scope None e = tt
 known_result scope (Some kind) e = e
 
-result_fits : (scope : Scope) (types : List TypeShape) (result : Option tree.TypeWord) → Sound scope types → is_result_known scope result ≡ true → typed.IsResult types (option_map (kind_of scope) result)
+result_fits : (scope : Scope) (types : List TypeShape) (result : Option tree.TypeWord) → Sound scope types → is_result_known scope result ≡ true
+    → typed.IsResult types (option_map (kind_of scope) result)
 result_fits scope types None sound e = tt
 result_fits scope types (Some kind) sound e = kind_fits scope types kind sound e
 
@@ -191,13 +205,22 @@ callee scope p g x s e =
       result = ap (λ (q : program.Procedure). q.result) m.is ∙ ap (λ (t : Signature). option_map (kind_of scope) t.result) (sym sign);
     }
 
-is_procedure : (scope : Scope) (p : NamedProgram) (g : Together scope scope p) (text : tree.ProcedureText) (q : program.Procedure) → procedure scope text ≡ Ok q → depth.phrases_height text.body ≤ 63 → depth.phrases_nesting text.body ≤ 15 → typed.IsTypedProcedure (routines_in p) q
+is_procedure : (scope : Scope) (p : NamedProgram) (g : Together scope scope p) (text : tree.ProcedureText) (q : program.Procedure)
+    → procedure scope text ≡ Ok q → depth.phrases_height text.body ≤ 63 → depth.phrases_nesting text.body ≤ 15 → typed.IsTypedProcedure (routines_in p) q
 is_procedure scope p g text q e high deep =
     let m = made scope text q e in
     let one = grew scope 8 text.parameters [] m.parameters m.first in
     let two = grew scope (length m.parameters + 64) text.locals m.parameters m.variables m.second in
     let sound = is_sound scope p g in
-    let final : program.Procedure = record { name = text.name; query = text.query; arguments = length m.parameters; result = option_map (kind_of scope) text.result; kinds = kinds_in scope m.variables; body = m.body } in
+    let final : program.Procedure = record {
+      name = text.name;
+      query = text.query;
+      arguments = length m.parameters;
+      result =
+          option_map (kind_of scope) text.result;
+      kinds = kinds_in scope m.variables;
+      body = m.body;
+    } in
     let setting : Setting = record { scope = scope; query = text.query; result = text.result; locals = m.variables } in
     let stands : IsSettingOf (routines_in p) final setting = record {
       sound = sound;

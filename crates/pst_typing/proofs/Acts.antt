@@ -145,7 +145,8 @@ module _ (r : program.Routines) (p : program.Procedure) (setting : Setting) (sta
       ap (map (typed.sort_of r.shape p.kinds)) (sym (same_ok _ _ rest.1.1))
       ∙ (λ i. good_fitted r.shape setting p.kinds stands.sound stands.have line l.kind e v.0 known.0 v.1.0 i ∷ good_arguments line ps es rest.0 same_rest known.1 rest.1.0 i)
 
-  good_received : (line : ℕ) (result : Option tree.TypeWord) (to : Option (List ℕ)) (into : Option ℕ) → received setting line result to ≡ Ok into → typed.ResultFits p.kinds into (option_map (kind_of setting.scope) result)
+  good_received : (line : ℕ) (result : Option tree.TypeWord) (to : Option (List ℕ)) (into : Option ℕ) → received setting line result to ≡ Ok into
+      → typed.ResultFits p.kinds into (option_map (kind_of setting.scope) result)
   good_received line result None into is = of_ok (λ (x : Option ℕ). typed.ResultFits p.kinds x (option_map (kind_of setting.scope) result)) None into tt is
   good_received line None (Some x) into is =
       let l = found_passed (named x setting.locals) _ _ into is in
@@ -167,9 +168,12 @@ module _ (r : program.Routines) (p : program.Procedure) (setting : Setting) (sta
         arguments_fit = good_arguments line s.parameters es vs.0 (lengths (length es) (length s.parameters) n.0) c.known vs.1.0 ∙ ap (map (λ (k : Kind). Some (typed.Of k))) (sym c.parameters);
         result_fits = subst (λ (o : Option Kind). typed.ResultFits p.kinds into.0 o) (sym c.result) (good_received line s.result to into.0 into.1.0);
       } in
-      of_ok (λ (x : program.Action). typed.IsTypedAction r p x) (program.Call into.0 s.number.0 vs.0) a (subst (λ (o : Option program.Procedure). typed.IsCall r.shape p into.0 vs.0 o) (sym c.at) fits) into.1.1
+      of_ok (λ (x : program.Action). typed.IsTypedAction r p x) (program.Call into.0 s.number.0 vs.0) a
+      (subst (λ (o : Option program.Procedure). typed.IsCall r.shape p into.0 vs.0 o) (sym c.at) fits) into.1.1
 
-  good_returned : (line : ℕ) (wanted : Option tree.TypeWord) (e : Option tree.Expr) (a : program.Action) → p.result ≡ option_map (kind_of setting.scope) wanted → KnownResult setting.scope wanted → returned setting line wanted e ≡ Ok a → typed.IsTypedAction r p a
+  good_returned : (line : ℕ) (wanted : Option tree.TypeWord) (e : Option tree.Expr) (a : program.Action)
+      → p.result ≡ option_map (kind_of setting.scope) wanted → KnownResult setting.scope wanted → returned setting line wanted e ≡ Ok a
+      → typed.IsTypedAction r p a
   good_returned line None None a result known is = of_ok (λ (x : program.Action). typed.IsTypedAction r p x) (program.Return None) a result is
   good_returned line None (Some e) a result known is = cc
   good_returned line (Some kind) None a result known is = cc
@@ -191,7 +195,8 @@ module _ (r : program.Routines) (p : program.Procedure) (setting : Setting) (sta
     good_statement line (tree.If e first) a is =
         let q = first_passed (of_sort setting line Truth e) _ a is in
         let b = first_passed (block setting first) _ a q.1.1 in
-        of_ok (λ (x : program.Action). typed.IsTypedAction r p x) (program.If q.0 b.0) a (good_of_sort r.shape setting p.kinds stands.sound stands.have line Truth e q.0 q.1.0, good_block first b.0 b.1.0) b.1.1
+        of_ok (λ (x : program.Action). typed.IsTypedAction r p x) (program.If q.0 b.0) a
+        (good_of_sort r.shape setting p.kinds stands.sound stands.have line Truth e q.0 q.1.0, good_block first b.0 b.1.0) b.1.1
     good_statement line (tree.Either e first other) a is =
         let q = first_passed (of_sort setting line Truth e) _ a is in
         let b = first_passed (block setting first) _ a q.1.1 in
@@ -201,7 +206,8 @@ module _ (r : program.Routines) (p : program.Procedure) (setting : Setting) (sta
     good_statement line (tree.While e body) a is =
         let q = first_passed (of_sort setting line Truth e) _ a is in
         let b = first_passed (block setting body) _ a q.1.1 in
-        of_ok (λ (x : program.Action). typed.IsTypedAction r p x) (program.While q.0 b.0) a (good_of_sort r.shape setting p.kinds stands.sound stands.have line Truth e q.0 q.1.0, good_block body b.0 b.1.0) b.1.1
+        of_ok (λ (x : program.Action). typed.IsTypedAction r p x) (program.While q.0 b.0) a
+        (good_of_sort r.shape setting p.kinds stands.sound stands.have line Truth e q.0 q.1.0, good_block body b.0 b.1.0) b.1.1
     good_statement line (tree.Return e) a is = good_returned line setting.result e a stands.result stands.result_known is
 
     pub good_block : (b : tree.Phrases) (actions : program.Actions) → block setting b ≡ Ok actions → typed.IsTypedBlock r p actions

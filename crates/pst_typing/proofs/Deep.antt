@@ -8,7 +8,9 @@ use Rattle.pst_grammar.specs.Depth.{height, greatest, phrase_height, phrases_hei
 use Rattle.pst_program.specs.Syntax as program
 use Rattle.pst_program.specs.Typed as typed
 use Rattle.pst_typing.specs.Names.{Setting, Signature, Variable, IsLocal, IsRoot, named, number_of, variable}
-use Rattle.pst_typing.specs.Expressions.{Sort, Int, Truth, Pointer, same_sort, sort_of, Judged, Bare, Known, in_parens, null_of, operand, Object, object, Array, plain_field, array_field, named_value, loaded, at_index, element_loaded, operation, null_beside, can_equal, equality, combined, judged, fits, fitted, of_sort}
+use Rattle.pst_typing.specs.Expressions.{Sort, Int, Truth, Pointer, same_sort, sort_of, Judged, Bare, Known, in_parens, null_of, operand, Object, object, Array}
+use Rattle.pst_typing.specs.Expressions.{plain_field, array_field, named_value, loaded, at_index, element_loaded, operation, null_beside, can_equal, equality}
+use Rattle.pst_typing.specs.Expressions.{combined, judged, fits, fitted, of_sort}
 use Rattle.pst_typing.specs.Statements.{assigned, stored, element_stored, written, made, arguments, received, called, returned, statement, block}
 use Rattle.pst_typing.proofs.Passed.{passed, first_passed, found_passed, of_ok}
 
@@ -62,7 +64,8 @@ module _ (setting : Setting) where
   beside_depth line e Truth v is = cc
   beside_depth line e (Pointer t) v is = of_ok (λ (x : program.Expr). typed.depth x ≤ height e + 1) (null_of (number_of setting.scope t) e) v (null_depth (number_of setting.scope t) e) is
 
-  equality_depth : (line : ℕ) (op : Op) (a b : tree.Expr) (l r j : Judged) → Within (height a) l → Within (height b) r → equality setting line op a b l r ≡ Ok j → Within (suc (max (height a) (height b))) j
+  equality_depth : (line : ℕ) (op : Op) (a b : tree.Expr) (l r j : Judged) → Within (height a) l → Within (height b) r
+      → equality setting line op a b l r ≡ Ok j → Within (suc (max (height a) (height b))) j
   equality_depth line op a b Bare Bare j wl wr e = cc
   equality_depth line op a b Bare (Known r sort) j wl wr e =
       let p = first_passed (null_beside setting line a sort) _ j e in
@@ -76,7 +79,8 @@ module _ (setting : Setting) where
       let p = passed (can_equal sort other) _ _ j e in
       of_ok (λ (x : Judged). Within (suc (max (height a) (height b))) x) (Known (program.Binary op l r) Truth) j (omega arith) p.1
 
-  combined_depth : (line : ℕ) (op : Op) (a b : tree.Expr) (l r j : Judged) → Within (height a) l → Within (height b) r → combined setting line op a b l r ≡ Ok j → Within (suc (max (height a) (height b))) j
+  combined_depth : (line : ℕ) (op : Op) (a b : tree.Expr) (l r j : Judged) → Within (height a) l → Within (height b) r
+      → combined setting line op a b l r ≡ Ok j → Within (suc (max (height a) (height b))) j
   combined_depth line Add a b l r j wl wr e = operation_depth line (height a) (height b) Add Int Int l r j wl wr e
   combined_depth line Sub a b l r j wl wr e = operation_depth line (height a) (height b) Sub Int Int l r j wl wr e
   combined_depth line Mul a b l r j wl wr e = operation_depth line (height a) (height b) Mul Int Int l r j wl wr e
@@ -177,7 +181,8 @@ module _ (setting : Setting) where
       let c = fitted_depth line s.0.kind e q.0 q.1.0 in
       of_ok (λ (x : program.Action). Shallow (max (suc (height o)) (height e)) 0 x) (program.Store b.0.pointer s.0.slot q.0) a (record { depth = omega arith; nesting = omega arith }) q.1.1
 
-  element_stored_depth : (line : ℕ) (o : tree.Expr) (f : List ℕ) (i e : tree.Expr) (a : program.Action) → element_stored setting line o f i e ≡ Ok a → Shallow (max (suc (max (height o) (height i))) (height e)) 0 a
+  element_stored_depth : (line : ℕ) (o : tree.Expr) (f : List ℕ) (i e : tree.Expr) (a : program.Action) → element_stored setting line o f i e ≡ Ok a
+      → Shallow (max (suc (max (height o) (height i))) (height e)) 0 a
   element_stored_depth line o f i e a is =
       let j = first_passed (judged setting line o) _ a is in
       let b = first_passed (object line j.0) _ a j.1.1 in
@@ -188,7 +193,8 @@ module _ (setting : Setting) where
       let d = object_depth line (height o) j.0 b.0 (judged_depth line o j.0 j.1.0) b.1.0 in
       let h = of_sort_depth line Int i k.0 k.1.0 in
       let c = fitted_depth line s.0.kind e q.0 q.1.0 in
-      of_ok (λ (x : program.Action). Shallow (max (suc (max (height o) (height i))) (height e)) 0 x) (program.StoreIndexed b.0.pointer s.0.slot s.0.elements k.0 q.0) a (record { depth = omega arith; nesting = omega arith }) q.1.1
+      of_ok (λ (x : program.Action). Shallow (max (suc (max (height o) (height i))) (height e)) 0 x)
+      (program.StoreIndexed b.0.pointer s.0.slot s.0.elements k.0 q.0) a (record { depth = omega arith; nesting = omega arith }) q.1.1
 
   higher : (m n k : ℕ) (a : program.Action) → m ≤ n → Shallow m k a → Shallow n k a
   higher m n k a up s = let d = s.depth in record { depth = omega arith; nesting = s.nesting }
@@ -222,7 +228,8 @@ module _ (setting : Setting) where
       let n = passed (length es == length s.parameters) _ _ a q.1 in
       let vs = first_passed (arguments setting line s.parameters es) _ a n.1 in
       let into = first_passed (received setting line s.result to) _ a vs.1.1 in
-      of_ok (λ (x : program.Action). Shallow (greatest height es) 0 x) (program.Call into.0 s.number.0 vs.0) a (record { depth = arguments_depth line s.parameters es vs.0 vs.1.0; nesting = omega arith }) into.1.1
+      of_ok (λ (x : program.Action). Shallow (greatest height es) 0 x) (program.Call into.0 s.number.0 vs.0) a
+      (record { depth = arguments_depth line s.parameters es vs.0 vs.1.0; nesting = omega arith }) into.1.1
 
   made_depth : (line : ℕ) (x ty : List ℕ) (a : program.Action) → made setting line x ty ≡ Ok a → Shallow 0 0 a
   made_depth line x ty a is =
@@ -260,7 +267,8 @@ module _ (setting : Setting) where
         let d = of_sort_depth line Truth e q.0 q.1.0 in
         let m = block_depth first b.0 b.1.0 in
         let md = m.depth in let mn = m.nesting in
-        of_ok (λ (x : program.Action). Shallow (max (height e) (phrases_height first)) (suc (phrases_nesting first)) x) (program.If q.0 b.0) a (record { depth = omega arith; nesting = omega arith }) b.1.1
+        of_ok (λ (x : program.Action). Shallow (max (height e) (phrases_height first)) (suc (phrases_nesting first)) x) (program.If q.0 b.0) a
+        (record { depth = omega arith; nesting = omega arith }) b.1.1
     statement_depth line (tree.Either e first other) a is =
         let q = first_passed (of_sort setting line Truth e) _ a is in
         let b = first_passed (block setting first) _ a q.1.1 in
@@ -269,7 +277,8 @@ module _ (setting : Setting) where
         let m = block_depth first b.0 b.1.0 in
         let n = block_depth other c.0 c.1.0 in
         let md = m.depth in let mn = m.nesting in let nd = n.depth in let nn = n.nesting in
-        of_ok (λ (x : program.Action). Shallow (max (height e) (max (phrases_height first) (phrases_height other))) (suc (max (phrases_nesting first) (phrases_nesting other))) x) (program.Either q.0 b.0 c.0) a
+        of_ok (λ (x : program.Action). Shallow (max (height e) (max (phrases_height first) (phrases_height other)))
+        (suc (max (phrases_nesting first) (phrases_nesting other))) x) (program.Either q.0 b.0 c.0) a
         (record { depth = omega arith; nesting = omega arith }) c.1.1
     statement_depth line (tree.While e body) a is =
         let q = first_passed (of_sort setting line Truth e) _ a is in
@@ -277,7 +286,8 @@ module _ (setting : Setting) where
         let d = of_sort_depth line Truth e q.0 q.1.0 in
         let m = block_depth body b.0 b.1.0 in
         let md = m.depth in let mn = m.nesting in
-        of_ok (λ (x : program.Action). Shallow (max (height e) (phrases_height body)) (suc (phrases_nesting body)) x) (program.While q.0 b.0) a (record { depth = omega arith; nesting = omega arith }) b.1.1
+        of_ok (λ (x : program.Action). Shallow (max (height e) (phrases_height body)) (suc (phrases_nesting body)) x) (program.While q.0 b.0) a
+        (record { depth = omega arith; nesting = omega arith }) b.1.1
     statement_depth line (tree.Return e) a is = returned_depth line setting.result e a is
 
     pub block_depth : (b : tree.Phrases) (actions : program.Actions) → block setting b ≡ Ok actions → ShallowBlock (phrases_height b) (phrases_nesting b) actions

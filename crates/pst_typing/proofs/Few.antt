@@ -14,7 +14,8 @@ below : (a b : ℕ) → nat_lt a b ≡ true → a < b
 below a b e = grind (arith, nat_tests)
 
 -- no more than there may be
-pub through_few : (scope : Scope) (most : ℕ) (list : List LocalText) (before after : List (List ℕ × Local)) → length before ≤ most → through (variable scope most) before list ≡ Ok after → length after ≤ most
+pub through_few : (scope : Scope) (most : ℕ) (list : List LocalText) (before after : List (List ℕ × Local)) → length before ≤ most
+    → through (variable scope most) before list ≡ Ok after → length after ≤ most
 through_few scope most [] before after few e = let same : before ≡ after = cc in omega (arith, ap length same)
 through_few scope most (l ∷ ls) before after few e =
     let s = first_passed (variable scope most before l) (λ now. through (variable scope most) now ls) after e in

@@ -1,5 +1,7 @@
 -- Where the fields of a record type lie.
-use Rattle.std.proofs.Common.{◌≡◌, ◌⊎◌, inl, inr, ⊎_elim, ℕ, ◌+◌, ◌-◌, ◌<◌, ◌≤◌, Bool, true, false, ◌&&◌, cond, if◌then◌else◌, nat_lt, nat_le, nat_eq, List, [], ◌∷◌, ◌++◌, length, replicate, Option, Some, None, slice_get, refl, sym, ap, subst, ◌∙◌, suc, zero, arith, bytes_eq, length-append, append_assoc, eq-eqb}
+use Rattle.std.proofs.Common.{◌≡◌, ◌⊎◌, inl, inr, ⊎_elim, ℕ, ◌+◌, ◌-◌, ◌<◌, ◌≤◌, Bool, true, false, ◌&&◌, cond, if◌then◌else◌, nat_lt, nat_le, nat_eq, List, []}
+use Rattle.std.proofs.Common.{◌∷◌, ◌++◌, length, replicate, Option, Some, None, slice_get, refl, sym, ap, subst, ◌∙◌, suc, zero, arith, bytes_eq, length-append}
+use Rattle.std.proofs.Common.{append_assoc, eq-eqb}
 use Rattle.std.specs.Option.{option_map, option_and_then, option_eq}
 use Rattle.std.proofs.Math.Nat.{min-eq_left}
 use Rattle.std.proofs.lemmas.Bool.{lt-ltb, ltb-true}
@@ -119,22 +121,26 @@ laid_none scope = record { pointers = refl; placed = λ f member e. cc }
 pub small : (n : ℕ) → n ≤ 65535 → bounded n ≡ n
 small n few = min-eq_left few
 
-lies_more : (scope : Scope) (m n : Members) (more : List TypeNo) (kind : TypeWord) (rank elements : ℕ) → m.values ≤ n.values → targets_of scope n.list ≡ targets_of scope m.list ++ more → PlacedBy scope m kind rank elements → PlacedBy scope n kind rank elements
+lies_more : (scope : Scope) (m n : Members) (more : List TypeNo) (kind : TypeWord) (rank elements : ℕ) → m.values ≤ n.values
+    → targets_of scope n.list ≡ targets_of scope m.list ++ more → PlacedBy scope m kind rank elements → PlacedBy scope n kind rank elements
 lies_more scope m n more Int rank elements up same p = omega arith
 lies_more scope m n more (Named t) rank elements up same p = λ k below. ap (λ l. slice_get l (rank + k)) same ∙ get_front (targets_of scope m.list) more (rank + k) (number_of scope t) (p k below)
 
-placed_more : (scope : Scope) (m n : Members) (more : List TypeNo) (member : Member) → m.values ≤ n.values → targets_of scope n.list ≡ targets_of scope m.list ++ more → IsPlaced scope m member → IsPlaced scope n member
+placed_more : (scope : Scope) (m n : Members) (more : List TypeNo) (member : Member) → m.values ≤ n.values
+    → targets_of scope n.list ≡ targets_of scope m.list ++ more → IsPlaced scope m member → IsPlaced scope n member
 placed_more scope m n more member up same p = record { fits = p.fits; lies = lies_more scope m n more member.kind member.rank (elements_of member.elements) up same p.lies }
 
 -- with one more field all lie where they should, if the new one does
-all_placed : (scope : Scope) (m n : Members) (more : List TypeNo) (x : List ℕ) (new : Member) → n.list ≡ m.list ++ (x, new) ∷ [] → m.values ≤ n.values → targets_of scope n.list ≡ targets_of scope m.list ++ more → IsLaid scope m → IsPlaced scope n new →
+all_placed : (scope : Scope) (m n : Members) (more : List TypeNo) (x : List ℕ) (new : Member) → n.list ≡ m.list ++ (x, new) ∷ [] → m.values ≤ n.values
+    → targets_of scope n.list ≡ targets_of scope m.list ++ more → IsLaid scope m → IsPlaced scope n new →
     (f : List ℕ) (member : Member) → named f n.list ≡ Some member → IsPlaced scope n member
 all_placed scope m n more x new is up same laid here f member e =
     ⊎_elim (λ (old : named f m.list ≡ Some member). placed_more scope m n more member up same (laid.placed f member old))
     (λ (last : member ≡ new). subst (λ (k : Member). IsPlaced scope n k) (sym last) here)
     (named_last f x m.list new member (sym (ap (named f) is) ∙ e))
 
-pub laid_more : (scope : Scope) (m : Members) (x : List ℕ) (kind : TypeWord) (elements : Option ℕ) → IsLaid scope m → LengthFits elements → m.values + m.pointers + elements_of elements ≤ MOST_ELEMENTS → IsLaid scope (with_member m x kind elements)
+pub laid_more : (scope : Scope) (m : Members) (x : List ℕ) (kind : TypeWord) (elements : Option ℕ) → IsLaid scope m → LengthFits elements
+    → m.values + m.pointers + elements_of elements ≤ MOST_ELEMENTS → IsLaid scope (with_member m x kind elements)
 laid_more scope m x Int elements laid fits few =
     let n : Members = with_member m x Int elements in
     let new : Member = record { rank = m.values; kind = Int; elements = elements } in
@@ -206,7 +212,8 @@ all_held t kind slot (suc n) has =
     let below : n < suc n = omega arith in
     ap (λ b. b && option_eq typed.same_kind (shape.field_kind t (slot + n)) (Some kind)) rest ∙ ap (λ o. option_eq typed.same_kind o (Some kind)) (has n below) ∙ same_kind_refl kind
 
-array_is : (t : TypeShape) (kind : Kind) (slot n : ℕ) → typed.is_length n ≡ true → shape.field_kind t slot ≡ Some kind → ((k : ℕ) → k < n → shape.field_kind t (slot + k) ≡ Some kind) → typed.array_kind t slot n ≡ Some kind
+array_is : (t : TypeShape) (kind : Kind) (slot n : ℕ) → typed.is_length n ≡ true → shape.field_kind t slot ≡ Some kind
+    → ((k : ℕ) → k < n → shape.field_kind t (slot + k) ≡ Some kind) → typed.array_kind t slot n ≡ Some kind
 array_is t kind slot n long first has =
     ap (option_and_then (λ k. if typed.is_length n && typed.all_hold t k slot n then Some k else None)) first
     ∙ ap (λ b. if b && typed.all_hold t kind slot n then Some kind else None) long
@@ -223,19 +230,22 @@ elements_at : (scope : Scope) (m : Members) (limit : ℕ) (member : Member) → 
     shape.field_kind (shape_of scope limit m) (slot_of m member + k) ≡ Some (kind_of scope member.kind)
 elements_at scope m limit member laid few p k below = element_kind scope m limit member.kind member.rank (elements_of member.elements) k laid few p.lies below
 
-first_at : (scope : Scope) (m : Members) (limit : ℕ) (member : Member) → IsLaid scope m → HasFew m → IsPlaced scope m member → shape.field_kind (shape_of scope limit m) (slot_of m member) ≡ Some (kind_of scope member.kind)
+first_at : (scope : Scope) (m : Members) (limit : ℕ) (member : Member) → IsLaid scope m → HasFew m → IsPlaced scope m member
+    → shape.field_kind (shape_of scope limit m) (slot_of m member) ≡ Some (kind_of scope member.kind)
 first_at scope m limit member laid few p =
     let same : slot_of m member ≡ slot_of m member + 0 = omega arith in
     ap (shape.field_kind (shape_of scope limit m)) same ∙ elements_at scope m limit member laid few p 0 (some_elements member.elements p.fits)
 
 -- a field that is found has its kind at its slot
-pub slot_fits : (scope : Scope) (m : Members) (limit : ℕ) (f : List ℕ) (s : Slot) → IsLaid scope m → HasFew m → slot_in m f ≡ Some s → shape.field_kind (shape_of scope limit m) s.slot ≡ Some (kind_of scope s.kind)
+pub slot_fits : (scope : Scope) (m : Members) (limit : ℕ) (f : List ℕ) (s : Slot) → IsLaid scope m → HasFew m → slot_in m f ≡ Some s
+    → shape.field_kind (shape_of scope limit m) s.slot ≡ Some (kind_of scope s.kind)
 slot_fits scope m limit f s laid few e =
     let p = found_slot (slot_seen m) (named f m.list) s e in
     let k = first_at scope m limit p.0 laid few (laid.placed f p.0 p.1.0) in
     subst (λ (s : Slot). shape.field_kind (shape_of scope limit m) s.slot ≡ Some (kind_of scope s.kind)) (sym p.1.1) k
 
-array_at : (scope : Scope) (m : Members) (limit : ℕ) (rank : ℕ) (kind : TypeWord) (elements : Option ℕ) (n : ℕ) → elements ≡ Some n → IsLaid scope m → HasFew m → (let member : Member = record { rank = rank; kind = kind; elements = elements } in IsPlaced scope m member) →
+array_at : (scope : Scope) (m : Members) (limit : ℕ) (rank : ℕ) (kind : TypeWord) (elements : Option ℕ) (n : ℕ) → elements ≡ Some n → IsLaid scope m
+    → HasFew m → (let member : Member = record { rank = rank; kind = kind; elements = elements } in IsPlaced scope m member) →
     typed.array_kind (shape_of scope limit m) (slot_among m kind rank) n ≡ Some (kind_of scope kind)
 array_at scope m limit rank kind None n e laid few p = cc
 array_at scope m limit rank kind (Some k) n e laid few p =
@@ -245,7 +255,8 @@ array_at scope m limit rank kind (Some k) n e laid few p =
     (array_is (shape_of scope limit m) (kind_of scope kind) (slot_among m kind rank) k p.fits (first_at scope m limit member laid few p) (elements_at scope m limit member laid few p))
 
 -- an array that is found has its kind at each slot
-pub array_fits : (scope : Scope) (m : Members) (limit : ℕ) (f : List ℕ) (s : Slot) (n : ℕ) → IsLaid scope m → HasFew m → slot_in m f ≡ Some s → s.elements ≡ Some n → typed.array_kind (shape_of scope limit m) s.slot n ≡ Some (kind_of scope s.kind)
+pub array_fits : (scope : Scope) (m : Members) (limit : ℕ) (f : List ℕ) (s : Slot) (n : ℕ) → IsLaid scope m → HasFew m → slot_in m f ≡ Some s
+    → s.elements ≡ Some n → typed.array_kind (shape_of scope limit m) s.slot n ≡ Some (kind_of scope s.kind)
 array_fits scope m limit f s n laid few e many =
     let p = found_slot (slot_seen m) (named f m.list) s e in
     let here : p.0.elements ≡ Some n = sym (ap (λ (s : Slot). s.elements) p.1.1) ∙ many in

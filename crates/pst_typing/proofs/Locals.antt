@@ -36,9 +36,17 @@ kinds_more scope (v ∷ vs) ws = ap (λ l. kind_of scope v.1.kind ∷ l) (kinds_
 
 good_one_more : (scope : Scope) (vs : List (List ℕ × Local)) (x : List ℕ) (l : Local) → GoodLocals scope vs → l.number ≡ length vs → is_known scope l.kind ≡ true → GoodLocals scope (vs ++ (x, l) ∷ [])
 good_one_more scope vs x l good numbered known = λ y m e.
-    ⊎_elim (λ (old : named y vs ≡ Some m). let g = good y m old in (ap (λ k. slice_get k m.number) (kinds_more scope vs ((x, l) ∷ [])) ∙ get_front (kinds_in scope vs) (kind_of scope l.kind ∷ []) m.number (kind_of scope m.kind) g.0, g.1))
-    (λ (new : m ≡ l). subst (λ (k : Local). (slice_get (kinds_in scope (vs ++ (x, l) ∷ [])) k.number ≡ Some (kind_of scope k.kind)) × (is_known scope k.kind ≡ true)) (sym new)
-    (ap (λ k. slice_get k l.number) (kinds_more scope vs ((x, l) ∷ [])) ∙ get_last (kinds_in scope vs) l.number (kind_of scope l.kind) (numbered ∙ sym (length-map vs (λ (v : List ℕ × Local). kind_of scope v.1.kind))), known))
+    ⊎_elim (λ (old : named y vs ≡ Some m). let g = good y m old in (
+      ap (λ k. slice_get k m.number) (kinds_more scope vs ((x, l) ∷ []))
+          ∙ get_front (kinds_in scope vs) (kind_of scope l.kind ∷ []) m.number (kind_of scope m.kind) g.0,
+      g.1,
+    ))
+    (λ (new : m ≡ l). subst (λ (k : Local). (slice_get (kinds_in scope (vs ++ (x, l) ∷ [])) k.number ≡ Some (kind_of scope k.kind)) × (is_known scope k.kind ≡ true)) (sym new) (
+      ap (λ k. slice_get k l.number) (kinds_more scope vs ((x, l) ∷ []))
+          ∙ get_last (kinds_in scope vs) l.number (kind_of scope l.kind)
+          (numbered ∙ sym (length-map vs (λ (v : List ℕ × Local). kind_of scope v.1.kind))),
+      known,
+    ))
     (named_last y x vs l m e)
 
 -- what judging parameters or locals adds
@@ -83,7 +91,8 @@ pub kind_fits : (scope : Scope) (types : List TypeShape) (kind : TypeWord) → S
 kind_fits scope types Int sound known = tt
 kind_fits scope types (Named t) sound known = known_target scope types t sound known
 
-pub kinds_fit : (scope : Scope) (types : List TypeShape) (vs : List (List ℕ × Local)) → Sound scope types → KnownLocals scope vs → (k : ℕ) (d : Kind) → k < length (kinds_in scope vs) → typed.IsKind types (get_or (kinds_in scope vs) k d)
+pub kinds_fit : (scope : Scope) (types : List TypeShape) (vs : List (List ℕ × Local)) → Sound scope types → KnownLocals scope vs → (k : ℕ) (d : Kind)
+    → k < length (kinds_in scope vs) → typed.IsKind types (get_or (kinds_in scope vs) k d)
 kinds_fit scope types [] sound known k d below = absurd (omega arith)
 kinds_fit scope types (v ∷ vs) sound known zero d below = kind_fits scope types v.1.kind sound known.0
 kinds_fit scope types (v ∷ vs) sound known (suc k) d below = let inside : k < length (kinds_in scope vs) = omega arith in kinds_fit scope types vs sound known.1 k d inside

@@ -10,11 +10,14 @@ use Rattle.pst_program.specs.declared.program.FieldName.{FieldName}
 use Rattle.pst_typing.specs.declared.fault.TypeFault.{TypeFault}
 use Rattle.pst_typing.specs.declared.fault.TypeFault.TheVariants as fault
 use Rattle.pst_typing.specs.Answers.{check, through}
-use Rattle.pst_typing.specs.Names.{Member, Members, no_members, with_member, members_from, length_in, slot_of, Setting, Signature, Scope, nothing_declared, Variable, IsLocal, IsRoot, named, is_free, is_known, number_of, variable, field_name, field_kind, field_elements}
-use Rattle.pst_typing.specs.Expressions.{Sort, Int, Truth, Pointer, same_sort, sort_of, Judged, Bare, Known, in_parens, null_of, operand, Object, object, plain_field, named_value, loaded, operation, null_beside, can_equal, equality, combined, judged, fits, fitted, of_sort}
+use Rattle.pst_typing.specs.Names.{Member, Members, no_members, with_member, members_from, length_in, slot_of, Setting, Signature, Scope, nothing_declared}
+use Rattle.pst_typing.specs.Names.{Variable, IsLocal, IsRoot, named, is_free, is_known, number_of, variable, field_name, field_kind, field_elements}
+use Rattle.pst_typing.specs.Expressions.{Sort, Int, Truth, Pointer, same_sort, sort_of, Judged, Bare, Known, in_parens, null_of, operand, Object, object}
+use Rattle.pst_typing.specs.Expressions.{plain_field, named_value, loaded, operation, null_beside, can_equal, equality, combined, judged, fits, fitted, of_sort}
 use Rattle.pst_typing.specs.Statements.{assigned, stored, written, made, arguments, received, called, returned, statement, block}
 use Rattle.pst_typing.specs.Declarations.{noted, limit_of, field, names_of, shape_of, procedure, NamedProgram, declared, root_alone}
-use Rattle.pst_typing.specs.Plain.{Each, WhereThere, HasNoIndex, PhraseHasNoIndex, PhrasesHaveNoIndex, IsPlainItem, ReadsNoElement, ActionHasNoElement, ActionsHaveNoElement, HasNoArray, IsPlain, PlainStaysPlain}
+use Rattle.pst_typing.specs.Plain.{Each, WhereThere, HasNoIndex, PhraseHasNoIndex, PhrasesHaveNoIndex, IsPlainItem, ReadsNoElement, ActionHasNoElement}
+use Rattle.pst_typing.specs.Plain.{ActionsHaveNoElement, HasNoArray, IsPlain, PlainStaysPlain}
 use Rattle.pst_typing.proofs.Passed.{passed, first_passed, found_passed, same_ok, of_ok}
 use Rattle.pst_typing.proofs.Whole.{field_passed}
 use Rattle.pst_typing.proofs.Accepted.{made as procedure_made}
@@ -255,7 +258,8 @@ plain_fields scope (f ∷ fs) m n all none e =
     let now = subst (λ (k : Members). PlainMembers k) made (plain_member m (field_name f) (field_kind f) (length_in (field_elements f)) all (ap length_in none.0)) in
     plain_fields scope fs s.0 n now none.1 s.1.1
 
-plain_names : (m : Members) (l : List (List ℕ × Member)) → Each (λ f. f.1.elements ≡ None) l → Each (λ (f : FieldName). f.elements ≡ None) (map (λ f. record { name = f.0; slot = record { 0 = slot_of m f.1 }; elements = f.1.elements }) l)
+plain_names : (m : Members) (l : List (List ℕ × Member)) → Each (λ f. f.1.elements ≡ None) l
+    → Each (λ (f : FieldName). f.elements ≡ None) (map (λ f. record { name = f.0; slot = record { 0 = slot_of m f.1 }; elements = f.1.elements }) l)
 plain_names m [] all = tt
 plain_names m (f ∷ l) all = (all.0, plain_names m l all.1)
 
@@ -273,7 +277,10 @@ plain_noted s t (tree.Root line x kind) all e =
     let q = passed (is_free s x) (fault.Duplicate line) one t p.1 in
     of_ok (λ (u : Scope). PlainMembers u.roots) new t (plain_member s.roots x kind None all refl) q.1
 plain_noted s t (tree.Procedure text) all e =
-    let new : Scope = record s { procedures = s.procedures ++ (text.name, record { number = record { 0 = length s.procedures }; query = text.query; parameters = text.parameters; result = text.result }) ∷ [] } in
+    let new : Scope = record s {
+      procedures = s.procedures ++
+          (text.name, record { number = record { 0 = length s.procedures }; query = text.query; parameters = text.parameters; result = text.result }) ∷ [];
+    } in
     let one : Result Scope TypeFault = Ok new in
     let p = passed (nat_lt (length s.procedures) 256) (fault.TooMany text.line) (check (is_free s text.name) (fault.Duplicate text.line) one) t e in
     let q = passed (is_free s text.name) (fault.Duplicate text.line) one t p.1 in
@@ -307,7 +314,11 @@ plain_declared scope b c (tree.Root line x kind) none g e =
 plain_declared scope b c (tree.Procedure text) none g e =
     let m = first_passed (procedure scope text) _ c e in
     let made : NamedProgram = record b { procedures = b.procedures ++ m.0 ∷ [] } in
-    let whole : IsPlain made = record { names = g.names; procedures = each_more (λ (q : program.Procedure). ActionsHaveNoElement q.body) b.procedures m.0 g.procedures (plain_procedure scope text m.0 none m.1.0) } in
+    let whole : IsPlain made = record {
+      names = g.names;
+      procedures =
+          each_more (λ (q : program.Procedure). ActionsHaveNoElement q.body) b.procedures m.0 g.procedures (plain_procedure scope text m.0 none m.1.0);
+    } in
     of_ok (λ (k : NamedProgram). IsPlain k) made c whole m.1.1
 
 plain_all : (scope : Scope) (items : List tree.Item) (b c : NamedProgram) → Each IsPlainItem items → IsPlain b → through (declared scope) b items ≡ Ok c → IsPlain c

@@ -17,7 +17,9 @@ use Rattle.pst_program.specs.Typed as typed
 use Rattle.pst_program.specs.Meaning.{is_target}
 use Rattle.pst_typing.specs.Names.{Scope, Slot, Local, Setting, RecordType, Variable, IsLocal, IsRoot, named, is_named, slot_in, number_of, kind_of, is_known, field_named, local_or, variable}
 use Rattle.pst_typing.specs.Declarations.{shape_of}
-use Rattle.pst_typing.specs.Expressions.{Sort, Int, Truth, Pointer, same_sort, sort_of, Judged, Bare, Known, in_parens, null_of, operand, Object, object, Array, plain_field, array_field, named_value, loaded, field_loaded, at_index, element_loaded, operation, null_beside, can_equal, equality, combined, judged, fits, fitted, of_sort}
+use Rattle.pst_typing.specs.Expressions.{Sort, Int, Truth, Pointer, same_sort, sort_of, Judged, Bare, Known, in_parens, null_of, operand, Object, object, Array}
+use Rattle.pst_typing.specs.Expressions.{plain_field, array_field, named_value, loaded, field_loaded, at_index, element_loaded, operation, null_beside}
+use Rattle.pst_typing.specs.Expressions.{can_equal, equality, combined, judged, fits, fitted, of_sort}
 use Rattle.pst_typing.proofs.Passed.{passed, first_passed, found_passed, same_ok, of_ok, some_of}
 use Rattle.pst_typing.proofs.Laid.{IsLaid, HasFew, AllKnown, same_kind_refl, slot_fits, array_fits, slot_known}
 
@@ -166,20 +168,26 @@ module _ (types : List TypeShape) (setting : Setting) (ks : List Kind) where
         by_parts None (Some s) is_l is_r e =
             let same : IsRoot s ≡ v = cc in
             let few : HasFew setting.scope.roots = omega (arith, sound.root_few) in
-            let at : typed.root_kind types s.slot ≡ Some (kind_of setting.scope s.kind) = ap (λ t. shape.field_kind t s.slot) sound.root_is ∙ slot_fits setting.scope setting.scope.roots 1 x s sound.root_laid few is_r in
+            let at : typed.root_kind types s.slot ≡ Some (kind_of setting.scope s.kind) = ap (λ t. shape.field_kind t s.slot) sound.root_is
+            ∙ slot_fits setting.scope setting.scope.roots 1 x s sound.root_laid few is_r in
             subst (λ (w : Variable). GoodVariable w) same (at, slot_known setting.scope setting.scope.roots x s sound.root_known is_r)
         by_parts None None is_l is_r e = cc
 
     -- a field of a declared type
-    good_field : (t f : List ℕ) (s : Slot) → field_named setting.scope t f ≡ Some s → (shape.field_kind (shape.type_at types (number_of setting.scope t)) s.slot ≡ Some (kind_of setting.scope s.kind)) × (is_known setting.scope s.kind ≡ true)
+    good_field : (t f : List ℕ) (s : Slot) → field_named setting.scope t f ≡ Some s
+        → (shape.field_kind (shape.type_at types (number_of setting.scope t)) s.slot ≡ Some (kind_of setting.scope s.kind))
+        × (is_known setting.scope s.kind ≡ true)
     good_field t f s e =
         let p = bound_some (λ (r : RecordType). slot_in r.members f) (named t setting.scope.types) s e in
         let h = sound.types_have t p.0 p.1.0 in (
-          ap (λ n. shape.field_kind (shape.type_at types n) s.slot) (number_is setting.scope t p.0 p.1.0) ∙ ap (λ u. shape.field_kind u s.slot) h.is ∙ slot_fits setting.scope p.0.members h.limit f s h.laid h.few p.1.1,
+          ap (λ n. shape.field_kind (shape.type_at types n) s.slot) (number_is setting.scope t p.0 p.1.0) ∙ ap (λ u. shape.field_kind u s.slot) h.is
+              ∙ slot_fits setting.scope p.0.members h.limit f s h.laid h.few p.1.1,
           slot_known setting.scope p.0.members f s h.known p.1.1,
         )
 
-    pub good_plain : (line : ℕ) (t f : List ℕ) (s : Slot) → plain_field setting line t f ≡ Ok s → (shape.field_kind (shape.type_at types (number_of setting.scope t)) s.slot ≡ Some (kind_of setting.scope s.kind)) × (is_known setting.scope s.kind ≡ true)
+    pub good_plain : (line : ℕ) (t f : List ℕ) (s : Slot) → plain_field setting line t f ≡ Ok s
+        → (shape.field_kind (shape.type_at types (number_of setting.scope t)) s.slot ≡ Some (kind_of setting.scope s.kind))
+        × (is_known setting.scope s.kind ≡ true)
     good_plain line t f s e =
         let p = found_passed (field_named setting.scope t f) _ _ s e in
         let q = passed (not (is_some p.0.elements)) _ _ s p.1.1 in
@@ -195,7 +203,8 @@ module _ (types : List TypeShape) (setting : Setting) (ks : List Kind) where
         let p = bound_some (λ (r : RecordType). slot_in r.members f) (named t setting.scope.types) s e in
         let h = sound.types_have t p.0 p.1.0 in
         record {
-          is = ap (λ i. typed.array_kind (shape.type_at types i) s.slot n) (number_is setting.scope t p.0 p.1.0) ∙ ap (λ u. typed.array_kind u s.slot n) h.is ∙ array_fits setting.scope p.0.members h.limit f s n h.laid h.few p.1.1 many;
+          is = ap (λ i. typed.array_kind (shape.type_at types i) s.slot n) (number_is setting.scope t p.0 p.1.0)
+              ∙ ap (λ u. typed.array_kind u s.slot n) h.is ∙ array_fits setting.scope p.0.members h.limit f s n h.laid h.few p.1.1 many;
           known = slot_known setting.scope p.0.members f s h.known p.1.1;
         }
 
@@ -212,7 +221,8 @@ module _ (types : List TypeShape) (setting : Setting) (ks : List Kind) where
         let q = good_plain line o.type f s.0 s.1.0 in
         of_ok (λ (x : Judged). GoodJudged x) (loaded setting o s.0) j (record {
           is = ap (λ x. typed.given (option_eq typed.same_kind (typed.field_of types x s.0.slot) (Some k)) (typed.Of k)) g.is
-              ∙ ap (λ x. typed.given (option_eq typed.same_kind x (Some k)) (typed.Of k)) q.0 ∙ ap (λ b. typed.given b (typed.Of k)) (same_kind_refl k) ∙ ap Some (sym (sort_for_kind setting.scope s.0.kind));
+              ∙ ap (λ x. typed.given (option_eq typed.same_kind x (Some k)) (typed.Of k)) q.0
+              ∙ ap (λ b. typed.given b (typed.Of k)) (same_kind_refl k) ∙ ap Some (sym (sort_for_kind setting.scope s.0.kind));
           known = known_sort setting.scope s.0.kind q.1;
         }) s.1.1
 
@@ -222,15 +232,18 @@ module _ (types : List TypeShape) (setting : Setting) (ks : List Kind) where
         let k = kind_of setting.scope a.kind in
         let index = good_operand line Int i v.0 good v.1.0 in
         of_ok (λ (x : Judged). GoodJudged x) (at_index setting o a v.0) j (record {
-          is = ap (λ x. typed.given (typed.is_sort (typed.Of kinds.Int) x && option_eq typed.same_kind (typed.array_of types (typed.sort_of types ks o.pointer) a.slot a.elements) (Some k)) (typed.Of k)) index
+          is = ap (λ x. typed.given (typed.is_sort (typed.Of kinds.Int) x && option_eq typed.same_kind
+              (typed.array_of types (typed.sort_of types ks o.pointer) a.slot a.elements) (Some k)) (typed.Of k)) index
               ∙ ap (λ x. typed.given (option_eq typed.same_kind (typed.array_of types x a.slot a.elements) (Some k)) (typed.Of k)) g.is
-              ∙ ap (λ x. typed.given (option_eq typed.same_kind x (Some k)) (typed.Of k)) array.is ∙ ap (λ b. typed.given b (typed.Of k)) (same_kind_refl k) ∙ ap Some (sym (sort_for_kind setting.scope a.kind));
+              ∙ ap (λ x. typed.given (option_eq typed.same_kind x (Some k)) (typed.Of k)) array.is
+              ∙ ap (λ b. typed.given b (typed.Of k)) (same_kind_refl k) ∙ ap Some (sym (sort_for_kind setting.scope a.kind));
           known = known_sort setting.scope a.kind array.known;
         }) v.1.1
 
     -- ---- operators
 
-    good_operation : (line : ℕ) (op : Op) (s gives : Sort) (l r j : Judged) → KnownSort setting.scope gives → typed.binary_sort op (Some (sort_for setting.scope s)) (Some (sort_for setting.scope s)) ≡ Some (sort_for setting.scope gives) →
+    good_operation : (line : ℕ) (op : Op) (s gives : Sort) (l r j : Judged) → KnownSort setting.scope gives
+        → typed.binary_sort op (Some (sort_for setting.scope s)) (Some (sort_for setting.scope s)) ≡ Some (sort_for setting.scope gives) →
         GoodJudged l → GoodJudged r → operation line op s gives l r ≡ Ok j → GoodJudged j
     good_operation line op s gives l r j known is gl gr e =
         let p = first_passed (operand line s l) _ j e in
@@ -239,7 +252,8 @@ module _ (types : List TypeShape) (setting : Setting) (ks : List Kind) where
         let b = good_operand line s r q.0 gr q.1.0 in
         of_ok (λ (x : Judged). GoodJudged x) (Known (program.Binary op p.0 q.0) gives) j (record { is = (λ i. typed.binary_sort op (a i) (b i)) ∙ is; known = known }) q.1.1
 
-    good_equal : (op : Op) (v w : program.Expr) (k : Kind) → ((x y : Option typed.Sort) → typed.binary_sort op x y ≡ typed.compared x y) → typed.sort_of types ks v ≡ Some (typed.Of k) → typed.sort_of types ks w ≡ Some (typed.Of k) →
+    good_equal : (op : Op) (v w : program.Expr) (k : Kind) → ((x y : Option typed.Sort) → typed.binary_sort op x y ≡ typed.compared x y)
+        → typed.sort_of types ks v ≡ Some (typed.Of k) → typed.sort_of types ks w ≡ Some (typed.Of k) →
         GoodJudged (Known (program.Binary op v w) Truth)
     good_equal op v w k is a b = record { is = is _ _ ∙ (λ i. typed.compared (a i) (b i)) ∙ compared_same k; known = tt }
 
@@ -249,10 +263,18 @@ module _ (types : List TypeShape) (setting : Setting) (ks : List Kind) where
     good_beside line e Truth v known is = cc
     good_beside line e (Pointer t) v known is =
         let ty = number_of setting.scope t in
-        let target = known_target setting.scope types t sound known in
-        (kinds.Pointer ty, (refl, of_ok (λ (x : program.Expr). typed.sort_of types ks x ≡ Some (typed.Of (kinds.Pointer ty))) (null_of ty e) v (good_null ty e (both_below ty.0 (length types) target.0 target.1)) is))
+        let target = known_target setting.scope types t sound known in (
+          kinds.Pointer ty,
+          (
+            refl,
+            of_ok (λ (x : program.Expr). typed.sort_of types ks x ≡ Some (typed.Of (kinds.Pointer ty))) (null_of ty e) v
+                (good_null ty e (both_below ty.0 (length types) target.0 target.1)) is,
+          ),
+        )
 
-    good_equality : (line : ℕ) (op : Op) (a b : tree.Expr) (l r j : Judged) → ((x y : Option typed.Sort) → typed.binary_sort op x y ≡ typed.compared x y) → GoodJudged l → GoodJudged r → equality setting line op a b l r ≡ Ok j → GoodJudged j
+    good_equality : (line : ℕ) (op : Op) (a b : tree.Expr) (l r j : Judged)
+        → ((x y : Option typed.Sort) → typed.binary_sort op x y ≡ typed.compared x y) → GoodJudged l → GoodJudged r
+        → equality setting line op a b l r ≡ Ok j → GoodJudged j
     good_equality line op a b Bare Bare j is gl gr e = cc
     good_equality line op a b Bare (Known r sort) j is gl gr e =
         let p = first_passed (null_beside setting line a sort) _ j e in
@@ -308,7 +330,8 @@ module _ (types : List TypeShape) (setting : Setting) (ks : List Kind) where
           let p = first_passed (judged setting line inner) _ j e in
           let v = first_passed (operand line Int p.0) _ j p.1.1 in
           let g = good_operand line Int p.0 v.0 (good_judged line inner p.0 p.1.0) v.1.0 in
-          of_ok (λ (y : Judged). GoodJudged y) (Known (program.Negate v.0) Int) j (record { is = ap (λ x. typed.given (typed.is_sort (typed.Of kinds.Int) x) (typed.Of kinds.Int)) g; known = tt }) v.1.1
+          of_ok (λ (y : Judged). GoodJudged y) (Known (program.Negate v.0) Int) j
+          (record { is = ap (λ x. typed.given (typed.is_sort (typed.Of kinds.Int) x) (typed.Of kinds.Int)) g; known = tt }) v.1.1
       good_judged line (tree.Not inner) j e =
           let p = first_passed (judged setting line inner) _ j e in
           let v = first_passed (operand line Truth p.0) _ j p.1.1 in
@@ -319,7 +342,8 @@ module _ (types : List TypeShape) (setting : Setting) (ks : List Kind) where
           let q = first_passed (judged setting line b) _ j p.1.1 in
           good_combined line op a b p.0 q.0 j (good_judged line a p.0 p.1.0) (good_judged line b q.0 q.1.0) q.1.1
 
-      good_fits : (line : ℕ) (kind : tree.TypeWord) (e : tree.Expr) (j : Judged) (v : program.Expr) → is_known setting.scope kind ≡ true → GoodJudged j → fits setting line kind e j ≡ Ok v → typed.sort_of types ks v ≡ Some (typed.Of (kind_of setting.scope kind))
+      good_fits : (line : ℕ) (kind : tree.TypeWord) (e : tree.Expr) (j : Judged) (v : program.Expr) → is_known setting.scope kind ≡ true
+          → GoodJudged j → fits setting line kind e j ≡ Ok v → typed.sort_of types ks v ≡ Some (typed.Of (kind_of setting.scope kind))
       good_fits line tree.Int e Bare v known g is = cc
       good_fits line (tree.Named t) e Bare v known g is =
           let ty = number_of setting.scope t in
@@ -329,7 +353,8 @@ module _ (types : List TypeShape) (setting : Setting) (ks : List Kind) where
       good_fits line (tree.Named t) e (Known w sort) v known g is = good_operand line (Pointer t) (Known w sort) v g is
 
       -- an expression that fits a declared type has its kind
-      pub good_fitted : (line : ℕ) (kind : tree.TypeWord) (e : tree.Expr) (v : program.Expr) → is_known setting.scope kind ≡ true → fitted setting line kind e ≡ Ok v → typed.sort_of types ks v ≡ Some (typed.Of (kind_of setting.scope kind))
+      pub good_fitted : (line : ℕ) (kind : tree.TypeWord) (e : tree.Expr) (v : program.Expr) → is_known setting.scope kind ≡ true
+          → fitted setting line kind e ≡ Ok v → typed.sort_of types ks v ≡ Some (typed.Of (kind_of setting.scope kind))
       good_fitted line kind e v known is =
           let p = first_passed (judged setting line e) (fits setting line kind e) v is in
           good_fits line kind e p.0 v known (good_judged line e p.0 p.1.0) p.1.1

@@ -1,9 +1,10 @@
 -- Programs that are accepted are well typed.
-use Rattle.std.proofs.Common.{◌≡◌, ℕ, ◌+◌, ◌<◌, ◌≤◌, nat_lt, nat_le, Bool, true, false, not, cond, ◌&&◌, is_some, List, [], ◌∷◌, ◌++◌, length, Option, Some, None, unwrap_or, slice_get, ℤ, pos, negsuc, Result, Ok, refl, sym, ap, subst, ◌∙◌, arith, suc, zero, length-append, bytes_eq}
+use Rattle.std.proofs.Common.{◌≡◌, ℕ, ◌+◌, ◌<◌, ◌≤◌, nat_lt, nat_le, Bool, true, false, not, cond, ◌&&◌, is_some, List, [], ◌∷◌, ◌++◌, length, Option, Some}
+use Rattle.std.proofs.Common.{None, unwrap_or, slice_get, ℤ, pos, negsuc, Result, Ok, refl, sym, ap, subst, ◌∙◌, arith, suc, zero, length-append, bytes_eq}
 use Rattle.std.proofs.lemmas.Bool.{ltb-true, leb-true}
 use Rattle.std.proofs.lemmas.Slice.Eq.{bytes_eq-Decides}
 use Rattle.pst_base.specs.declared.shape.TypeShape.{TypeShape}
-use Rattle.pst_base.specs.declared.shape.TheConstants.{MOST_ROOTS, MOST_LIMIT, MOST_ELEMENTS}
+use Rattle.pst_base.specs.declared.shape.TheConstants.{MOST_ROOTS, MOST_IN_DEGREE, MOST_ELEMENTS}
 use Rattle.pst_grammar.specs.Syntax as tree
 use Rattle.pst_grammar.specs.Depth as depth
 use Rattle.pst_program.specs.Syntax as program
@@ -11,7 +12,9 @@ use Rattle.pst_program.specs.Typed.{is_length}
 use Rattle.pst_typing.specs.declared.fault.TypeFault.{TypeFault}
 use Rattle.pst_typing.specs.declared.fault.TypeFault.TheVariants as fault
 use Rattle.pst_typing.specs.Answers.{check, through}
-use Rattle.pst_typing.specs.Names.{Members, no_members, with_member, with_field, with_new_member, members_from, array_length, is_length_of, length_in, elements_of, Scope, nothing_declared, is_free, RecordType, Signature, named, is_named, is_known, field_line, field_name, field_kind, field_elements}
+use Rattle.pst_typing.specs.Names.{Members, no_members, with_member, with_field, with_new_member, members_from, array_length, is_length_of, length_in}
+use Rattle.pst_typing.specs.Names.{elements_of, Scope, nothing_declared, is_free, RecordType, Signature, named, is_named, is_known, field_line, field_name}
+use Rattle.pst_typing.specs.Names.{field_kind, field_elements}
 use Rattle.pst_typing.specs.Declarations.{noted, limit_of, elements_with, field, shape_of, names_of, procedure, NamedProgram, declared, root_alone}
 use Rattle.pst_typing.proofs.Passed.{passed, first_passed, found_passed, same_ok, of_ok, both_true, free_parts}
 use Rattle.pst_typing.proofs.Laid.{IsLaid, LengthFits, HasFew, AllKnown, small, laid_none, laid_more, known_more}
@@ -29,7 +32,8 @@ record Fields (scope : Scope) (m : Members) (fs : List tree.FieldText) (n : Memb
   pub known : AllKnown scope n.list
   pub few : HasFew n
 
-known_member : (scope : Scope) (m : Members) (x : List ℕ) (kind : tree.TypeWord) (elements : Option ℕ) → AllKnown scope m.list → is_known scope kind ≡ true → AllKnown scope (with_member m x kind elements).list
+known_member : (scope : Scope) (m : Members) (x : List ℕ) (kind : tree.TypeWord) (elements : Option ℕ) → AllKnown scope m.list
+    → is_known scope kind ≡ true → AllKnown scope (with_member m x kind elements).list
 known_member scope m x tree.Int elements all known = known_more scope m.list x _ all known
 known_member scope m x (tree.Named t) elements all known = known_more scope m.list x _ all known
 
@@ -101,12 +105,12 @@ if_some : (b : Bool) (n m : ℕ) → cond b (Some n) None ≡ Some m → (b ≡ 
 if_some true n m e = (refl, cc)
 if_some false n m e = cc
 
-limits : (l : ℤ) (n : ℕ) → limit_of l ≡ Some n → (1 ≤ n) × (n ≤ MOST_LIMIT)
+limits : (l : ℤ) (n : ℕ) → limit_of l ≡ Some n → (1 ≤ n) × (n ≤ MOST_IN_DEGREE)
 limits (pos k) n e =
-    let p = if_some (nat_lt 0 k && nat_le k MOST_LIMIT) k n e in
-    let q = both_true (nat_lt 0 k) (nat_le k MOST_LIMIT) p.0 in
+    let p = if_some (nat_lt 0 k && nat_le k MOST_IN_DEGREE) k n e in
+    let q = both_true (nat_lt 0 k) (nat_le k MOST_IN_DEGREE) p.0 in
     let a = ltb-true 0 k q.0 in
-    let b = leb-true k MOST_LIMIT q.1 in
+    let b = leb-true k MOST_IN_DEGREE q.1 in
     (omega (arith, p.1), omega (arith, p.1))
 limits (negsuc k) n e = cc
 
@@ -116,7 +120,7 @@ pub record IsEntry (scope : Scope) (k : ℕ) (r : RecordType) (s : TypeShape) : 
   pub number : r.number.0 ≡ k
   pub limit : ℕ
   pub least : 1 ≤ limit
-  pub most : limit ≤ MOST_LIMIT
+  pub most : limit ≤ MOST_IN_DEGREE
   pub is : s ≡ shape_of scope limit r.members
   pub laid : IsLaid scope r.members
   pub few : HasFew r.members
@@ -129,7 +133,8 @@ Entries scope k [] (s ∷ ss) = ⊥
 Entries scope k (t ∷ ts) [] = ⊥
 Entries scope k (t ∷ ts) (s ∷ ss) = IsEntry scope k t.1 s × Entries scope (suc k) ts ss
 
-entry_more : (scope : Scope) (k n : ℕ) (ts : List (List ℕ × RecordType)) (ss : List TypeShape) (x : List ℕ) (r : RecordType) (s : TypeShape) → Entries scope k ts ss → n ≡ k + length ts → IsEntry scope n r s → Entries scope k (ts ++ (x, r) ∷ []) (ss ++ s ∷ [])
+entry_more : (scope : Scope) (k n : ℕ) (ts : List (List ℕ × RecordType)) (ss : List TypeShape) (x : List ℕ) (r : RecordType) (s : TypeShape)
+    → Entries scope k ts ss → n ≡ k + length ts → IsEntry scope n r s → Entries scope k (ts ++ (x, r) ∷ []) (ss ++ s ∷ [])
 entry_more scope k n [] [] x r s all at e = let same : n ≡ k = omega (arith, at) in (subst (λ (m : ℕ). IsEntry scope m r s) same e, tt)
 entry_more scope k n [] (u ∷ ss) x r s all at e = absurd all
 entry_more scope k n (t ∷ ts) [] x r s all at e = absurd all
@@ -142,7 +147,8 @@ entries_length scope k (t ∷ ts) [] all = absurd all
 entries_length scope k (t ∷ ts) (s ∷ ss) all = ap suc (entries_length scope (suc k) ts ss all.1)
 
 -- the entry at an index
-pub entry_at : (scope : Scope) (k i : ℕ) (ts : List (List ℕ × RecordType)) (ss : List TypeShape) → Entries scope k ts ss → i < length ss → (r : RecordType) × ((s : TypeShape) × ((slice_get ss i ≡ Some s) × IsEntry scope (k + i) r s))
+pub entry_at : (scope : Scope) (k i : ℕ) (ts : List (List ℕ × RecordType)) (ss : List TypeShape) → Entries scope k ts ss → i < length ss
+    → (r : RecordType) × ((s : TypeShape) × ((slice_get ss i ≡ Some s) × IsEntry scope (k + i) r s))
 entry_at scope k i [] [] all below = absurd (omega arith)
 entry_at scope k i [] (s ∷ ss) all below = absurd all
 entry_at scope k i (t ∷ ts) [] all below = absurd all
@@ -160,9 +166,11 @@ pub record Entry (scope : Scope) (k : ℕ) (ss : List TypeShape) (r : RecordType
   pub is : IsEntry scope (k + index) r type
 
 next_entry : (scope : Scope) (k : ℕ) (s : TypeShape) (ss : List TypeShape) (r : RecordType) → Entry scope (suc k) ss r → Entry scope k (s ∷ ss) r
-next_entry scope k s ss r e = let same : suc k + e.index ≡ k + suc e.index = omega arith in record { index = suc e.index; type = e.type; at = e.at; is = subst (λ (m : ℕ). IsEntry scope m r e.type) same e.is }
+next_entry scope k s ss r e = let same : suc k + e.index ≡ k + suc e.index = omega arith in
+    record { index = suc e.index; type = e.type; at = e.at; is = subst (λ (m : ℕ). IsEntry scope m r e.type) same e.is }
 
-entry_head : (scope : Scope) (k : ℕ) (b : Bool) (t r : RecordType) (rest : Option RecordType) (s : TypeShape) (ss : List TypeShape) → IsEntry scope k t s → (rest ≡ Some r → Entry scope (suc k) ss r) → cond b (Some t) rest ≡ Some r → Entry scope k (s ∷ ss) r
+entry_head : (scope : Scope) (k : ℕ) (b : Bool) (t r : RecordType) (rest : Option RecordType) (s : TypeShape) (ss : List TypeShape)
+    → IsEntry scope k t s → (rest ≡ Some r → Entry scope (suc k) ss r) → cond b (Some t) rest ≡ Some r → Entry scope k (s ∷ ss) r
 entry_head scope k true t r rest s ss here go e =
     let same : t ≡ r = cc in
     let at : k ≡ k + 0 = omega arith in
@@ -192,7 +200,8 @@ Routines scope k [] (q ∷ qs) = ⊥
 Routines scope k (s ∷ ss) [] = ⊥
 Routines scope k (s ∷ ss) (q ∷ qs) = IsRoutine scope k s.0 s.1 q × Routines scope (suc k) ss qs
 
-routine_more : (scope : Scope) (k n : ℕ) (ss : List (List ℕ × Signature)) (qs : List program.Procedure) (x : List ℕ) (s : Signature) (q : program.Procedure) → Routines scope k ss qs → n ≡ k + length ss → IsRoutine scope n x s q → Routines scope k (ss ++ (x, s) ∷ []) (qs ++ q ∷ [])
+routine_more : (scope : Scope) (k n : ℕ) (ss : List (List ℕ × Signature)) (qs : List program.Procedure) (x : List ℕ) (s : Signature)
+    (q : program.Procedure) → Routines scope k ss qs → n ≡ k + length ss → IsRoutine scope n x s q → Routines scope k (ss ++ (x, s) ∷ []) (qs ++ q ∷ [])
 routine_more scope k n [] [] x s q all at e = let same : n ≡ k = omega (arith, at) in (subst (λ (m : ℕ). IsRoutine scope m x s q) same e, tt)
 routine_more scope k n [] (u ∷ qs) x s q all at e = absurd all
 routine_more scope k n (t ∷ ss) [] x s q all at e = absurd all
@@ -211,7 +220,8 @@ pub record RoutineAt (scope : Scope) (k i : ℕ) (ss : List (List ℕ × Signatu
   pub at : slice_get ss i ≡ Some (name, signature)
   pub is : IsRoutine scope (k + i) name signature q
 
-pub routine_at : (scope : Scope) (k i : ℕ) (ss : List (List ℕ × Signature)) (qs : List program.Procedure) (q : program.Procedure) → Routines scope k ss qs → slice_get qs i ≡ Some q → RoutineAt scope k i ss q
+pub routine_at : (scope : Scope) (k i : ℕ) (ss : List (List ℕ × Signature)) (qs : List program.Procedure) (q : program.Procedure)
+    → Routines scope k ss qs → slice_get qs i ≡ Some q → RoutineAt scope k i ss q
 routine_at scope k i [] [] q all e = cc
 routine_at scope k i [] (u ∷ qs) q all e = absurd all
 routine_at scope k i (s ∷ ss) [] q all e = absurd all
@@ -231,7 +241,9 @@ pub record Routine (scope : Scope) (k : ℕ) (qs : List program.Procedure) (s : 
   pub at : slice_get qs index ≡ Some procedure
   pub is : IsRoutine scope (k + index) name s procedure
 
-routine_head : (scope : Scope) (k : ℕ) (b : Bool) (x : List ℕ) (t s : Signature) (rest : Option Signature) (q : program.Procedure) (qs : List program.Procedure) → IsRoutine scope k x t q → (rest ≡ Some s → Routine scope (suc k) qs s) → cond b (Some t) rest ≡ Some s → Routine scope k (q ∷ qs) s
+routine_head : (scope : Scope) (k : ℕ) (b : Bool) (x : List ℕ) (t s : Signature) (rest : Option Signature) (q : program.Procedure)
+    (qs : List program.Procedure) → IsRoutine scope k x t q → (rest ≡ Some s → Routine scope (suc k) qs s) → cond b (Some t) rest ≡ Some s
+    → Routine scope k (q ∷ qs) s
 routine_head scope k true x t s rest q qs here go e =
     let same : t ≡ s = cc in
     let at : k ≡ k + 0 = omega arith in
@@ -241,7 +253,8 @@ routine_head scope k false x t s rest q qs here go e =
     let same : suc k + p.index ≡ k + suc p.index = omega arith in
     record { index = suc p.index; name = p.name; procedure = p.procedure; at = p.at; is = subst (λ (m : ℕ). IsRoutine scope m p.name s p.procedure) same p.is }
 
-pub routine_named : (scope : Scope) (k : ℕ) (ss : List (List ℕ × Signature)) (qs : List program.Procedure) (x : List ℕ) (s : Signature) → Routines scope k ss qs → named x ss ≡ Some s → Routine scope k qs s
+pub routine_named : (scope : Scope) (k : ℕ) (ss : List (List ℕ × Signature)) (qs : List program.Procedure) (x : List ℕ) (s : Signature)
+    → Routines scope k ss qs → named x ss ≡ Some s → Routine scope k qs s
 routine_named scope k [] qs x s all e = cc
 routine_named scope k (t ∷ ss) [] x s all e = absurd all
 routine_named scope k (t ∷ ss) (q ∷ qs) x s all e = routine_head scope k (bytes_eq x t.0) t.0 t.1 s (named x ss) q qs all.0 (routine_named scope (suc k) ss qs x s all.1) e
@@ -324,7 +337,8 @@ start scope = record {
   apart = tt;
 }
 
-record_together : (scope s t : Scope) (b c : NamedProgram) (line : ℕ) (x : List ℕ) (l : ℤ) (fs : List tree.FieldText) → Together scope s b → noted s (tree.Record line x l fs) ≡ Ok t → declared scope b (tree.Record line x l fs) ≡ Ok c → Together scope t c
+record_together : (scope s t : Scope) (b c : NamedProgram) (line : ℕ) (x : List ℕ) (l : ℤ) (fs : List tree.FieldText) → Together scope s b
+    → noted s (tree.Record line x l fs) ≡ Ok t → declared scope b (tree.Record line x l fs) ≡ Ok c → Together scope t c
 record_together scope s t b c line x l fs g e f =
     let r : RecordType = record { number = record { 0 = length s.types + 1 }; members = members_from no_members fs } in
     let new : Scope = record s { types = s.types ++ (x, r) ∷ [] } in
@@ -364,7 +378,8 @@ record_together scope s t b c line x l fs g e f =
     } in
     subst (λ (u : Scope). Together scope u c) (same_ok _ _ q.1) (of_ok (λ (k : NamedProgram). Together scope new k) made c whole m.1.1)
 
-root_together : (scope s t : Scope) (b c : NamedProgram) (line : ℕ) (x : List ℕ) (kind : tree.TypeWord) → Together scope s b → noted s (tree.Root line x kind) ≡ Ok t → declared scope b (tree.Root line x kind) ≡ Ok c → Together scope t c
+root_together : (scope s t : Scope) (b c : NamedProgram) (line : ℕ) (x : List ℕ) (kind : tree.TypeWord) → Together scope s b
+    → noted s (tree.Root line x kind) ≡ Ok t → declared scope b (tree.Root line x kind) ≡ Ok c → Together scope t c
 root_together scope s t b c line x kind g e f =
     let new : Scope = record s { roots = with_member s.roots x kind None } in
     let one : Result Scope TypeFault = Ok new in
@@ -391,7 +406,9 @@ root_together scope s t b c line x kind g e f =
     } in
     subst (λ (u : Scope). Together scope u c) (same_ok _ _ q.1) (of_ok (λ (j : NamedProgram). Together scope new j) b c whole k.1)
 
-procedure_together : (scope s t : Scope) (b c : NamedProgram) (text : tree.ProcedureText) → depth.phrases_height text.body ≤ 63 → depth.phrases_nesting text.body ≤ 15 → Together scope s b → noted s (tree.Procedure text) ≡ Ok t → declared scope b (tree.Procedure text) ≡ Ok c → Together scope t c
+procedure_together : (scope s t : Scope) (b c : NamedProgram) (text : tree.ProcedureText) → depth.phrases_height text.body ≤ 63
+    → depth.phrases_nesting text.body ≤ 15 → Together scope s b → noted s (tree.Procedure text) ≡ Ok t → declared scope b (tree.Procedure text) ≡ Ok c
+    → Together scope t c
 procedure_together scope s t b c text high deep g e f =
     let sign : Signature = record { number = record { 0 = length s.procedures }; query = text.query; parameters = text.parameters; result = text.result } in
     let new : Scope = record s { procedures = s.procedures ++ (text.name, sign) ∷ [] } in
@@ -407,7 +424,8 @@ procedure_together scope s t b c text high deep g e f =
       shapes = g.shapes;
       is = g.is;
       entries = g.entries;
-      routines = routine_more scope 0 (length s.procedures) s.procedures b.procedures text.name sign m.0 g.routines at (record { text = text; name = refl; signature = refl; made = m.1.0; height = high; nesting = deep });
+      routines = routine_more scope 0 (length s.procedures) s.procedures b.procedures text.name sign m.0 g.routines at
+          (record { text = text; name = refl; signature = refl; made = m.1.0; height = high; nesting = deep });
       few_types = g.few_types;
       few_procedures = omega (arith, more, below);
       few_roots = g.few_roots;
@@ -418,12 +436,14 @@ procedure_together scope s t b c text high deep g e f =
     } in
     subst (λ (u : Scope). Together scope u c) (same_ok _ _ q.1) (of_ok (λ (k : NamedProgram). Together scope new k) made c whole m.1.1)
 
-item_together : (scope s t : Scope) (b c : NamedProgram) (item : tree.Item) → depth.item_height item ≤ 63 → depth.item_nesting item ≤ 15 → Together scope s b → noted s item ≡ Ok t → declared scope b item ≡ Ok c → Together scope t c
+item_together : (scope s t : Scope) (b c : NamedProgram) (item : tree.Item) → depth.item_height item ≤ 63 → depth.item_nesting item ≤ 15
+    → Together scope s b → noted s item ≡ Ok t → declared scope b item ≡ Ok c → Together scope t c
 item_together scope s t b c (tree.Record line x l fs) high deep g e f = record_together scope s t b c line x l fs g e f
 item_together scope s t b c (tree.Root line x kind) high deep g e f = root_together scope s t b c line x kind g e f
 item_together scope s t b c (tree.Procedure text) high deep g e f = procedure_together scope s t b c text high deep g e f
 
-pub together : (scope : Scope) (items : List tree.Item) (s t : Scope) (b c : NamedProgram) → depth.greatest depth.item_height items ≤ 63 → depth.greatest depth.item_nesting items ≤ 15 → Together scope s b →
+pub together : (scope : Scope) (items : List tree.Item) (s t : Scope) (b c : NamedProgram) → depth.greatest depth.item_height items ≤ 63
+    → depth.greatest depth.item_nesting items ≤ 15 → Together scope s b →
     through noted s items ≡ Ok t → through (declared scope) b items ≡ Ok c → Together scope t c
 together scope [] s t b c high deep g e f = subst (λ (u : Scope). Together scope u c) (same_ok _ _ e) (subst (λ (k : NamedProgram). Together scope s k) (same_ok _ _ f) g)
 together scope (item ∷ items) s t b c high deep g e f =

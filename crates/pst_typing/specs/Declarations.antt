@@ -3,7 +3,7 @@ use Rattle.std.specs.Prelude.{ℕ, ◌+◌, Bool, true, not, ◌&&◌, nat_lt, n
 use Rattle.std.specs.Option.{option_map}
 use Rattle.pst_base.specs.declared.names.TypeNo.{TypeNo}
 use Rattle.pst_base.specs.declared.shape.TypeShape.{TypeShape}
-use Rattle.pst_base.specs.declared.shape.TheConstants.{MOST_ROOTS, MOST_LIMIT, MOST_ELEMENTS}
+use Rattle.pst_base.specs.declared.shape.TheConstants.{MOST_ROOTS, MOST_IN_DEGREE, MOST_ELEMENTS}
 use Rattle.pst_grammar.specs.Syntax as tree
 use Rattle.pst_program.specs.declared.program.TypeEntry.{TypeEntry}
 use Rattle.pst_program.specs.Syntax as program
@@ -31,7 +31,7 @@ noted scope (tree.Procedure p) =
 
 -- the in-degree limit, if it is from 1 to 16
 abbrev pub limit_of : ℤ → Option ℕ
-limit_of (pos n) = if nat_lt 0 n && nat_le n MOST_LIMIT then Some n else None
+limit_of (pos n) = if nat_lt 0 n && nat_le n MOST_IN_DEGREE then Some n else None
 limit_of (negsuc n) = None
 
 -- how many elements the fields have with one more field

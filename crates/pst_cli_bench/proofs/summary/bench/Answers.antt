@@ -27,7 +27,8 @@ returns-in-Ok-say-clause-row g c =
     let (out, written, w) = c.in-Ok-say.ensures.said in
     let lines = bench_lines c.args.number in
     let now = c.in-Ok-summarize.ensures in
-    let row = done_row c.in-Ok.text.items lines c.args.store.now c.summarize.new.store c.as_slice.result.now out syntax c.in-Ok-program_of.program judged now.left (c.as_slice.ensures ∙ now.summary) w in
+    let row = done_row c.in-Ok.text.items lines c.args.store.now c.summarize.new.store c.as_slice.result.now out syntax c.in-Ok-program_of.program
+    judged now.left (c.as_slice.ensures ∙ now.summary) w in
     (out, written, subst (λ (text : List ℕ). BenchRow Done text lines c.args.store.now c.summarize.new.store out) c.in-Ok.ensures.items row)
 
 pub returns-clause-row : goal.returns-clause-row
@@ -36,5 +37,6 @@ returns-clause-row g c =
     let (out, written, w) = c.in-Err-say.ensures.said in
     let lines = bench_lines c.args.number in
     let now = c.in-Ok-summarize.ensures in
-    let row = stopped_row c.in-Err-say.stop c.in-Ok.text.items lines c.args.store.now c.summarize.new.store c.as_slice.result.now out syntax c.in-Ok-program_of.program judged now.left (c.as_slice.ensures ∙ now.summary) w in
+    let row = stopped_row c.in-Err-say.stop c.in-Ok.text.items lines c.args.store.now c.summarize.new.store c.as_slice.result.now out syntax
+    c.in-Ok-program_of.program judged now.left (c.as_slice.ensures ∙ now.summary) w in
     (out, written, rw c.status_of.ensures (subst (λ (text : List ℕ). BenchRow (status_of c.in-Err-say.stop) text lines c.args.store.now c.summarize.new.store out) c.in-Ok.ensures.items row))

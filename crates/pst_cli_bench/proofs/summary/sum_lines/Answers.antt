@@ -16,7 +16,8 @@ sum_line-requires g c =
 pub returns-in_err-sum-in-Some-clause-breaks : goal.returns-in_err-sum-in-Some-clause-breaks
 returns-in_err-sum-in-Some-clause-breaks g c = of_error c.from_residual.result _ (λ m h stands.
     let (given, first, sum, now) = c.lines.invariant m h stands in
-    broken_at (script_of g.X.Session.rules m) h (g.X.Session.breaks m c.sum_line.new.held) (lines_of c.args.text.now) given (lines_of c.in-Some.behind.now) (lines_of c.lines.rest.now) c.in-Some.line.now first c.in-Some.ensures.lines
+    broken_at (script_of g.X.Session.rules m) h (g.X.Session.breaks m c.sum_line.new.held) (lines_of c.args.text.now) given
+    (lines_of c.in-Some.behind.now) (lines_of c.lines.rest.now) c.in-Some.line.now first c.in-Some.ensures.lines
     (c.in_err-sum-in-Some.ensures.breaks m (state_after (script_of g.X.Session.rules m) h given) now))
 
 pub lines-preserved : goal.lines-preserved
@@ -29,5 +30,6 @@ lines-preserved g c = λ m h stands.
       given ++ line ∷ [],
       line_more (lines_of c.args.text.now) given (lines_of c.in-Some.behind.now) (lines_of c.lines.rest.now) line first c.in-Some.ensures.lines,
       to_z-of_z w64 all fits ∙ sum_more g.X.Session.rules m h given line _ all sum (more.sum m (state_after (script_of g.X.Session.rules m) h given) now),
-      state_more (script_of g.X.Session.rules m) h (g.X.Session.stands c.sum_line.new.session c.sum_line.new.held m) given line (more.stands m (state_after (script_of g.X.Session.rules m) h given) now),
+      state_more (script_of g.X.Session.rules m) h (g.X.Session.stands c.sum_line.new.session c.sum_line.new.held m) given line
+          (more.stands m (state_after (script_of g.X.Session.rules m) h given) now),
     )

@@ -53,4 +53,5 @@ pub returns-clause-found : goal.returns-clause-found
 returns-clause-found g c =
     let m = meaning_of c.args.program in
     let (lines, all, now) = c.in_ok-carry_script.ensures.carried m (first_history by_tree m) c.in-Ok.ensures.stands in
-    image_lacks (kept_by by_tree IsLeft IsBroken c.args.store.now c.carry_script.new.held) c.carry_script.new.held m c.args.text.now _ _ _ _ lines all (c.known.ensures.leaves m (history_after by_tree m lines) now)
+    image_lacks (kept_by by_tree IsLeft IsBroken c.args.store.now c.carry_script.new.held) c.carry_script.new.held m c.args.text.now _ _ _ _ lines all
+    (c.known.ensures.leaves m (history_after by_tree m lines) now)

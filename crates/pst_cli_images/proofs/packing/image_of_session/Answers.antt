@@ -1,6 +1,7 @@
 use Rattle.pst_program.specs.View.{routines_of}
 use Rattle.pst_translation.specs.Compiled.{code_of}
-use Rattle.pst_cli_images.proofs.Leaving.{leaves, numbers, image_for_each}
+use Rattle.pst_image_engine.proofs.Engines.{leaves}
+use Rattle.pst_cli_images.proofs.Leaving.{numbers, image_for_each}
 use Rattle.pst_cli_images.proofs.packing.image_of_session.Goals as goal
 
 pub pack-requires-clause-rested : goal.pack-requires-clause-rested

@@ -16,14 +16,22 @@ returns-in-Err-Memory-clause-packed g c = ([], Appends-nil _, (refl, inl (refl, 
 pub returns-in-Err-Fault-clause-packed : goal.returns-in-Err-Fault-clause-packed
 returns-in-Err-Fault-clause-packed g c =
     let (out, written, w) = c.refuse.ensures.refused in
-    let k = kept_by by_tree IsLeft IsBroken c.args.store.now c.args.store.now in
-    (out, written, fault_asked c.refuse.result k (PacksWhole k c.args.store.now) (PacksInPart k c.args.store.now) _ _ c.args.text.items out c.in-Err-Fault.fault refl (rw c.in-Err-Fault.field-0-is at c.in-Err-Fault.ensures.verdict) w)
+    let k = kept_by by_tree IsLeft IsBroken c.args.store.now c.args.store.now in (
+      out,
+      written,
+      fault_asked c.refuse.result k (PacksWhole k c.args.store.now) (PacksInPart k c.args.store.now) _ _ c.args.text.items out
+          c.in-Err-Fault.fault refl (rw c.in-Err-Fault.field-0-is at c.in-Err-Fault.ensures.verdict) w,
+    )
 
 pub returns-in-Err-clause-packed : goal.returns-in-Err-clause-packed
 returns-in-Err-clause-packed g c =
     let (syntax, judged, same) = c.in-Ok.ensures.verdict in
-    let k = kept_by by_tree IsLeft IsBroken c.args.store.now c.image_of.new.store in
-    ([], Appends-nil _, rw c.status_of.ensures (script_asked k (PacksWhole k c.image_of.new.store) (PacksInPart k c.image_of.new.store) _ _ _ _ c.args.text.items syntax c.in-Ok.program judged c.in-Err.stop c.in-Err.ensures.found))
+    let k = kept_by by_tree IsLeft IsBroken c.args.store.now c.image_of.new.store in (
+      [],
+      Appends-nil _,
+      rw c.status_of.ensures (script_asked k (PacksWhole k c.image_of.new.store) (PacksInPart k c.image_of.new.store) _ _ _ _
+          c.args.text.items syntax c.in-Ok.program judged c.in-Err.stop c.in-Err.ensures.found),
+    )
 
 pub returns-in-Ok-say-clause-packed : goal.returns-in-Ok-say-clause-packed
 returns-in-Ok-say-clause-packed g c =
@@ -35,7 +43,8 @@ returns-in-Ok-say-clause-packed g c =
       out,
       written,
       answer_asked k (PacksWhole k c.image_of.new.store) (PacksInPart k c.image_of.new.store) _ _ _ _ c.args.text.items syntax c.in-Ok.program judged lines out all
-          (packed k c.image_of.new.store (λ image written. written ≡ image) syntax c.in-Ok.program lines c.as_slice.result.now c.in-Ok-image_of.image out (c.as_slice.ensures ∙ same) kept is (w ∙ c.as_slice-in-Ok-image_of.ensures)),
+          (packed k c.image_of.new.store (λ image written. written ≡ image) syntax c.in-Ok.program lines c.as_slice.result.now c.in-Ok-image_of.image
+          out (c.as_slice.ensures ∙ same) kept is (w ∙ c.as_slice-in-Ok-image_of.ensures)),
     )
 
 pub returns-clause-packed : goal.returns-clause-packed
@@ -47,6 +56,8 @@ returns-clause-packed g c =
     let (out, written, w) = c.in-Err-say.ensures.said in (
       out,
       written,
-      rw c.status_of-in-Err-say.ensures (answer_stopped k (PacksWhole k c.image_of.new.store) (PacksInPart k c.image_of.new.store) _ _ _ _ c.args.text.items syntax c.in-Ok.program judged c.in-Err-say.stop lines c.as_slice-in-Ok-image_of.result.now out all kept
-          (λ part. packed k c.image_of.new.store IsPartOf syntax c.in-Ok.program lines c.as_slice.result.now c.in-Ok-image_of.image out (c.as_slice.ensures ∙ same) kept is (subst (λ p. IsPartOf p out) c.as_slice-in-Ok-image_of.ensures part)) w),
+      rw c.status_of-in-Err-say.ensures (answer_stopped k (PacksWhole k c.image_of.new.store) (PacksInPart k c.image_of.new.store) _ _ _ _
+          c.args.text.items syntax c.in-Ok.program judged c.in-Err-say.stop lines c.as_slice-in-Ok-image_of.result.now out all kept
+          (λ part. packed k c.image_of.new.store IsPartOf syntax c.in-Ok.program lines c.as_slice.result.now c.in-Ok-image_of.image out
+          (c.as_slice.ensures ∙ same) kept is (subst (λ p. IsPartOf p out) c.as_slice-in-Ok-image_of.ensures part)) w),
     )

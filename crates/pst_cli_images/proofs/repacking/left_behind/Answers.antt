@@ -37,7 +37,8 @@ pub over-requires-clause-heap : goal.over-requires-clause-heap
 over-requires-clause-heap g c =
     let (p, tells, is) = c.requires.taken in
     let program = c.args.unpacked.program in
-    opens_in (meaning_of program) program.shape p c.args.unpacked.store c.args.unpacked.next_run (sym (meaning_shape (routines_of program))) (tells.accepted.rules Ranges) tells.next_run_is is c.whole.ensures.store
+    opens_in (meaning_of program) program.shape p c.args.unpacked.store c.args.unpacked.next_run (sym (meaning_shape (routines_of program)))
+    (tells.accepted.rules Ranges) tells.next_run_is is c.whole.ensures.store
 
 pub returns-in_err-carry_text : goal.returns-in_err-carry_text
 returns-in_err-carry_text g c =
@@ -74,7 +75,8 @@ returns-in-Ok-image_left g c =
     let same = opening_is u.program.shape p u.store u.next_run u.budget tells.next_run_is tells.budget_is is c.whole.ensures.store in
     let now = c.in_ok-carry_text.ensures.carried m (begun o) c.in-Ok.ensures.stands in
     record {
-      left = leaves k input p u.program u.length tells.accepted o same (take_rest input u.length) c.carry_text.new.held c.as_slice.result.now (c.as_slice.ensures ∙ tells.text_is) c.in-Ok-image_left.left
+      left = leaves k input p u.program u.length tells.accepted o same (take_rest input u.length) c.carry_text.new.held c.as_slice.result.now
+          (c.as_slice.ensures ∙ tells.text_is) c.in-Ok-image_left.left
           (c.known.ensures.leaves m _ now) (c.in-Ok-image_left.ensures.left m _ now);
     }
 

@@ -35,7 +35,8 @@ pub over-requires-clause-heap : goal.over-requires-clause-heap
 over-requires-clause-heap g c =
     let (p, tells, is) = c.requires.taken in
     let program = c.args.unpacked.program in
-    opens_in (meaning_of program) program.shape p c.args.unpacked.store c.args.unpacked.next_run (sym (meaning_shape (routines_of program))) (tells.accepted.rules Ranges) tells.next_run_is is c.whole.ensures.store
+    opens_in (meaning_of program) program.shape p c.args.unpacked.store c.args.unpacked.next_run (sym (meaning_shape (routines_of program)))
+    (tells.accepted.rules Ranges) tells.next_run_is is c.whole.ensures.store
 
 pub returns-in_default-clause-resumed : goal.returns-in_default-clause-resumed
 returns-in_default-clause-resumed g c = ([], Appends-nil _, inl (refl, refl))
@@ -60,5 +61,9 @@ returns-clause-resumed g c =
     let k = resumed_in c.args.store.now c.answer_text.new.held in
     let s = c.in-Err.stop in
     let same = opening_is u.program.shape p u.store u.next_run u.budget tells.next_run_is tells.budget_is is c.whole.ensures.store in
-    let (out, written, w) = c.in-Err.ensures.answered m (begun o) c.in-Ok.ensures.stands in
-    (out, written, rw c.status_of.ensures (script_stops s k c.args.bytes.now out (behind k (Err s) c.args.bytes.now out p u.program u.length o (take_rest c.args.bytes.now u.length) tells.accepted same w)))
+    let (out, written, w) = c.in-Err.ensures.answered m (begun o) c.in-Ok.ensures.stands in (
+      out,
+      written,
+      rw c.status_of.ensures (script_stops s k c.args.bytes.now out
+          (behind k (Err s) c.args.bytes.now out p u.program u.length o (take_rest c.args.bytes.now u.length) tells.accepted same w)),
+    )

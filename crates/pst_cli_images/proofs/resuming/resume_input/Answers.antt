@@ -7,11 +7,13 @@ pub returns-in-Err-clause-resumed : goal.returns-in-Err-clause-resumed
 returns-in-Err-clause-resumed g c =
     let r = c.in-Err.ensures in
     let (given, stopped) = r.stopped in
-    unread Resumes (resumed_in c.args.store.now c.args.store.now) c.in-Err.stop c.status_of.result c.new-lines.result.input c.read_all.new.lines.input _ _ _ given refl c.status_of.ensures (ap (λ s. s.input) c.new-lines.ensures)
+    unread Resumes (resumed_in c.args.store.now c.args.store.now) c.in-Err.stop c.status_of.result c.new-lines.result.input c.read_all.new.lines.input
+    _ _ _ given refl c.status_of.ensures (ap (λ s. s.input) c.new-lines.ensures)
     (λ e. r.not_write (ap (λ s. Err s) e)) stopped r.within
 
 pub returns-clause-resumed : goal.returns-clause-resumed
 returns-clause-resumed g c =
     let r = c.in-Ok.ensures in
-    read_whole Resumes resumes_whole (resumed_in c.args.store.now c.resume_bytes.new.store) c.resume_bytes.result c.new-lines.result.input c.read_all.new.lines.input _ _ _ _ c.in-Ok.bytes.items (ap (λ s. s.input) c.new-lines.ensures) r.whole r.few
+    read_whole Resumes resumes_whole (resumed_in c.args.store.now c.resume_bytes.new.store) c.resume_bytes.result c.new-lines.result.input
+    c.read_all.new.lines.input _ _ _ _ c.in-Ok.bytes.items (ap (λ s. s.input) c.new-lines.ensures) r.whole r.few
     (rw c.as_slice.ensures.value at c.resume_bytes.ensures.resumed)

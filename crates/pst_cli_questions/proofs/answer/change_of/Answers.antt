@@ -18,5 +18,6 @@ pub returns-in_ok-line-in-Some : goal.returns-in_ok-line-in-Some
 returns-in_ok-line-in-Some g c =
     let s = g.H.HeapAt.state c.args.heap.now in
     let there : c.args.version.0 < length (g.H.HeapAt.state c.args.heap.now).versions = omega (arith, c.if-version-count.false, c.count.ensures) in
-    IfOk-weaker c.text_of-in-Some.result _ _ (λ out e. first_changed s c.args.version c.args.path.now c.in-Some.first out there c.in-Some.ensures.first (e ∙ c.as_str.ensures.value ∙ c.in_ok-line-in-Some.ensures.ok))
+    IfOk-weaker c.text_of-in-Some.result _ _ (λ out e. first_changed s c.args.version c.args.path.now c.in-Some.first out there
+    c.in-Some.ensures.first (e ∙ c.as_str.ensures.value ∙ c.in_ok-line-in-Some.ensures.ok))
     c.text_of-in-Some.ensures

@@ -6,7 +6,8 @@ use Rattle.pst_cli_questions.proofs.answer.tell.Goals as goal
 
 pub returns-in-Dump : goal.returns-in-Dump
 returns-in-Dump g c =
-    rw c.in-Dump.is (IfOk-weaker c.dump_of.result _ _ (λ out w m h sound holds. dump_told m (g.H.HeapAt.state c.args.heap.now) h holds c.args.program.now.names c.in-Dump.version out w) c.dump_of.ensures)
+    rw c.in-Dump.is (IfOk-weaker c.dump_of.result _ _ (λ out w m h sound holds. dump_told m (g.H.HeapAt.state c.args.heap.now) h holds
+    c.args.program.now.names c.in-Dump.version out w) c.dump_of.ensures)
 
 pub returns-in-None : goal.returns-in-None
 returns-in-None g c =

@@ -36,11 +36,13 @@ returns-in-Ok-tell-clause-found g c =
     let h = history_after by_tree m lines in
     let same = c.program.ensures ∙ c.in_ok-carry_script.ensures.about ∙ c.in-Ok.ensures.about in
     let left = c.known.ensures.leaves m h now in
-    answer_found (kept_by by_tree IsLeft IsBroken c.args.store.now c.carry_script.new.held) c.args.program m c.args.question c.args.path.now _ _ _ _ c.program.result.now lines c.in-Ok-tell.text same all left
+    answer_found (kept_by by_tree IsLeft IsBroken c.args.store.now c.carry_script.new.held) c.args.program m c.args.question c.args.path.now _ _ _ _
+    c.program.result.now lines c.in-Ok-tell.text same all left
     (c.in-Ok-tell.ensures m h now.stands.sound left.versions)
 
 pub returns-clause-found : goal.returns-clause-found
 returns-clause-found g c =
     let m = meaning_of c.args.program in
     let (lines, all, now) = c.in_ok-carry_script.ensures.carried m (first_history by_tree m) c.in-Ok.ensures.stands in
-    answer_lacks (kept_by by_tree IsLeft IsBroken c.args.store.now c.carry_script.new.held) c.args.program m c.args.question c.args.path.now _ _ _ _ lines all (c.known.ensures.leaves m (history_after by_tree m lines) now)
+    answer_lacks (kept_by by_tree IsLeft IsBroken c.args.store.now c.carry_script.new.held) c.args.program m c.args.question c.args.path.now _ _ _ _
+    lines all (c.known.ensures.leaves m (history_after by_tree m lines) now)

@@ -12,6 +12,7 @@ carrying-init g c = record {
   given = λ m h stands. ([], gives_none _ _, stands);
   about = refl;
   near = c.requires.near;
+  limit = refl;
   opened = c.requires.open;
   later = grind arith;
 }
@@ -33,8 +34,11 @@ pub returns-in-Err-clause-carried : goal.returns-in-Err-clause-carried
 returns-in-Err-clause-carried g c = λ m h stands.
     let (given, p, now) = c.carrying.invariant.given m h stands in
     let r = c.in-Err.ensures in
-    let until = until_fault c.in-Err.fault _ _ _ _ _ _ given p r.reads (λ e. r.too_long (ap (λ f. Err f) e)) r.cut_off in
-    (given, rw c.from.ensures (until_carried (script_of g.X.Session.rules m) h (g.X.Session.leaves m c.carrying.held) (g.X.Session.breaks m c.carrying.held) c.in-Err.fault _ _ _ _ given until r.cut_off (c.known.ensures.leaves m _ now)))
+    let until = until_fault c.in-Err.fault _ _ _ _ _ _ given p r.reads (λ e. r.too_long (ap (λ f. Err f) e)) r.cut_off in (
+      given,
+      rw c.from.ensures (until_carried (script_of g.X.Session.rules m) h (g.X.Session.leaves m c.carrying.held)
+          (g.X.Session.breaks m c.carrying.held) c.in-Err.fault _ _ _ _ given until r.cut_off (c.known.ensures.leaves m _ now)),
+    )
 
 pub carrying-preserved : goal.carrying-preserved
 carrying-preserved g c =
@@ -46,10 +50,12 @@ carrying-preserved g c =
           let (given, p, now) = c.carrying.invariant.given m h stands in (
             given ++ line ∷ [],
             gives_then _ _ _ _ _ _ given (line ∷ []) p (r.line is),
-            state_more (script_of g.X.Session.rules m) h (g.X.Session.stands c.reply_to.new.session c.reply_to.new.held m) given line (rw c.line.ensures at (c.in-Ok.ensures.stands m (state_after (script_of g.X.Session.rules m) h given) now)),
+            state_more (script_of g.X.Session.rules m) h (g.X.Session.stands c.reply_to.new.session c.reply_to.new.held m) given line
+                (rw c.line.ensures at (c.in-Ok.ensures.stands m (state_after (script_of g.X.Session.rules m) h given) now)),
           );
       about = c.in-Ok.ensures.about ∙ c.carrying.invariant.about;
       near = still_near c.carrying.lines.input c.next.new.self.input c.carrying.invariant.near (r.ahead is);
+      limit = r.limit ∙ c.carrying.invariant.limit;
       opened = r.open;
       later = grind arith;
     }
@@ -65,7 +71,8 @@ returns-in-Err-reply_to-clause-carried g c = λ m h stands.
         gives_then _ _ _ _ _ _ given (line ∷ []) p (r.line is),
         inr (
           still_near c.carrying.lines.input c.next.new.self.input c.carrying.invariant.near (r.ahead is),
-          breaks_in (script_of g.X.Session.rules m) h (g.X.Session.breaks m c.reply_to.new.held) given line (rw c.line.ensures at (c.in-Err-reply_to.ensures.breaks m (state_after (script_of g.X.Session.rules m) h given) now)),
+          breaks_in (script_of g.X.Session.rules m) h (g.X.Session.breaks m c.reply_to.new.held) given line
+              (rw c.line.ensures at (c.in-Err-reply_to.ensures.breaks m (state_after (script_of g.X.Session.rules m) h given) now)),
         ),
       ),
     )

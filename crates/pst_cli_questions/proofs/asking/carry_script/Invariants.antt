@@ -1,5 +1,4 @@
 use Rattle.std.proofs.Common.{◌≡◌, ◌≤◌, ◌-◌, List, ℕ}
-use Rattle.pst_io.specs.declared.room.TheConstants.{MOST_INPUT}
 use Rattle.pst_io.specs.Input.{Gives}
 use Rattle.pst_io.specs.Lines.{IsOpen}
 use Rattle.pst_history.specs.Meaning.{Meaning}
@@ -17,9 +16,10 @@ invariant-carrying g l = record {
       × g.X.Session.stands l.session l.held m (state_after (script_of g.X.Session.rules m) h given);
   about : g.X.Session.about l.session ≡ g.X.Session.about l.fn.session;
   near : IsNear l.lines.input;
+  limit : l.lines.input.most ≡ l.fn.lines.input.most;
   opened : IsOpen l.lines (g.S.Source.left l.source);
   later : g.S.Source.faults l.fn.source ≤ g.S.Source.faults l.source;
 }
 
 abbrev pub decreases-carrying : goal.decreases-carrying
-decreases-carrying g l = MOST_INPUT - l.lines.input.handed
+decreases-carrying g l = l.fn.lines.input.most - l.lines.input.handed

@@ -11,6 +11,7 @@ reading-init g c = record {
   given = ([], gives_none _ _, subst (IsBefore []) (sym c.new-text.ensures.items) begins);
   hands = hands_as _ _ _ _ [] c.new-text.result.items c.new-text.ensures.items (hands_none _ _);
   near = near_fresh _ c.requires;
+  limit = ap (λ s. s.input.most) c.requires;
   opened = opens _ _ c.requires;
   later = grind arith;
 }
@@ -92,6 +93,7 @@ reading-preserved g c =
       );
       hands = hands_as _ _ _ _ _ c.keep_line.new.text.items kept (hands_then _ _ _ _ _ _ text (line_text line c.next.new.self.fed) c.reading.invariant.hands (r.text is));
       near = still_near c.reading.lines.input c.next.new.self.input c.reading.invariant.near (r.ahead is);
+      limit = r.limit ∙ c.reading.invariant.limit;
       opened = r.open;
       later = grind arith;
     }

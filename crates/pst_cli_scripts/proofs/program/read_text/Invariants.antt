@@ -1,4 +1,4 @@
-use Rattle.std.proofs.Common.{◌≤◌, ◌-◌, List, ℕ}
+use Rattle.std.proofs.Common.{◌≡◌, ◌≤◌, ◌-◌, List, ℕ}
 use Rattle.pst_io.specs.Input.{Gives, Hands}
 use Rattle.pst_io.specs.Lines.{IsOpen}
 use Rattle.pst_io.specs.declared.room.TheConstants.{MOST_INPUT}
@@ -12,6 +12,7 @@ invariant-reading g l = record {
   given : (given : List (List ℕ)) × Gives l.fn.lines.input (g.S.Source.left l.fn.source) l.lines.input (g.S.Source.left l.source) given × IsBefore given l.text.items;
   hands : Hands l.fn.lines.input (g.S.Source.left l.fn.source) l.lines.input (g.S.Source.left l.source) l.text.items;
   near : IsNear l.lines.input;
+  limit : l.lines.input.most ≡ MOST_INPUT;
   opened : IsOpen l.lines (g.S.Source.left l.source);
   later : g.S.Source.faults l.fn.source ≤ g.S.Source.faults l.source;
 }

@@ -1,6 +1,5 @@
-use Rattle.std.proofs.Common.{◌≤◌, ◌-◌, List, ℕ}
+use Rattle.std.proofs.Common.{◌≡◌, ◌≤◌, ◌-◌, List, ℕ}
 use Rattle.std.specs.Io.KnownBytes.{Appends}
-use Rattle.pst_io.specs.declared.room.TheConstants.{MOST_INPUT}
 use Rattle.pst_io.specs.Input.{Gives}
 use Rattle.pst_io.specs.Lines.{IsOpen}
 use Rattle.pst_history.specs.Meaning.{Meaning}
@@ -18,10 +17,11 @@ invariant-answering g l = record {
       × Appends (g.K.Sink.taken l.fn.sink) (g.K.Sink.taken l.sink) out × IsAll (pieces_from (script_of g.X.Session.rules m) h given) out
       × g.X.Session.stands l.session l.held m (state_after (script_of g.X.Session.rules m) h given);
   near : IsNear l.lines.input;
+  limit : l.lines.input.most ≡ l.fn.lines.input.most;
   opened : IsOpen l.lines (g.S.Source.left l.source);
   later : g.S.Source.faults l.fn.source ≤ g.S.Source.faults l.source;
   sink_later : g.K.Sink.faults l.fn.sink ≤ g.K.Sink.faults l.sink;
 }
 
 abbrev pub decreases-answering : goal.decreases-answering
-decreases-answering g l = MOST_INPUT - l.lines.input.handed
+decreases-answering g l = l.fn.lines.input.most - l.lines.input.handed

@@ -41,7 +41,8 @@ returns-in-Err-clause-answered g c = λ m h stands.
     let further = line_more (lines_of c.args.text.now) given (lines_of c.in-Some.behind.now) (lines_of c.answering.rest.now) line first c.in-Some.ensures.lines in (
       out ++ more,
       Appends-trans _ _ _ out more written appended,
-      stops_at s h (g.X.Session.leaves m c.answer_line.new.held) (g.X.Session.breaks m c.answer_line.new.held) c.in-Err.stop (lines_of c.args.text.now) given (lines_of c.in-Some.behind.now) line out more all said
+      stops_at s h (g.X.Session.leaves m c.answer_line.new.held) (g.X.Session.breaks m c.answer_line.new.held) c.in-Err.stop
+          (lines_of c.args.text.now) given (lines_of c.in-Some.behind.now) line out more all said
           (c.in-Err.ensures.held m (state_after s h given) now) further,
     )
 

@@ -10,7 +10,8 @@ returns-in_err-number c = c.from_residual.ensures ∙ sym (no_version c.args.wor
 pub returns-in_err-ok : goal.returns-in_err-ok
 returns-in_err-ok c =
     let of : ℕ → VersionNo = λ n. record { 0 = n } in
-    c.from_residual-in_err-ok.ensures ∙ ap (option_map of) (sym c.in_err-ok.was ∙ c.ok.ensures.value) ∙ version_read c.args.word.now c.in_ok-number.number c.try_from.result (sym c.in_ok-number.ensures) c.try_from.ensures
+    c.from_residual-in_err-ok.ensures ∙ ap (option_map of) (sym c.in_err-ok.was ∙ c.ok.ensures.value)
+    ∙ version_read c.args.word.now c.in_ok-number.number c.try_from.result (sym c.in_ok-number.ensures) c.try_from.ensures
 
 pub returns : goal.returns
 returns c =

@@ -17,6 +17,8 @@ note_block-loop-statement-init t c =
 
 pub note_block-loop-statement-preserved : goal.note_block-loop-statement-preserved
 note_block-loop-statement-preserved t c = record {
-  ready = statements_left c.args.shape.now HasAll c.deref-statement-items.result.now c.loop-statement.statement-index c.statement-item.result c.loop-statement-test.true c.statement-item.is c.loop-statement.invariant.ready;
-  rest = statements_noted c.args.shape.now c.deref-statement-items.result.now c.loop-statement.statement-index c.statement-item.result _ _ _ c.loop-statement-test.true c.statement-item.is c.in_ok-note_statement.ensures c.loop-statement.invariant.rest;
+  ready = statements_left c.args.shape.now HasAll c.deref-statement-items.result.now c.loop-statement.statement-index c.statement-item.result
+      c.loop-statement-test.true c.statement-item.is c.loop-statement.invariant.ready;
+  rest = statements_noted c.args.shape.now c.deref-statement-items.result.now c.loop-statement.statement-index c.statement-item.result _ _ _
+      c.loop-statement-test.true c.statement-item.is c.in_ok-note_statement.ensures c.loop-statement.invariant.rest;
 }

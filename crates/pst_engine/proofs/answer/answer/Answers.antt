@@ -50,22 +50,26 @@ drop_run-requires g c =
 
 pub returns-in-Run-clause-ok : goal.returns-in-Run-clause-ok
 returns-in-Run-clause-ok g c =
-    let Q : Command → Type 0 = λ x. IfOk c.run.result (Carries (g.C.Meant.meant c.args.code.now) c.args.engine.now (g.H.HeapAt.state c.args.heap.now) x c.run.new.engine (g.H.HeapAt.state c.run.new.heap)) in
+    let Q : Command → Type 0 = λ x. IfOk c.run.result (Carries (g.C.Meant.meant c.args.code.now) c.args.engine.now (g.H.HeapAt.state c.args.heap.now)
+    x c.run.new.engine (g.H.HeapAt.state c.run.new.heap)) in
     subst Q (sym c.in-Run.is) c.run.ensures.ok
 
 pub returns-in-CallRun-clause-ok : goal.returns-in-CallRun-clause-ok
 returns-in-CallRun-clause-ok g c =
-    let Q : Command → Type 0 = λ x. IfOk c.call_run.result (Carries (g.C.Meant.meant c.args.code.now) c.args.engine.now (g.H.HeapAt.state c.args.heap.now) x c.call_run.new.engine (g.H.HeapAt.state c.call_run.new.heap)) in
+    let Q : Command → Type 0 = λ x. IfOk c.call_run.result (Carries (g.C.Meant.meant c.args.code.now) c.args.engine.now
+    (g.H.HeapAt.state c.args.heap.now) x c.call_run.new.engine (g.H.HeapAt.state c.call_run.new.heap)) in
     subst Q (sym c.in-CallRun.is) c.call_run.ensures.ok
 
 pub returns-in-StepRun-clause-ok : goal.returns-in-StepRun-clause-ok
 returns-in-StepRun-clause-ok g c =
-    let Q : Command → Type 0 = λ x. IfOk c.step_run.result (Carries (g.C.Meant.meant c.args.code.now) c.args.engine.now (g.H.HeapAt.state c.args.heap.now) x c.step_run.new.engine (g.H.HeapAt.state c.step_run.new.heap)) in
+    let Q : Command → Type 0 = λ x. IfOk c.step_run.result (Carries (g.C.Meant.meant c.args.code.now) c.args.engine.now
+    (g.H.HeapAt.state c.args.heap.now) x c.step_run.new.engine (g.H.HeapAt.state c.step_run.new.heap)) in
     subst Q (sym c.in-StepRun.is) c.step_run.ensures.ok
 
 pub returns-in-CloseRun-clause-ok : goal.returns-in-CloseRun-clause-ok
 returns-in-CloseRun-clause-ok g c =
-    let Q : Command → Type 0 = λ x. IfOk c.close_run.result (Carries (g.C.Meant.meant c.args.code.now) c.args.engine.now (g.H.HeapAt.state c.args.heap.now) x c.close_run.new.engine (g.H.HeapAt.state c.close_run.new.heap)) in
+    let Q : Command → Type 0 = λ x. IfOk c.close_run.result (Carries (g.C.Meant.meant c.args.code.now) c.args.engine.now
+    (g.H.HeapAt.state c.args.heap.now) x c.close_run.new.engine (g.H.HeapAt.state c.close_run.new.heap)) in
     subst Q (sym c.in-CloseRun.is) c.close_run.ensures.ok
 
 pub returns-in-DropRun-clause-ok : goal.returns-in-DropRun-clause-ok
@@ -83,7 +87,8 @@ returns-in-Budget-clause-ok g c =
     let charges = c.in-Budget.charges in
     let Q : Command → Type 0 = λ l. Carries code engine s l (record engine { budget = charges }) s (answer.BudgetSet charges) in
     subst Q (sym c.in-Budget.is) (λ h stand none. record {
-      stands = λ range. budget-keeps m (machine_runs code.parts) s engine.active.items.items engine.budget charges engine.next_run.0 h (budget-set m c.known.ensures.lawful h charges range stand.sound none) stand;
+      stands = λ range. budget-keeps m (machine_runs code.parts) s engine.active.items.items engine.budget charges engine.next_run.0 h
+          (budget-set m c.known.ensures.lawful h charges range stand.sound none) stand;
       reply = refl;
     })
 
@@ -95,4 +100,8 @@ returns-in_ok-parents-in-Versions-clause-ok g c =
     let engine = c.args.engine.now in
     let list = c.in_ok-parents-in-Versions.field-0 in
     let Q : Command → Type 0 = λ l. Carries code engine s l engine s (answer.VersionList list) in
-    subst Q (sym c.in-Versions.is) (λ h stand none. record { stands = λ range. stand; reply = ap answer.VersionList (c.in_ok-parents-in-Versions.ensures ∙ parents-are m s h stand.sound stand.versions) })
+    subst Q (sym c.in-Versions.is) (λ h stand none. record {
+      stands = λ range. stand;
+      reply =
+          ap answer.VersionList (c.in_ok-parents-in-Versions.ensures ∙ parents-are m s h stand.sound stand.versions);
+    })

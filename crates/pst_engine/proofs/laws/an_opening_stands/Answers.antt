@@ -13,4 +13,5 @@ returns g c =
     let s = g.H.HeapAt.state c.args.heap.now in
     let engine = c.args.engine.now in
     subst (λ items. StandsFor m x items engine.budget engine.next_run.0 s (begun (opening_of s engine.next_run.0 engine.budget))) (sym c.requires.idle)
-    (begins m c.known-2.ensures.lawful s c.known.ensures c.known_versions.ensures engine.next_run.0 engine.budget c.requires.heap c.requires.next_run.0 c.requires.next_run.1 c.requires.budget.0 c.requires.budget.1 x)
+    (begins m c.known-2.ensures.lawful s c.known.ensures c.known_versions.ensures engine.next_run.0 engine.budget c.requires.heap
+    c.requires.next_run.0 c.requires.next_run.1 c.requires.budget.0 c.requires.budget.1 x)

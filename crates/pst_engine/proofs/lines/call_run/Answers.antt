@@ -7,10 +7,23 @@ use Rattle.pst_engine.proofs.lines.call_run.Goals as goal
 pub index_of-at-requires : goal.index_of-at-requires
 index_of-at-requires g c =
     let may = c.requires in
-    open-found-if (g.C.Meant.meant c.args.code.now).meaning (machine_runs (g.C.Meant.meant c.args.code.now).parts) (g.H.HeapAt.state c.args.heap.now) c.args.engine.now.active.items.items c.args.engine.now.budget c.args.engine.now.next_run.0 may.history may.stands c.args.run (call-open (g.C.Meant.meant c.args.code.now).meaning may.history c.args.run c.args.procedure.now c.args.arguments.now may.accepted)
+    open-found-if (g.C.Meant.meant c.args.code.now).meaning (machine_runs (g.C.Meant.meant c.args.code.now).parts) (g.H.HeapAt.state c.args.heap.now)
+    c.args.engine.now.active.items.items c.args.engine.now.budget c.args.engine.now.next_run.0 may.history may.stands c.args.run
+    (call-open (g.C.Meant.meant c.args.code.now).meaning may.history c.args.run c.args.procedure.now c.args.arguments.now may.accepted)
 
 pub call-requires-clause-stands : goal.call-requires-clause-stands
-call-requires-clause-stands g c = record { budget = c.args.engine.now.budget; next = c.args.engine.now.next_run.0; history = c.requires.history; stands = c.requires.stands; may = may-call (g.C.Meant.meant c.args.code.now).meaning c.requires.history c.args.run c.args.procedure.now c.args.arguments.now c.requires.accepted }
+call-requires-clause-stands g c = record {
+  budget = c.args.engine.now.budget;
+  next = c.args.engine.now.next_run.0;
+  history =
+      c.requires.history;
+  stands = c.requires.stands;
+  may = may-call (g.C.Meant.meant c.args.code.now).meaning c.requires.history c.args.run
+      c.args.procedure.now c.args.arguments.now c.requires.accepted;
+}
 
 pub returns-clause-ok : goal.returns-clause-ok
-returns-clause-ok g c = if-ok-map c.call.result c.call.ensures.ok (λ r all h stand none. let is = all c.args.engine.now.budget c.args.engine.now.next_run.0 h stand (may-call (g.C.Meant.meant c.args.code.now).meaning h c.args.run c.args.procedure.now c.args.arguments.now none) in record { stands = λ range. is.stands; reply = is.reply })
+returns-clause-ok g c = if-ok-map c.call.result c.call.ensures.ok
+    (λ r all h stand none. let is = all c.args.engine.now.budget c.args.engine.now.next_run.0 h stand
+    (may-call (g.C.Meant.meant c.args.code.now).meaning h c.args.run c.args.procedure.now c.args.arguments.now none) in
+    record { stands = λ range. is.stands; reply = is.reply })

@@ -5,7 +5,12 @@ use Rattle.pst_engine.proofs.Commands.{opened-reply}
 use Rattle.pst_engine.proofs.lines.open_empty.Goals as goal
 
 pub open-requires : goal.open-requires
-open-requires g c = record { history = c.requires.history; stands = c.requires.stands; may = empty-opens (g.C.Meant.meant c.args.code.now).meaning c.requires.history c.args.version c.requires.accepted }
+open-requires g c = record {
+  history = c.requires.history;
+  stands = c.requires.stands;
+  may =
+      empty-opens (g.C.Meant.meant c.args.code.now).meaning c.requires.history c.args.version c.requires.accepted;
+}
 
 pub overflow_add-engine : goal.overflow_add-engine
 overflow_add-engine g c =
@@ -18,4 +23,9 @@ overflow_add-engine g c =
 pub returns-clause-ok : goal.returns-clause-ok
 returns-clause-ok g c = λ h stand none.
     let m = (g.C.Meant.meant c.args.code.now).meaning in
-    record { stands = λ range. c.in_ok-open.ensures.ok h stand (empty-opens m h c.args.version none); reply = opened-reply m (machine_runs (g.C.Meant.meant c.args.code.now).parts) (g.H.HeapAt.state c.args.heap.now) c.args.engine.now.active.items.items c.args.engine.now.budget c.args.engine.now.next_run h stand }
+    record {
+      stands = λ range. c.in_ok-open.ensures.ok h stand (empty-opens m h c.args.version none);
+      reply =
+          opened-reply m (machine_runs (g.C.Meant.meant c.args.code.now).parts) (g.H.HeapAt.state c.args.heap.now) c.args.engine.now.active.items.items
+          c.args.engine.now.budget c.args.engine.now.next_run h stand;
+    }

@@ -49,7 +49,9 @@ returns-clause-ok g c = λ h stand may.
     let e : OpenEntry _ _ _ = record { run = c.args.next_run; parent = c.args.version; calls = 0; activation = a } in
     let items : c.push.new.self.items ≡ c.args.active.now.items ++ e ∷ [] = c.in_ok-push.ensures.items in
     subst (λ items. StandsFor m x items c.args.budget (c.args.next_run.0 + 1) t (opened h c.args.version [])) (sym items)
-    (open-keeps m x c.known-2.ensures.lawful s t (c.known-2.ensures.stays c.args.heap.now c.fork.new.self) c.known_versions.ensures c.known.ensures.written c.args.active.now.items c.args.budget c.args.next_run.0 h stand c.args.version may w.0 w.1 place a c.args.next_run refl f c.in_ok-activation.ensures.place stands)
+    (open-keeps m x c.known-2.ensures.lawful s t (c.known-2.ensures.stays c.args.heap.now c.fork.new.self) c.known_versions.ensures
+    c.known.ensures.written c.args.active.now.items c.args.budget c.args.next_run.0 h stand c.args.version may w.0 w.1 place a c.args.next_run
+    refl f c.in_ok-activation.ensures.place stands)
 
 pub returns-clause-at : goal.returns-clause-at
 returns-clause-at g c =
@@ -59,17 +61,20 @@ returns-clause-at g c =
     let ok = c.args.active.now.ok in let at : c.len-at.result ≡ length active = c.len-at.ensures ∙ ok.0 in
     let more : length c.push.new.self.items ≡ length active + 1 = ap (λ xs. length xs) items ∙ length-append active (e ∷ []) in (
       omega arith,
-      if-some (λ f. f.run ≡ c.args.next_run) (slice_get c.push.new.self.items c.len-at.result) e (ap (slice_get c.push.new.self.items) at ∙ ap (λ xs. slice_get xs (length active)) items ∙ slice_get-last active e) refl,
+      if-some (λ f. f.run ≡ c.args.next_run) (slice_get c.push.new.self.items c.len-at.result) e
+          (ap (slice_get c.push.new.self.items) at ∙ ap (λ xs. slice_get xs (length active)) items ∙ slice_get-last active e) refl,
     )
 
 pub returns-clause-stay : goal.returns-clause-stay
 returns-clause-stay g c = stay-forked (g.H.HeapAt.state c.args.heap.now) (g.H.HeapAt.state c.fork.new.self) c.place_at.result c.in_ok-place.place c.known_versions.ensures c.in_ok-place.ensures.ok
 
 pub returns-in_err-activation-clause-stay : goal.returns-in_err-activation-clause-stay
-returns-in_err-activation-clause-stay g c = stay-forked (g.H.HeapAt.state c.args.heap.now) (g.H.HeapAt.state c.fork.new.self) c.place_at.result c.in_ok-place.place c.known_versions.ensures c.in_ok-place.ensures.ok
+returns-in_err-activation-clause-stay g c = stay-forked (g.H.HeapAt.state c.args.heap.now) (g.H.HeapAt.state c.fork.new.self) c.place_at.result
+    c.in_ok-place.place c.known_versions.ensures c.in_ok-place.ensures.ok
 
 pub returns-in_err-place-clause-stay : goal.returns-in_err-place-clause-stay
 returns-in_err-place-clause-stay g c = stay-refused (g.H.HeapAt.state c.args.heap.now) (g.H.HeapAt.state c.fork.new.self) c.known_versions.ensures c.in_err-place.ensures.err
 
 pub returns-in_err-push-clause-stay : goal.returns-in_err-push-clause-stay
-returns-in_err-push-clause-stay g c = stay-forked (g.H.HeapAt.state c.args.heap.now) (g.H.HeapAt.state c.fork.new.self) c.place_at.result c.in_ok-place.place c.known_versions.ensures c.in_ok-place.ensures.ok
+returns-in_err-push-clause-stay g c = stay-forked (g.H.HeapAt.state c.args.heap.now) (g.H.HeapAt.state c.fork.new.self) c.place_at.result
+    c.in_ok-place.place c.known_versions.ensures c.in_ok-place.ensures.ok

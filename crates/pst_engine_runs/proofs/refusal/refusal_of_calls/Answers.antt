@@ -22,7 +22,8 @@ returns-then-active-at-ge-CALLS g c =
     let e = c.index-active-at.result in
     let is : position (is_run c.args.run) active ≡ Some c.in-Some.at = sym c.entry_at.ensures ∙ c.in-Some.is in
     let found = entry-at active c.in-Some.at e (found-at active c.args.run c.in-Some.at is).within c.index-active-at.is in
-    let full : nat_le CALLS e.calls ≡ true = is_full e.calls (subst (λ (z : OpenEntry g.row.H.Denot g.row.H-Ref.Denot g.row.H-Place.Denot). CALLS ≤ z.calls) (sym c.index-active-at.is) c.if-active-at-ge-CALLS.true) in
+    let full : nat_le CALLS e.calls ≡ true = is_full e.calls (subst
+    (λ (z : OpenEntry g.row.H.Denot g.row.H-Ref.Denot g.row.H-Place.Denot). CALLS ≤ z.calls) (sym c.index-active-at.is) c.if-active-at-ge-CALLS.true) in
     sym (ap calls_by (entry_of-at active c.args.run c.in-Some.at e is found) ∙ ap (λ b. when b because.Calls) full)
 
 pub returns-else-active-at-ge-CALLS : goal.returns-else-active-at-ge-CALLS
@@ -31,5 +32,7 @@ returns-else-active-at-ge-CALLS g c =
     let e = c.index-active-at.result in
     let is : position (is_run c.args.run) active ≡ Some c.in-Some.at = sym c.entry_at.ensures ∙ c.in-Some.is in
     let found = entry-at active c.in-Some.at e (found-at active c.args.run c.in-Some.at is).within c.index-active-at.is in
-    let room : nat_le CALLS e.calls ≡ false = has_room e.calls (subst (λ (z : OpenEntry g.row.H.Denot g.row.H-Ref.Denot g.row.H-Place.Denot). z.calls < CALLS) (sym c.index-active-at.is) c.if-active-at-ge-CALLS.false) in
+    let room : nat_le CALLS e.calls ≡ false = has_room e.calls
+    (subst (λ (z : OpenEntry g.row.H.Denot g.row.H-Ref.Denot g.row.H-Place.Denot). z.calls < CALLS) (sym c.index-active-at.is)
+    c.if-active-at-ge-CALLS.false) in
     sym (ap calls_by (entry_of-at active c.args.run c.in-Some.at e is found) ∙ ap (λ b. when b because.Calls) room)

@@ -16,7 +16,8 @@ call_of-requires g c =
     let parts = (g.C.Meant.meant c.args.code.now).parts in
     let some = c.requires.1 in
     subst (λ (x : Parts). IsSome (procedure_named x c.args.procedure.now)) (sym c.code-code.ensures.code)
-    (named_some parts (g.C.Meant.meant c.args.code.now).meaning c.code-code.ensures.means (runs_of (λ a. a.stage) parts) (g.H.HeapAt.state c.requires.0) c.args.activation.now some.0 some.1 some.2 some.3 _ some.4)
+    (named_some parts (g.C.Meant.meant c.args.code.now).meaning c.code-code.ensures.means (runs_of (λ a. a.stage) parts)
+    (g.H.HeapAt.state c.requires.0) c.args.activation.now some.0 some.1 some.2 some.3 _ some.4)
 
 pub add-requires-clause-fits : goal.add-requires-clause-fits
 add-requires-clause-fits g c =
@@ -26,7 +27,8 @@ add-requires-clause-fits g c =
     let d = c.in_ok-call.call in
     let same : task_call d ≡ code_call parts call = subst (λ (x : Parts). task_call d ≡ code_call x call) c.code-code.ensures.code c.in_ok-call.ensures in
     subst (λ (x : Parts). TakesNumbers (slice_get x.procedures d.procedure.0) (length d.arguments)) (sym c.code-code.ensures.code)
-    (call_may parts (g.C.Meant.meant c.args.code.now).meaning c.code-code.ensures.means (runs_of (λ a. a.stage) parts) (g.H.HeapAt.state c.requires.0) c.args.activation.now some.0 some.1 some.2 some.3 call some.4 d same).takes
+    (call_may parts (g.C.Meant.meant c.args.code.now).meaning c.code-code.ensures.means (runs_of (λ a. a.stage) parts) (g.H.HeapAt.state c.requires.0)
+    c.args.activation.now some.0 some.1 some.2 some.3 call some.4 d same).takes
 
 pub returns-clause-waits : goal.returns-clause-waits
 returns-clause-waits g c =
@@ -35,5 +37,6 @@ returns-clause-waits g c =
     let d = c.in_ok-call.call in
     let same : task_call d ≡ code_call parts call = subst (λ (x : Parts). task_call d ≡ code_call x call) c.code-code.ensures.code c.in_ok-call.ensures in
     on_ok_weaker c.add.result
-    (λ added h w k y counts may. added_stands_as parts (g.C.Meant.meant c.args.code.now).meaning c.code-code.ensures.means (λ a. a.stage) (g.H.HeapAt.state h) c.args.activation.now c.add.new.self.stage w k y counts call d may same added)
+    (λ added h w k y counts may. added_stands_as parts (g.C.Meant.meant c.args.code.now).meaning c.code-code.ensures.means (λ a. a.stage)
+    (g.H.HeapAt.state h) c.args.activation.now c.add.new.self.stage w k y counts call d may same added)
     c.add.ensures.ok

@@ -14,5 +14,7 @@ returns-clause-ok g c = λ w k y counts waits.
     let b = c.advance.new.self in
     let ok = subst (λ (x : Parts). Advanced x s a.stage c.args.charges c.in_ok-progress.progress t b.stage) c.code-code.ensures.code c.in_ok-progress.ensures.ok in
     let ready = subst (λ (x : Parts). IsReady x t b.stage) c.code-code.ensures.code c.in_ok-progress.ensures.ready.0 in
-    any_advanced parts m c.code-code.ensures.means c.code-code.ensures.lawful w y waits.ready (λ x. x.stage) s a k counts waits.waits waits.granted_within t b c.args.charges c.in_ok-progress.progress c.ended_of.result (trap_of a.stage.ended) refl ok (ready, c.in_ok-progress.ensures.ready.1)
+    any_advanced parts m c.code-code.ensures.means c.code-code.ensures.lawful w y waits.ready (λ x. x.stage) s a k counts waits.waits
+    waits.granted_within t b c.args.charges c.in_ok-progress.progress c.ended_of.result (trap_of a.stage.ended) refl ok
+    (ready, c.in_ok-progress.ensures.ready.1)
     (λ some. ap g.H.HeapAt.state (c.advance.ensures.over waits.waits.works some).1) c.ended_of.ensures

@@ -29,7 +29,8 @@ run_body-returns-in-On-clause-meaning t c =
     let w = world_of c.run_block.new.heap c.run_block.new.work.tally in
     ap (λ v. Returned v w) c.default_result.ensures
     ∙ ap (λ f. leave c.in-Some.p.now.result (ending_of (end_of f c.run_block.new.work.end) c.run_block.new.env.items w)) (sym c.in-On.is)
-    ∙ body_left c.args.program.now.shape calls c.args.program.now.procedures.items.items c.args.procedure c.args.values.items (world_of c.args.heap.now c.args.work.now.tally) c.in-Some.p.now _ _ c.in-Some.ensures (search rules) c.in_ok-run_block-in-Some.ensures.meaning
+    ∙ body_left c.args.program.now.shape calls c.args.program.now.procedures.items.items c.args.procedure c.args.values.items
+    (world_of c.args.heap.now c.args.work.now.tally) c.in-Some.p.now _ _ c.in-Some.ensures (search rules) c.in_ok-run_block-in-Some.ensures.meaning
 
 pub run_body-returns-clause-meaning : goal.run_body-returns-clause-meaning
 run_body-returns-clause-meaning t c =
@@ -37,7 +38,9 @@ run_body-returns-clause-meaning t c =
     let w = world_of c.run_block.new.heap c.run_block.new.work.tally in
     sym (leave_other end c.in-Some.p.now.result c.run_block.new.env.items w (c.in_ok-run_block-in-Some.ensures.over c.in-Over.is))
     ∙ ap (λ f. leave c.in-Some.p.now.result (ending_of (end_of f end) c.run_block.new.env.items w)) (sym c.in-Over.is)
-    ∙ body_left c.args.program.now.shape (call (routines_of c.args.program.now) c.args.deep) c.args.program.now.procedures.items.items c.args.procedure c.args.values.items (world_of c.args.heap.now c.args.work.now.tally) c.in-Some.p.now _ _ c.in-Some.ensures (search rules) c.in_ok-run_block-in-Some.ensures.meaning
+    ∙ body_left c.args.program.now.shape (call (routines_of c.args.program.now) c.args.deep) c.args.program.now.procedures.items.items
+    c.args.procedure c.args.values.items (world_of c.args.heap.now c.args.work.now.tally) c.in-Some.p.now _ _ c.in-Some.ensures (search rules)
+    c.in_ok-run_block-in-Some.ensures.meaning
 
 pub run_call-returns-then-deep-eq0-clause-meaning :
     goal.run_call-returns-then-deep-eq0-clause-meaning
@@ -45,17 +48,22 @@ run_call-returns-then-deep-eq0-clause-meaning t c = sym (call_at_most _ _ _ _ _ 
 
 pub run_call-returns-clause-meaning : goal.run_call-returns-clause-meaning
 run_call-returns-clause-meaning t c =
-    rw (call_below (routines_of c.args.program.now) c.args.deep c.args.procedure c.args.values.items c.args.line (world_of c.args.heap.now c.args.work.now.tally) c.if-deep-eq0.false) c.run_body.ensures.meaning
+    rw (call_below (routines_of c.args.program.now) c.args.deep c.args.procedure c.args.values.items c.args.line
+    (world_of c.args.heap.now c.args.work.now.tally) c.if-deep-eq0.false) c.run_body.ensures.meaning
 
 pub run_while-returns-in-None-clause-meaning : goal.run_while-returns-in-None-clause-meaning
 run_while-returns-in-None-clause-meaning t c =
     turned c.turns.invariant.rest.0 _ _ _ _ _ _ _ (Err c.choose.new.work.end) _ c.turns.invariant.rest.1 c.turns.invariant.rest.2
-    (shown c.args.program.now.shape c.turns.heap.shape (expr_of c.args.e.now) c.args.line c.turns.env.items c.deref.result.now (world_of c.turns.heap c.turns.work.tally) (world_of c.turns.heap c.choose.new.work.tally) (Err c.choose.new.work.end) c.turns.invariant.ready.shaped c.deref.ensures.value c.in-None.ensures.meaning)
+    (shown c.args.program.now.shape c.turns.heap.shape (expr_of c.args.e.now) c.args.line c.turns.env.items c.deref.result.now
+    (world_of c.turns.heap c.turns.work.tally) (world_of c.turns.heap c.choose.new.work.tally) (Err c.choose.new.work.end)
+    c.turns.invariant.ready.shaped c.deref.ensures.value c.in-None.ensures.meaning)
 
 pub run_while-returns-in-Over-clause-meaning : goal.run_while-returns-in-Over-clause-meaning
 run_while-returns-in-Over-clause-meaning t c =
     let end = c.run_block.new.work.end in
     over c.turns.invariant.rest.0 _ _ _ _ _ _ _ _ _ _ end _ c.in-Some-true.field-0-test c.turns.invariant.rest.1 c.turns.invariant.rest.2
-    (shown c.args.program.now.shape c.turns.heap.shape (expr_of c.args.e.now) c.args.line c.turns.env.items c.deref.result.now (world_of c.turns.heap c.turns.work.tally) (world_of c.turns.heap c.choose.new.work.tally) (Ok c.in-Some-true.field-0) c.turns.invariant.ready.shaped c.deref.ensures.value c.in-Some-true.ensures.meaning)
+    (shown c.args.program.now.shape c.turns.heap.shape (expr_of c.args.e.now) c.args.line c.turns.env.items c.deref.result.now
+    (world_of c.turns.heap c.turns.work.tally) (world_of c.turns.heap c.choose.new.work.tally) (Ok c.in-Some-true.field-0)
+    c.turns.invariant.ready.shaped c.deref.ensures.value c.in-Some-true.ensures.meaning)
     (ap (λ f. ending_of (end_of f end) c.run_block.new.env.items (world_of c.run_block.new.heap c.run_block.new.work.tally)) (sym c.in-Over.is) ∙ c.in_ok-run_block.ensures.meaning)
     (c.in_ok-run_block.ensures.over c.in-Over.is)

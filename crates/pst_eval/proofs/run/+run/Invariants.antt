@@ -40,7 +40,8 @@ invariant-run_while-turns l = record {
   fewer : l.work.tally.charges ≤ l.fn.work.tally.charges;
   rest : (n : ℕ) × (l.work.tally.charges ≤ n)
       × (turns n l.program.shape (expr_of l.e) (exec l.program.shape (call (routines_of l.program) l.deep) (actions_of l.body)) l.line l.env.items (world_of l.heap l.work.tally)
-      ≡ turns l.fn.work.tally.charges l.program.shape (expr_of l.e) (exec l.program.shape (call (routines_of l.program) l.deep) (actions_of l.body)) l.line l.fn.env.items (world_of l.fn.heap l.fn.work.tally));
+      ≡ turns l.fn.work.tally.charges l.program.shape (expr_of l.e) (exec l.program.shape (call (routines_of l.program) l.deep) (actions_of l.body))
+      l.line l.fn.env.items (world_of l.fn.heap l.fn.work.tally));
 }
 
 abbrev pub decreases-run_while-turns : goal.decreases-run_while-turns

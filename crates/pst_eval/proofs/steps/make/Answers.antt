@@ -11,7 +11,9 @@ pub make-requires-clause-fresh : goal.make-requires-clause-fresh
 make-requires-clause-fresh c =
     let taken = c.charge.ensures.taken c.if-not-charge.false in
     let name : Tally → Name = λ t. record { run = t.run; ordinal = t.made } in
-    none-from_type c.args.heap.now.heap c.next_name-name.result (ap (λ (n : Name). type_in c.args.heap.now.heap n) (c.next_name-name.ensures ∙ ap name taken.1) ∙ c.requires.ready.fresh c.args.tally.now.made (omega arith))
+    none-from_type c.args.heap.now.heap c.next_name-name.result
+    (ap (λ (n : Name). type_in c.args.heap.now.heap n) (c.next_name-name.ensures ∙ ap name taken.1)
+    ∙ c.requires.ready.fresh c.args.tally.now.made (omega arith))
 
 pub returns-clause-ready : goal.returns-clause-ready
 returns-clause-ready c =

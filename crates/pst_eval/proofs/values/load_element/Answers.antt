@@ -1,6 +1,6 @@
 use Rattle.std.proofs.Common.{◌+◌, ℕ, Option, ap, sym, ◌∙◌}
 use Rattle.pst_program.specs.Value.{load_element}
-use Rattle.pst_eval.proofs.Values.{load_kept}
+use Rattle.pst_eval.proofs.ValueElements.{load_kept}
 use Rattle.pst_eval.proofs.values.load_element.Goals as goal
 
 pub returns-in-Some : goal.returns-in-Some

@@ -6,4 +6,5 @@ returns-in-Ok c = tree_found c.args.text.items c.in-Ok.tree (rw c.deref.ensures.
 
 pub returns : goal.returns
 returns c =
-    rw c.into.ensures (parsing_refused c.args.text.items c.in-Err.fault (rw c.deref-in-Err.ensures.value at c.in_ok-find_fault-in-Err.ensures.exact) (rw c.deref.ensures.value at c.in-Err.ensures.unexpected) (rw c.deref.ensures.value at c.in-Err.ensures.deep))
+    rw c.into.ensures (parsing_refused c.args.text.items c.in-Err.fault (rw c.deref-in-Err.ensures.value at c.in_ok-find_fault-in-Err.ensures.exact)
+    (rw c.deref.ensures.value at c.in-Err.ensures.unexpected) (rw c.deref.ensures.value at c.in-Err.ensures.deep))

@@ -6,4 +6,5 @@ pub returns-then-parameters-arguments : goal.returns-then-parameters-arguments
 returns-then-parameters-arguments c = c.all_numbers.ensures ∙ fits-lengths c.args.parameters.now c.args.arguments.now c.if-parameters-arguments.true
 
 pub returns-else-parameters-arguments : goal.returns-else-parameters-arguments
-returns-else-parameters-arguments c = unequal (length c.args.parameters.now) (length c.args.arguments.now) c.if-parameters-arguments.false ∙ unfit-lengths c.args.parameters.now c.args.arguments.now c.if-parameters-arguments.false
+returns-else-parameters-arguments c = unequal (length c.args.parameters.now) (length c.args.arguments.now) c.if-parameters-arguments.false
+    ∙ unfit-lengths c.args.parameters.now c.args.arguments.now c.if-parameters-arguments.false

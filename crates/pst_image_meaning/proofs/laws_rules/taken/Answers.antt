@@ -1,5 +1,5 @@
 use Rattle.pst_image_meaning.proofs.Built.{built_law}
-use Rattle.pst_image_meaning.proofs.Rules.{chains_law}
+use Rattle.pst_image_meaning.proofs.StoreRules.{chains_law}
 use Rattle.pst_image_meaning.proofs.Whole.{taken_law}
 use Rattle.pst_image_meaning.proofs.laws_rules.taken.Goals as goal
 

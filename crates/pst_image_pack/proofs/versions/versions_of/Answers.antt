@@ -8,7 +8,8 @@ use Rattle.pst_image_pack.proofs.versions.versions_of.Goals as goal
 
 pub loop-version-preserved : goal.loop-version-preserved
 loop-version-preserved g c = record {
-  made = map_step (part_of_version (position_in c.args.positions.now)) (state_in c.args.store.now).versions c.loop-version.version c.loop-version.parts.items c.push.new.self.items c.version_part.result
+  made = map_step (part_of_version (position_in c.args.positions.now)) (state_in c.args.store.now).versions c.loop-version.version
+      c.loop-version.parts.items c.push.new.self.items c.version_part.result
       c.in_ok-push.ensures.items (omega arith) c.loop-version.invariant.made c.version_part.ensures.part;
   fits = all_step FitsVersion c.loop-version.parts.items c.push.new.self.items c.version_part.result c.in_ok-push.ensures.items c.loop-version.invariant.fits c.version_part.ensures.fits;
 }

@@ -22,7 +22,9 @@ pub returns : goal.returns
 returns c =
     let found = subst (λ o. IsMarking c.args.nodes.now (option_map (λ m. m.items) o)) c.in-Some.is c.in_ok-marks.ensures in
     let marked = subst (λ m. AreMarked c.args.nodes.now (length c.args.nodes.now) m) (sym c.deref.ensures.value) found.1 in
-    let root : IsRootNode (node_at c.args.nodes.now 0) = subst IsRootNode (get_or_default c.args.nodes.now 0 c.index-nodes-0.result no_node c.requires.some) (subst IsRootNode c.index-nodes-0.is (c.if-not-is_root.ensures.0 refl)) in
+    let root : IsRootNode (node_at c.args.nodes.now 0) = subst IsRootNode
+    (get_or_default c.args.nodes.now 0 c.index-nodes-0.result no_node c.requires.some)
+    (subst IsRootNode c.index-nodes-0.is (c.if-not-is_root.ensures.0 refl)) in
     let named : (i : ℕ) → i < length c.args.nodes.now → IsNamed c.args.places c.args.next_run (node_at c.args.nodes.now i) = c.if-not-are_named.ensures.0 refl in
     if_ok (λ own. IsTrue own ↔ HaveOwnNames c.in_ok-heads_of.field-0.items) (λ own. IsTrue own ↔ AreChained c.args.places c.args.next_run c.args.nodes.now) c.have_own_names.result
     (λ own both. (

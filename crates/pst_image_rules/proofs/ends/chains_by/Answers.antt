@@ -9,7 +9,8 @@ pub loop-i-preserved : goal.loop-i-preserved
 loop-i-preserved c = elim c.if-not-marks-i.branch [
   | then-not-marks-i+in_ok-push w ↦ subst (λ (x : List Chain). AreChainsTo c.args.nodes.now c.args.marks.now (c.loop-i.i + 1) x) (sym (ap (λ v. v.items) w.chains-is ∙ w.in_ok-push.ensures.items))
       (one_more _ _ _ _ _ c.loop-i.invariant w.chain_of.ensures.head (chain_is _ _ _ _ c.requires.marked c.loop-i-test.true w.if-not-marks-i.true w.chain_of.ensures.head w.chain_of.ensures.last))
-  | else-not-marks-i w ↦ subst (λ (x : List Chain). AreChainsTo c.args.nodes.now c.args.marks.now (c.loop-i.i + 1) x) (sym (ap (λ v. v.items) w.chains-is)) (none_more _ _ _ _ c.loop-i.invariant w.if-not-marks-i.false)
+  | else-not-marks-i w ↦ subst (λ (x : List Chain). AreChainsTo c.args.nodes.now c.args.marks.now (c.loop-i.i + 1) x)
+      (sym (ap (λ v. v.items) w.chains-is)) (none_more _ _ _ _ c.loop-i.invariant w.if-not-marks-i.false)
 ]
 
 pub returns : goal.returns

@@ -11,7 +11,12 @@ later_of-later-requires-in-loop-later c =
 pub loop-later-smaller : goal.loop-later-smaller
 loop-later-smaller c =
     let later : (node_at c.args.nodes.now c.loop-later.node).later ≡ suc (c.loop-later.later - 1) = omega (arith, c.loop-later.invariant.same) in
-    omega (arith, (c.requires.linked.next c.loop-later.node (c.loop-later.later - 1) c.loop-later.invariant.there later).lo, c.requires.lives c.loop-later.node c.loop-later.invariant.there, c.requires.inside c.loop-later.node c.loop-later.invariant.there)
+    omega (
+      arith,
+      (c.requires.linked.next c.loop-later.node (c.loop-later.later - 1) c.loop-later.invariant.there later).lo,
+      c.requires.lives c.loop-later.node c.loop-later.invariant.there,
+      c.requires.inside c.loop-later.node c.loop-later.invariant.there,
+    )
 
 pub loop-later-preserved : goal.loop-later-preserved
 loop-later-preserved c =

@@ -28,30 +28,44 @@ is_bounded-requires-clause-value_writes c = (in_range c.args.shape.now c.args.pa
 
 pub returns-then-not-are_pointers_entered : goal.returns-then-not-are_pointers_entered
 returns-then-not-are_pointers_entered c =
-    fails_first c.args.shape.now c.args.parts.now Pointers _ (ArePointersEntered c.args.shape.now) c.as_slice-nodes.ensures c.requires.earlier (λ h. h) (λ h. never (c.if-not-are_pointers_entered.ensures.1 h))
+    fails_first c.args.shape.now c.args.parts.now Pointers _ (ArePointersEntered c.args.shape.now) c.as_slice-nodes.ensures c.requires.earlier
+    (λ h. h) (λ h. never (c.if-not-are_pointers_entered.ensures.1 h))
 
 pub returns-then-not-are_entries_pointed : goal.returns-then-not-are_entries_pointed
 returns-then-not-are_entries_pointed c =
-    let below_pointers = holds_too c.args.shape.now c.args.parts.now Pointers _ (ArePointersEntered c.args.shape.now) c.as_slice-nodes.ensures c.requires.earlier (λ h. h) (c.if-not-are_pointers_entered.ensures.0 refl) in
-    fails_first c.args.shape.now c.args.parts.now Entries _ (AreEntriesPointed c.args.shape.now) c.as_slice-nodes.ensures below_pointers (λ h. h) (λ h. never (c.if-not-are_entries_pointed.ensures.1 h))
+    let below_pointers = holds_too c.args.shape.now c.args.parts.now Pointers _ (ArePointersEntered c.args.shape.now) c.as_slice-nodes.ensures
+    c.requires.earlier (λ h. h) (c.if-not-are_pointers_entered.ensures.0 refl) in
+    fails_first c.args.shape.now c.args.parts.now Entries _ (AreEntriesPointed c.args.shape.now) c.as_slice-nodes.ensures below_pointers (λ h. h)
+    (λ h. never (c.if-not-are_entries_pointed.ensures.1 h))
 
 pub returns-then-not-are_within_capacity : goal.returns-then-not-are_within_capacity
 returns-then-not-are_within_capacity c =
-    let below_pointers = holds_too c.args.shape.now c.args.parts.now Pointers _ (ArePointersEntered c.args.shape.now) c.as_slice-nodes.ensures c.requires.earlier (λ h. h) (c.if-not-are_pointers_entered.ensures.0 refl) in
-    let below_entries = holds_too c.args.shape.now c.args.parts.now Entries _ (AreEntriesPointed c.args.shape.now) c.as_slice-nodes.ensures below_pointers (λ h. h) (c.if-not-are_entries_pointed.ensures.0 refl) in
-    fails_first c.args.shape.now c.args.parts.now Capacity _ (AreWithinCapacity c.args.shape.now) c.as_slice-nodes.ensures below_entries (λ h. h) (λ h. never (c.if-not-are_within_capacity.ensures.1 h))
+    let below_pointers = holds_too c.args.shape.now c.args.parts.now Pointers _ (ArePointersEntered c.args.shape.now) c.as_slice-nodes.ensures
+    c.requires.earlier (λ h. h) (c.if-not-are_pointers_entered.ensures.0 refl) in
+    let below_entries = holds_too c.args.shape.now c.args.parts.now Entries _ (AreEntriesPointed c.args.shape.now) c.as_slice-nodes.ensures
+    below_pointers (λ h. h) (c.if-not-are_entries_pointed.ensures.0 refl) in
+    fails_first c.args.shape.now c.args.parts.now Capacity _ (AreWithinCapacity c.args.shape.now) c.as_slice-nodes.ensures below_entries (λ h. h)
+    (λ h. never (c.if-not-are_within_capacity.ensures.1 h))
 
 pub returns-then-not-is_bounded : goal.returns-then-not-is_bounded
 returns-then-not-is_bounded c =
-    let below_pointers = holds_too c.args.shape.now c.args.parts.now Pointers _ (ArePointersEntered c.args.shape.now) c.as_slice-nodes.ensures c.requires.earlier (λ h. h) (c.if-not-are_pointers_entered.ensures.0 refl) in
-    let below_entries = holds_too c.args.shape.now c.args.parts.now Entries _ (AreEntriesPointed c.args.shape.now) c.as_slice-nodes.ensures below_pointers (λ h. h) (c.if-not-are_entries_pointed.ensures.0 refl) in
-    let below_capacity = holds_too c.args.shape.now c.args.parts.now Capacity _ (AreWithinCapacity c.args.shape.now) c.as_slice-nodes.ensures below_entries (λ h. h) (c.if-not-are_within_capacity.ensures.0 refl) in
-    fails_first c.args.shape.now c.args.parts.now Bound _ (IsBounded c.args.shape.now c.args.parts.now.counts) c.as_slice-nodes.ensures below_capacity (λ h. h) (λ h. never (c.if-not-is_bounded.ensures.1 h))
+    let below_pointers = holds_too c.args.shape.now c.args.parts.now Pointers _ (ArePointersEntered c.args.shape.now) c.as_slice-nodes.ensures
+    c.requires.earlier (λ h. h) (c.if-not-are_pointers_entered.ensures.0 refl) in
+    let below_entries = holds_too c.args.shape.now c.args.parts.now Entries _ (AreEntriesPointed c.args.shape.now) c.as_slice-nodes.ensures
+    below_pointers (λ h. h) (c.if-not-are_entries_pointed.ensures.0 refl) in
+    let below_capacity = holds_too c.args.shape.now c.args.parts.now Capacity _ (AreWithinCapacity c.args.shape.now) c.as_slice-nodes.ensures
+    below_entries (λ h. h) (c.if-not-are_within_capacity.ensures.0 refl) in
+    fails_first c.args.shape.now c.args.parts.now Bound _ (IsBounded c.args.shape.now c.args.parts.now.counts) c.as_slice-nodes.ensures below_capacity
+    (λ h. h) (λ h. never (c.if-not-is_bounded.ensures.1 h))
 
 pub returns : goal.returns
 returns c =
-    let below_pointers = holds_too c.args.shape.now c.args.parts.now Pointers _ (ArePointersEntered c.args.shape.now) c.as_slice-nodes.ensures c.requires.earlier (λ h. h) (c.if-not-are_pointers_entered.ensures.0 refl) in
-    let below_entries = holds_too c.args.shape.now c.args.parts.now Entries _ (AreEntriesPointed c.args.shape.now) c.as_slice-nodes.ensures below_pointers (λ h. h) (c.if-not-are_entries_pointed.ensures.0 refl) in
-    let below_capacity = holds_too c.args.shape.now c.args.parts.now Capacity _ (AreWithinCapacity c.args.shape.now) c.as_slice-nodes.ensures below_entries (λ h. h) (c.if-not-are_within_capacity.ensures.0 refl) in
-    let below_bound = holds_too c.args.shape.now c.args.parts.now Bound _ (IsBounded c.args.shape.now c.args.parts.now.counts) c.as_slice-nodes.ensures below_capacity (λ h. h) (c.if-not-is_bounded.ensures.0 refl) in
+    let below_pointers = holds_too c.args.shape.now c.args.parts.now Pointers _ (ArePointersEntered c.args.shape.now) c.as_slice-nodes.ensures
+    c.requires.earlier (λ h. h) (c.if-not-are_pointers_entered.ensures.0 refl) in
+    let below_entries = holds_too c.args.shape.now c.args.parts.now Entries _ (AreEntriesPointed c.args.shape.now) c.as_slice-nodes.ensures
+    below_pointers (λ h. h) (c.if-not-are_entries_pointed.ensures.0 refl) in
+    let below_capacity = holds_too c.args.shape.now c.args.parts.now Capacity _ (AreWithinCapacity c.args.shape.now) c.as_slice-nodes.ensures
+    below_entries (λ h. h) (c.if-not-are_within_capacity.ensures.0 refl) in
+    let below_bound = holds_too c.args.shape.now c.args.parts.now Bound _ (IsBounded c.args.shape.now c.args.parts.now.counts)
+    c.as_slice-nodes.ensures below_capacity (λ h. h) (c.if-not-is_bounded.ensures.0 refl) in
     all_hold c.args.shape.now c.args.parts.now below_bound

@@ -11,5 +11,6 @@ loop-number-preserved c =
     let known = c.requires.table.only c.loop-number.number-index low in
     let inside = c.requires.inside u (record { low = low; high = known.0 }) in
     let wide : parent_of c.args.versions.now u < length c.loop-number.bounds.items = omega (arith, inside.older, known.0, c.loop-number.invariant.same) in
-    let room : end_of c.args.versions.now u < get_or c.loop-number.bounds.items (parent_of c.args.versions.now u) 0 = omega (arith, get_or_default_zero c.loop-number.bounds.items (parent_of c.args.versions.now u) c.index.result.now wide, c.index.ensures) in
+    let room : end_of c.args.versions.now u < get_or c.loop-number.bounds.items (parent_of c.args.versions.now u) 0 =
+    omega (arith, get_or_default_zero c.loop-number.bounds.items (parent_of c.args.versions.now u) c.index.result.now wide, c.index.ensures) in
     one_of_run _ _ _ _ _ _ c.requires.inside c.requires.table c.loop-number.invariant (record { low = low; high = known.0 }) known.1 room

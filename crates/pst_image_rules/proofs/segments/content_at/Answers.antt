@@ -16,4 +16,5 @@ returns-then-is_there c =
     ∙ sym (begins_there c.args.node.now c.args.slot.0 c.args.place c.args.position c.if-place-node.false c.requires.position there.0 there.1)
 
 pub returns : goal.returns
-returns c = sym (begins_none c.args.node.now c.args.slot.0 c.args.place c.args.position c.if-place-node.false c.requires.sorted c.requires.position (λ lt. not_true _ (λ at. never (c.if-is_there.ensures.1 (lt, at)))))
+returns c = sym (begins_none c.args.node.now c.args.slot.0 c.args.place c.args.position c.if-place-node.false c.requires.sorted c.requires.position
+    (λ lt. not_true _ (λ at. never (c.if-is_there.ensures.1 (lt, at)))))

@@ -15,10 +15,12 @@ use Rattle.pst_image_unpack.proofs.Built.{range, nested, parents, in_chains, liv
 use Rattle.pst_image_unpack.proofs.building.parts_of.Goals as goal
 
 pub order_of_runs-requires-clause-some : goal.order_of_runs-requires-clause-some
-order_of_runs-requires-clause-some g c = let i = range c.args.shape.now c.args.parts.now c.requires.valid c.requires.fits c.requires.rules in let some = i.some_version in omega (arith, some, ap length c.as_slice-versions.ensures)
+order_of_runs-requires-clause-some g c = let i = range c.args.shape.now c.args.parts.now c.requires.valid c.requires.fits c.requires.rules in
+    let some = i.some_version in omega (arith, some, ap length c.as_slice-versions.ensures)
 
 pub order_of_runs-requires-clause-inside : goal.order_of_runs-requires-clause-inside
-order_of_runs-requires-clause-inside g c = subst (AreInside c.args.parts.now.next_run.0) (sym c.as_slice-versions.ensures) (nested c.args.shape.now c.args.parts.now c.requires.valid c.requires.fits c.requires.rules).inside
+order_of_runs-requires-clause-inside g c = subst (AreInside c.args.parts.now.next_run.0) (sym c.as_slice-versions.ensures)
+    (nested c.args.shape.now c.args.parts.now c.requires.valid c.requires.fits c.requires.rules).inside
 
 pub order_of_runs-requires-clause-own_run : goal.order_of_runs-requires-clause-own_run
 order_of_runs-requires-clause-own_run g c = subst HaveOwnRuns (sym c.as_slice-versions.ensures) (nested c.args.shape.now c.args.parts.now c.requires.valid c.requires.fits c.requires.rules).own_run
@@ -81,7 +83,9 @@ overflow_cast-calls g c =
 
 pub of_list-requires : goal.of_list-requires
 of_list-requires g c =
-    let h = listed c.args.shape.now c.args.parts.now c.requires.valid c.requires.fits c.requires.rules c.as_slice-versions.result.now c.in_ok-by_run.by_run.items c.deref.result.now c.in_ok-places.places.items c.as_slice-versions.ensures c.deref.ensures.value c.in_ok-by_run.ensures c.in_ok-places.ensures in
+    let h = listed c.args.shape.now c.args.parts.now c.requires.valid c.requires.fits c.requires.rules c.as_slice-versions.result.now
+    c.in_ok-by_run.by_run.items c.deref.result.now c.in_ok-places.places.items c.as_slice-versions.ensures c.deref.ensures.value
+    c.in_ok-by_run.ensures c.in_ok-places.ensures in
     let are : AreChains c.args.parts.now.nodes c.in_ok-relics.ensures.0 = subst (λ (ks : List NodePart). AreChains ks c.in_ok-relics.ensures.0) c.as_slice.ensures c.in_ok-relics.ensures.1 in
     let ready = are_ready c.args.shape.now c.args.parts.now c.requires.valid c.requires.fits c.requires.rules c.in_ok-by_run.by_run.items c.in_ok-places.places.items h c.in_ok-relics.ensures.0 are
     (g.O.Order.places c.in_ok-order.order) (seen c.in_ok-list.list.list.items) c.in_ok-order.ensures
@@ -108,7 +112,9 @@ overflow_sub-result g c = let i = range c.args.shape.now c.args.parts.now c.requ
 
 pub returns-clause-kept : goal.returns-clause-kept
 returns-clause-kept g c =
-    let h = listed c.args.shape.now c.args.parts.now c.requires.valid c.requires.fits c.requires.rules c.as_slice-versions.result.now c.in_ok-by_run.by_run.items c.deref.result.now c.in_ok-places.places.items c.as_slice-versions.ensures c.deref.ensures.value c.in_ok-by_run.ensures c.in_ok-places.ensures in
+    let h = listed c.args.shape.now c.args.parts.now c.requires.valid c.requires.fits c.requires.rules c.as_slice-versions.result.now
+    c.in_ok-by_run.by_run.items c.deref.result.now c.in_ok-places.places.items c.as_slice-versions.ensures c.deref.ensures.value
+    c.in_ok-by_run.ensures c.in_ok-places.ensures in
     let are : AreChains c.args.parts.now.nodes c.in_ok-relics.ensures.0 = subst (λ (ks : List NodePart). AreChains ks c.in_ok-relics.ensures.0) c.as_slice.ensures c.in_ok-relics.ensures.1 in
     let runs = range c.args.shape.now c.args.parts.now c.requires.valid c.requires.fits c.requires.rules in
     let some = runs.some_version in
@@ -116,7 +122,8 @@ returns-clause-kept g c =
     let there : 0 < length c.in_ok-places.places.items = omega (arith, some, many, ap length c.as_slice-versions.ensures) in
     let start : c.index.result.now ≡ get_or c.in_ok-places.places.items 0 no_place = c.index.ensures ∙ any_default c.in_ok-places.places.items 0 c.index.result.now no_place there in
     let nodes = c.in_ok-nodes.ensures.nodes ∙ c.in_ok-list.ensures.nodes ∙ ap (nodes_of c.args.shape.now) c.as_slice-2.ensures in
-    let versions = c.in_ok-tree.ensures ∙ ap (λ (vs : List VersionPart). rows_in vs c.deref-2.result.now) c.as_slice-versions.ensures ∙ ap (rows_in c.args.parts.now.versions) c.deref-2.ensures.value in
+    let versions = c.in_ok-tree.ensures ∙ ap (λ (vs : List VersionPart). rows_in vs c.deref-2.result.now) c.as_slice-versions.ensures
+    ∙ ap (rows_in c.args.parts.now.versions) c.deref-2.ensures.value in
     let forks = c.in_ok-forks.ensures ∙ ap (λ (vs : List VersionPart). forks_in vs c.deref-3.result.now c.deref-4.result.now) c.as_slice-versions.ensures
     ∙ ap (λ (ps : List Place). forks_in c.args.parts.now.versions ps c.deref-4.result.now) c.deref-3.ensures.value
     ∙ ap (forks_in c.args.parts.now.versions c.in_ok-places.places.items) c.deref-4.ensures.value in
@@ -140,7 +147,9 @@ returns-clause-kept g c =
 
 pub returns-clause-rebuilt : goal.returns-clause-rebuilt
 returns-clause-rebuilt g c =
-    let h = listed c.args.shape.now c.args.parts.now c.requires.valid c.requires.fits c.requires.rules c.as_slice-versions.result.now c.in_ok-by_run.by_run.items c.deref.result.now c.in_ok-places.places.items c.as_slice-versions.ensures c.deref.ensures.value c.in_ok-by_run.ensures c.in_ok-places.ensures in
+    let h = listed c.args.shape.now c.args.parts.now c.requires.valid c.requires.fits c.requires.rules c.as_slice-versions.result.now
+    c.in_ok-by_run.by_run.items c.deref.result.now c.in_ok-places.places.items c.as_slice-versions.ensures c.deref.ensures.value
+    c.in_ok-by_run.ensures c.in_ok-places.ensures in
     let are : AreChains c.args.parts.now.nodes c.in_ok-relics.ensures.0 = subst (λ (ks : List NodePart). AreChains ks c.in_ok-relics.ensures.0) c.as_slice.ensures c.in_ok-relics.ensures.1 in
     let runs = range c.args.shape.now c.args.parts.now c.requires.valid c.requires.fits c.requires.rules in
     let some = runs.some_version in
@@ -148,7 +157,8 @@ returns-clause-rebuilt g c =
     let there : 0 < length c.in_ok-places.places.items = omega (arith, some, many, ap length c.as_slice-versions.ensures) in
     let start : c.index.result.now ≡ get_or c.in_ok-places.places.items 0 no_place = c.index.ensures ∙ any_default c.in_ok-places.places.items 0 c.index.result.now no_place there in
     let nodes = c.in_ok-nodes.ensures.nodes ∙ c.in_ok-list.ensures.nodes ∙ ap (nodes_of c.args.shape.now) c.as_slice-2.ensures in
-    let versions = c.in_ok-tree.ensures ∙ ap (λ (vs : List VersionPart). rows_in vs c.deref-2.result.now) c.as_slice-versions.ensures ∙ ap (rows_in c.args.parts.now.versions) c.deref-2.ensures.value in
+    let versions = c.in_ok-tree.ensures ∙ ap (λ (vs : List VersionPart). rows_in vs c.deref-2.result.now) c.as_slice-versions.ensures
+    ∙ ap (rows_in c.args.parts.now.versions) c.deref-2.ensures.value in
     let forks = c.in_ok-forks.ensures ∙ ap (λ (vs : List VersionPart). forks_in vs c.deref-3.result.now c.deref-4.result.now) c.as_slice-versions.ensures
     ∙ ap (λ (ps : List Place). forks_in c.args.parts.now.versions ps c.deref-4.result.now) c.deref-3.ensures.value
     ∙ ap (forks_in c.args.parts.now.versions c.in_ok-places.places.items) c.deref-4.ensures.value in

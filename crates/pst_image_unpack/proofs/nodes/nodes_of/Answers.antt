@@ -4,7 +4,10 @@ use Rattle.pst_image_unpack.proofs.Lists.{there-at, seen-step, out-step}
 use Rattle.pst_image_unpack.proofs.nodes.nodes_of.Goals as goal
 
 pub node_of-requires : goal.node_of-requires
-node_of-requires c = record { few = c.requires.few c.loop-part.part-index c.part-item.result (there-at c.args.parts.now c.loop-part.part-index c.part-item.result c.loop-part-test.true c.part-item.is) }
+node_of-requires c = record {
+  few = c.requires.few c.loop-part.part-index c.part-item.result
+      (there-at c.args.parts.now c.loop-part.part-index c.part-item.result c.loop-part-test.true c.part-item.is);
+}
 
 pub loop-part-preserved : goal.loop-part-preserved
 loop-part-preserved c = record {

@@ -19,6 +19,7 @@ insert_after-requires-clause-few g c =
 pub loop-preserved : goal.loop-preserved
 loop-preserved g c =
     let last = c.loop.last.0 in
-    let (is, places) = next_place (g.O.Order.places c.loop.order) (g.O.Order.places c.insert_after.new.self) last c.in_ok-last.last.0 (c.loop.invariant.places ∙ ap places_of (sym c.loop.invariant.last)) c.in_ok-last.ensures.ok c.numbered-in-loop.ensures in
+    let (is, places) = next_place (g.O.Order.places c.loop.order) (g.O.Order.places c.insert_after.new.self) last c.in_ok-last.last.0
+    (c.loop.invariant.places ∙ ap places_of (sym c.loop.invariant.last)) c.in_ok-last.ensures.ok c.numbered-in-loop.ensures in
     let count : suc (suc last) ≡ c.loop.counter + 1 = omega (arith, c.loop.invariant.last) in
     record { places = places ∙ ap places_of count; last = ap suc is ∙ count }

@@ -11,5 +11,6 @@ use Rattle.pst_image_unpack.proofs.taking.judged_program.Goals as goal
 pub returns-in_default-clause-bad : goal.returns-in_default-clause-bad
 returns-in_default-clause-bad c rule e =
     let none : (named : NamedProgram) → IsOwnText c.as_slice.result.now named → ⊥ =
-    subst (λ (o : Option Program). MatchOption o ((named : NamedProgram) → IsOwnText c.as_slice.result.now named → ⊥) (λ program. IsOwnText c.as_slice.result.now (program_of program))) c.in_default.is c.in_ok-program.ensures.found in
+    subst (λ (o : Option Program). MatchOption o ((named : NamedProgram) → IsOwnText c.as_slice.result.now named → ⊥)
+    (λ program. IsOwnText c.as_slice.result.now (program_of program))) c.in_default.is c.in_ok-program.ensures.found in
     same_rule c.args.parts.now Text rule _ _ refl refl (λ named own. none named (subst (λ (t : List ℕ). IsOwnText t named) (sym c.as_slice.ensures) own)) e

@@ -6,7 +6,8 @@ use Rattle.pst_image_unpack.proofs.taking.program_of_own_text.Goals as goal
 
 pub returns-in-Err-Fault-clause-found : goal.returns-in-Err-Fault-clause-found
 returns-in-Err-Fault-clause-found c named own =
-    refused_text c.args.text.now c.in_ok-from_slice.field-0.items c.in-Err-Fault.field-0 c.in-Err-Fault.field-0-0 c.in_ok-from_slice.ensures.items c.in-Err-Fault.field-0-is c.in-Err-Fault.ensures.verdict named own
+    refused_text c.args.text.now c.in_ok-from_slice.field-0.items c.in-Err-Fault.field-0 c.in-Err-Fault.field-0-0 c.in_ok-from_slice.ensures.items
+    c.in-Err-Fault.field-0-is c.in-Err-Fault.ensures.verdict named own
 
 pub returns-clause-found : goal.returns-clause-found
 returns-clause-found c named own =

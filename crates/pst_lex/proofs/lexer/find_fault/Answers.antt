@@ -34,4 +34,6 @@ returns-clause-exact c =
     looked_all c.args.text.now ts c.loop-token.lexer c.next_token.new.self.line h (rw c.in_default.is at c.in_ok-token.ensures.exact).0
 
 pub returns-clause-fault : goal.returns-clause-fault
-returns-clause-fault c = let (ts, h) = c.loop-token.invariant in gives_fault (Ok tt) c.args.text.now (looked_all c.args.text.now ts c.loop-token.lexer c.next_token.new.self.line h (rw c.in_default.is at c.in_ok-token.ensures.exact).0)
+returns-clause-fault c = let (ts, h) = c.loop-token.invariant in
+    gives_fault (Ok tt) c.args.text.now (looked_all c.args.text.now ts c.loop-token.lexer c.next_token.new.self.line h
+    (rw c.in_default.is at c.in_ok-token.ensures.exact).0)

@@ -4,7 +4,7 @@ use Rattle.pst_lex.proofs.Marks.{keyword_token, name_token}
 use Rattle.pst_lex.proofs.pieces.name_kind.Goals as goal
 
 pub returns-in-Some : goal.returns-in-Some
-returns-in-Some c = λ rest ends. keyword_token c.in-Some.position c.args.word.now rest c.requires.starts ends c.in-Some.ensures
+returns-in-Some c = λ rest ends. keyword_token c.in-Some.mark c.args.word.now rest c.requires.starts ends c.in-Some.ensures
 
 pub returns-in-None : goal.returns-in-None
 returns-in-None c = λ rest ends.

@@ -22,7 +22,8 @@ returns-in-Budget-clause-ok g c =
     let stored = g.S.LineCalls.stored c.args.store.now in
     let session = c.args.session.now in
     let charges = c.in-Budget.charges in
-    let Q : Command → Type 0 = λ l. (h : History) → LineStands m session.budget session.next_run.0 s stored h → line_refusal m h l ≡ None → IsCarried m l (answer.BudgetSet charges) charges session.next_run.0 s stored h in
+    let Q : Command → Type 0 = λ l. (h : History) → LineStands m session.budget session.next_run.0 s stored h → line_refusal m h l ≡ None
+    → IsCarried m l (answer.BudgetSet charges) charges session.next_run.0 s stored h in
     subst Q (sym c.in-Budget.is) (λ h stand none. record {
       stands = λ range. budget-stands m c.known.ensures.lawful session.budget session.next_run.0 charges s stored h stand range;
       reply = refl;
@@ -35,7 +36,8 @@ returns-in_ok-parents-in-Versions-clause-ok g c =
     let stored = g.S.LineCalls.stored c.args.store.now in
     let session = c.args.session.now in
     let list = c.in_ok-parents-in-Versions.field-0 in
-    let Q : Command → Type 0 = λ l. (h : History) → LineStands m session.budget session.next_run.0 s stored h → line_refusal m h l ≡ None → IsCarried m l (answer.VersionList list) session.budget session.next_run.0 s stored h in
+    let Q : Command → Type 0 = λ l. (h : History) → LineStands m session.budget session.next_run.0 s stored h → line_refusal m h l ≡ None
+    → IsCarried m l (answer.VersionList list) session.budget session.next_run.0 s stored h in
     subst Q (sym c.in-Versions.is) (λ h stand none. record {
       stands = λ range. stand;
       reply = ap answer.VersionList (c.in_ok-parents-in-Versions.ensures ∙ parents-are m s h stand.sound stand.versions);

@@ -14,7 +14,9 @@ loop-there-preserved g c =
     let a = c.loop-there.stage in
     let b = c.under_way.new.stage in
     let into : IsInto parts t a b = subst (λ (x : Bool). GoesInto parts t a x b) c.if-not-there.false c.in_ok-there.ensures.goes in
-    carried_on parts c.requires.valid s t u c.args.stage.now a b c.run.new.standing c.loop-there.invariant into c.in-Ends.field-0 (subst (λ (x : Step). Ran parts t b.standing x u c.run.new.standing) c.in-Ends.is c.in_ok-step.ensures.ran) c.let_go.new.standing c.let_go.ensures.empty c.let_go.ensures.same
+    carried_on parts c.requires.valid s t u c.args.stage.now a b c.run.new.standing c.loop-there.invariant into c.in-Ends.field-0
+    (subst (λ (x : Step). Ran parts t b.standing x u c.run.new.standing) c.in-Ends.is c.in_ok-step.ensures.ran) c.let_go.new.standing
+    c.let_go.ensures.empty c.let_go.ensures.same
 
 pub returns-in_default : goal.returns-in_default
 returns-in_default g c =
@@ -25,7 +27,8 @@ returns-in_default g c =
     let a = c.loop-there.stage in
     let b = c.under_way.new.stage in
     let into : IsInto parts t a b = subst (λ (x : Bool). GoesInto parts t a x b) c.if-not-there.false c.in_ok-there.ensures.goes in
-    let out = carried_rest parts c.requires.valid s t u c.args.stage.now a b c.run.new.standing c.loop-there.invariant into c.in_ok-step.step c.in_ok-step.ensures.rests c.in_default.not-Ends c.in_ok-step.ensures.ran in
+    let out = carried_rest parts c.requires.valid s t u c.args.stage.now a b c.run.new.standing c.loop-there.invariant into c.in_ok-step.step
+    c.in_ok-step.ensures.rests c.in_default.not-Ends c.in_ok-step.ensures.ran in
     record {
       out = out;
       rests = c.in_ok-step.ensures.rests;

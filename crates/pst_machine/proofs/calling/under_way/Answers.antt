@@ -9,7 +9,8 @@ use Rattle.pst_machine.specs.Advance.{AllMayCall, CanGoOn}
 use Rattle.pst_machine.proofs.Beginning.{first_there, goes_next}
 use Rattle.pst_machine.proofs.calling.under_way.Goals as goal
 
-known : {P R : Type 0} (parts : Parts) (s : State P R) (at : P) (calls : List ProcCall) → AllMayCall parts s at calls → (o : Option ProcCall) → slice_get calls 0 ≡ o → IfSome o (λ c. c.procedure.0 < length parts.procedures)
+known : {P R : Type 0} (parts : Parts) (s : State P R) (at : P) (calls : List ProcCall) → AllMayCall parts s at calls → (o : Option ProcCall)
+    → slice_get calls 0 ≡ o → IfSome o (λ c. c.procedure.0 < length parts.procedures)
 known parts s at calls all None e = tt
 known parts s at calls all (Some c) e = let k = first_there parts s at calls all c e in slice_get_within parts.procedures c.procedure.0 k.procedure k.found
 

@@ -99,7 +99,8 @@ returns-in_err-step-clause-reads g c =
     let parts = c.args.code.now in
     let a0 = whole c.args.standing.now c.args.frame.now c.args.left.now in
     let a = whole c.loop-rest.standing c.loop-rest.frame c.loop-rest.left in
-    on_err c.from_residual.result (reads_on parts c.requires.valid (g.H.HeapAt.state c.args.heap.now) (g.H.HeapAt.state c.loop-rest.heap) a0 a c.requires.running (g.H.HeapAt.state c.step.new.heap) c.loop-rest.invariant.ran c.in_err-step.ensures.reads)
+    on_err c.from_residual.result (reads_on parts c.requires.valid (g.H.HeapAt.state c.args.heap.now) (g.H.HeapAt.state c.loop-rest.heap) a0 a
+    c.requires.running (g.H.HeapAt.state c.step.new.heap) c.loop-rest.invariant.ran c.in_err-step.ensures.reads)
 
 pub returns-in-Out-clause-due : goal.returns-in-Out-clause-due
 returns-in-Out-clause-due g c =
@@ -110,7 +111,8 @@ returns-in-Out-clause-due g c =
     let b = whole c.step.new.standing c.step.new.frame c.step.new.left in
     let out = c.step.new.out in
     let goes : LeavesBy parts s a out t b = subst (λ (x : Flow). GoesOn parts s a x out t b) c.in-Out.is c.in_ok-step.ensures.on in
-    let here = at_rest parts s a c.index-rest-0.result c.args.procedure.now c.loop-rest.rest.now c.loop-rest.invariant.ran.running c.loop-rest.invariant.procedure c.loop-rest.invariant.rest c.index-rest-0.is in
+    let here = at_rest parts s a c.index-rest-0.result c.args.procedure.now c.loop-rest.rest.now c.loop-rest.invariant.ran.running
+    c.loop-rest.invariant.procedure c.loop-rest.invariant.rest c.index-rest-0.is in
     elim c.match-out.branch [
       | in-Some w ↦ subst (λ (r : Rested). IfDue r (λ instr. next_instr (current_of parts t b) ≡ Some instr)) (sym w.result-is) tt
       | in-None w ↦

@@ -13,7 +13,8 @@ use Rattle.pst_base.specs.declared.names.TrapKind.TheVariants.{Null as NullTrap}
 use Rattle.pst_base.specs.declared.names.Kind.{Kind}
 use Rattle.pst_base.specs.declared.names.Kind.TheVariants.{Int, Pointer}
 use Rattle.pst_code.specs.declared.instr.Instr.{Instr}
-use Rattle.pst_code.specs.declared.instr.Instr.TheVariants.{Const, Null, Copy, Print, New, Add, Sub, Mul, Div, Rem, Neg, Root, Setroot, Check, Load, Store, Bound, Loadx, Storex, Jump, Jumpeq, Jumpne, Jumplt, Jumple, Jumpgt, Jumpge}
+use Rattle.pst_code.specs.declared.instr.Instr.TheVariants.{Const, Null, Copy, Print, New, Add, Sub, Mul, Div, Rem, Neg, Root, Setroot, Check, Load, Store}
+use Rattle.pst_code.specs.declared.instr.Instr.TheVariants.{Bound, Loadx, Storex, Jump, Jumpeq, Jumpne, Jumplt, Jumple, Jumpgt, Jumpge}
 use Rattle.pst_machine_steps.specs.declared.standing.Standing.{Standing}
 use Rattle.pst_machine_steps.specs.declared.standing.Step.TheVariants.{Trap}
 use Rattle.pst_machine_steps.specs.Live.{IsLive}
@@ -23,8 +24,13 @@ use Rattle.pst_machine_frames.specs.Ready.{step_of, whole, current_of, waiting_o
 use Rattle.pst_machine_steps.specs.Steps.{MayStoreElements}
 use Rattle.pst_machine_steps.specs.Fields.{FieldIs, ElementsAre}
 use Rattle.pst_machine_steps.proofs.Kept.{kept_same}
-use Rattle.pst_machine_frames.proofs.Fitting.{fits_here, has_register, has_kind, has_number, has_numbers, has_pointer, copy_there, root_there, load_there, load_element_there, store_element_there, set_root_there, store_there, equal_there, unequal_there, root_kind_here, load_kind_here, elements_here, make_writable, set_root_writable, store_writable, store_element_writable, new_type_here, numbered_here, room_here, fresh_here, target_here, live_here, live_somewhere, write_root_here, store_here, store_elements_here}
-use Rattle.pst_machine_frames.proofs.Acting.{frame_acted, plain_acted, jump_acted, element_acted, came_acted, came_due, charged_acted, printed_acted, written_acted, made_acted, null_acted, stored_acted}
+use Rattle.pst_machine_frames.proofs.Fitting.{fits_here, has_register, has_kind, has_number, has_numbers, has_pointer, copy_there, root_there, load_there}
+use Rattle.pst_machine_frames.proofs.Fitting.{load_element_there, store_element_there, set_root_there, store_there, equal_there, unequal_there, root_kind_here}
+use Rattle.pst_machine_frames.proofs.Fitting.{load_kind_here, elements_here, make_writable, set_root_writable, store_writable, store_element_writable}
+use Rattle.pst_machine_frames.proofs.Fitting.{new_type_here, numbered_here, room_here, fresh_here, target_here, live_here, live_somewhere, write_root_here}
+use Rattle.pst_machine_frames.proofs.Fitting.{store_here, store_elements_here}
+use Rattle.pst_machine_frames.proofs.Acting.{frame_acted, plain_acted, jump_acted, element_acted, came_acted, came_due, charged_acted, printed_acted}
+use Rattle.pst_machine_frames.proofs.Acting.{written_acted, made_acted, null_acted, stored_acted}
 use Rattle.pst_machine_frames.proofs.Reading.{on_err}
 use Rattle.pst_machine_frames.proofs.running.instruction.Goals as goal
 
@@ -121,7 +127,8 @@ returns-in-Jumpeq-clause-acted g c =
     let parts = c.args.code.now in
     came_acted c.flow_behind-in-Jumpeq.ensures.came
     (subst (λ (i : Instr). Acted parts s a i c.jump_equal.result s (record a { current = c.jump_equal.new.frame })) (sym c.in-Jumpeq.is)
-    (frame_acted parts s a c.requires.running.live c.jump_equal.new.frame (Jumpeq c.in-Jumpeq.a c.in-Jumpeq.b c.in-Jumpeq.to) c.jump_equal.result (c.jump_equal.ensures.acts parts (waiting_of parts s a) (world_of s a))
+    (frame_acted parts s a c.requires.running.live c.jump_equal.new.frame (Jumpeq c.in-Jumpeq.a c.in-Jumpeq.b c.in-Jumpeq.to) c.jump_equal.result
+    (c.jump_equal.ensures.acts parts (waiting_of parts s a) (world_of s a))
     (subst (λ (xs : Vec (Register g.row.H-Ref.Denot) Global). All (IsLive s a.place) xs.items) (sym c.jump_equal.ensures.registers) c.requires.running.live.current) c.jump_equal.ensures.same))
 
 pub returns-in-Jumpne-clause-acted : goal.returns-in-Jumpne-clause-acted
@@ -131,7 +138,8 @@ returns-in-Jumpne-clause-acted g c =
     let parts = c.args.code.now in
     came_acted c.flow_behind-in-Jumpne.ensures.came
     (subst (λ (i : Instr). Acted parts s a i c.jump_unequal.result s (record a { current = c.jump_unequal.new.frame })) (sym c.in-Jumpne.is)
-    (frame_acted parts s a c.requires.running.live c.jump_unequal.new.frame (Jumpne c.in-Jumpne.a c.in-Jumpne.b c.in-Jumpne.to) c.jump_unequal.result (c.jump_unequal.ensures.acts parts (waiting_of parts s a) (world_of s a))
+    (frame_acted parts s a c.requires.running.live c.jump_unequal.new.frame (Jumpne c.in-Jumpne.a c.in-Jumpne.b c.in-Jumpne.to) c.jump_unequal.result
+    (c.jump_unequal.ensures.acts parts (waiting_of parts s a) (world_of s a))
     (subst (λ (xs : Vec (Register g.row.H-Ref.Denot) Global). All (IsLive s a.place) xs.items) (sym c.jump_unequal.ensures.registers) c.requires.running.live.current) c.jump_unequal.ensures.same))
 
 pub returns-in-Root-clause-acted : goal.returns-in-Root-clause-acted
@@ -141,7 +149,9 @@ returns-in-Root-clause-acted g c =
     let parts = c.args.code.now in
     came_acted c.flow_of-in-Root.ensures.came
     (subst (λ (i : Instr). Acted parts s a i c.root.result s (record a { current = c.root.new.frame })) (sym c.in-Root.is)
-    (frame_acted parts s a c.requires.running.live c.root.new.frame (Root c.in-Root.d c.in-Root.slot) c.root.result (c.root.ensures.acts parts (waiting_of parts s a) (world_of s a) c.requires.running.shape refl) (c.root.ensures.live c.requires.running.live.current) c.root.ensures.same))
+    (frame_acted parts s a c.requires.running.live c.root.new.frame (Root c.in-Root.d c.in-Root.slot) c.root.result
+    (c.root.ensures.acts parts (waiting_of parts s a) (world_of s a) c.requires.running.shape refl)
+    (c.root.ensures.live c.requires.running.live.current) c.root.ensures.same))
 
 pub returns-in-Load-clause-acted : goal.returns-in-Load-clause-acted
 returns-in-Load-clause-acted g c =
@@ -150,7 +160,8 @@ returns-in-Load-clause-acted g c =
     let parts = c.args.code.now in
     came_acted c.flow_of-in-Load.ensures.came
     (subst (λ (i : Instr). Acted parts s a i c.load.result s (record a { current = c.load.new.frame })) (sym c.in-Load.is)
-    (frame_acted parts s a c.requires.running.live c.load.new.frame (Load c.in-Load.d c.in-Load.o c.in-Load.slot) c.load.result (c.load.ensures.acts parts (waiting_of parts s a) (world_of s a) c.requires.running.shape refl) c.load.ensures.live c.load.ensures.same))
+    (frame_acted parts s a c.requires.running.live c.load.new.frame (Load c.in-Load.d c.in-Load.o c.in-Load.slot) c.load.result
+    (c.load.ensures.acts parts (waiting_of parts s a) (world_of s a) c.requires.running.shape refl) c.load.ensures.live c.load.ensures.same))
 
 pub returns-in_ok-print-in-Print-clause-acted : goal.returns-in_ok-print-in-Print-clause-acted
 returns-in_ok-print-in-Print-clause-acted g c =
@@ -167,7 +178,9 @@ returns-in_err-make-in-New-clause-reads g c =
     let s = g.H.HeapAt.state c.args.heap.now in
     let a = whole c.args.standing.now c.args.frame.now c.args.left.now in
     let parts = c.args.code.now in
-    on_err c.from_residual-in_err-make-in-New.result (λ closed. absurd (closed (make_writable parts s a c.requires.valid c.requires.running c.in-New.d c.in-New.ty (c.requires.instr ∙ ap (λ (i : Instr). Some i) c.in-New.is))))
+    on_err c.from_residual-in_err-make-in-New.result (λ closed. absurd
+    (closed (make_writable parts s a c.requires.valid c.requires.running c.in-New.d c.in-New.ty
+    (c.requires.instr ∙ ap (λ (i : Instr). Some i) c.in-New.is))))
 
 pub root-requires-clause-kind : goal.root-requires-clause-kind
 root-requires-clause-kind g c =
@@ -192,7 +205,8 @@ returns-in-Null-clause-acted g c =
     let parts = c.args.code.now in
     came_acted c.flow_of-in-Null.ensures.came
     (subst (λ (i : Instr). Acted parts s a i c.set-in-Null.result s (record a { current = c.set-in-Null.new.frame })) (sym c.in-Null.is)
-    (plain_acted parts s a c.requires.running.live c.set-in-Null.new.frame (Null c.in-Null.d) c.set-in-Null.result (c.set-in-Null.ensures.acts s.name parts (waiting_of parts s a) (world_of s a)) (c.set-in-Null.ensures.kept tt) c.set-in-Null.ensures.same))
+    (plain_acted parts s a c.requires.running.live c.set-in-Null.new.frame (Null c.in-Null.d) c.set-in-Null.result
+    (c.set-in-Null.ensures.acts s.name parts (waiting_of parts s a) (world_of s a)) (c.set-in-Null.ensures.kept tt) c.set-in-Null.ensures.same))
 
 pub returns-in-Copy-clause-acted : goal.returns-in-Copy-clause-acted
 returns-in-Copy-clause-acted g c =
@@ -201,7 +215,8 @@ returns-in-Copy-clause-acted g c =
     let parts = c.args.code.now in
     came_acted c.flow_of-in-Copy.ensures.came
     (subst (λ (i : Instr). Acted parts s a i c.copy.result s (record a { current = c.copy.new.frame })) (sym c.in-Copy.is)
-    (plain_acted parts s a c.requires.running.live c.copy.new.frame (Copy c.in-Copy.d c.in-Copy.s) c.copy.result (c.copy.ensures.acts s.name parts (waiting_of parts s a) (world_of s a)) c.copy.ensures.kept c.copy.ensures.same))
+    (plain_acted parts s a c.requires.running.live c.copy.new.frame (Copy c.in-Copy.d c.in-Copy.s) c.copy.result
+    (c.copy.ensures.acts s.name parts (waiting_of parts s a) (world_of s a)) c.copy.ensures.kept c.copy.ensures.same))
 
 pub returns-in-Add-clause-acted : goal.returns-in-Add-clause-acted
 returns-in-Add-clause-acted g c =
@@ -210,7 +225,8 @@ returns-in-Add-clause-acted g c =
     let parts = c.args.code.now in
     came_acted c.flow_of-in-Add.ensures.came
     (subst (λ (i : Instr). Acted parts s a i c.apply.result s (record a { current = c.apply.new.frame })) (sym c.in-Add.is)
-    (plain_acted parts s a c.requires.running.live c.apply.new.frame (Add c.in-Add.d c.in-Add.a c.in-Add.b) c.apply.result (c.apply.ensures.acts s.name parts (waiting_of parts s a) (world_of s a)) c.apply.ensures.kept c.apply.ensures.same))
+    (plain_acted parts s a c.requires.running.live c.apply.new.frame (Add c.in-Add.d c.in-Add.a c.in-Add.b) c.apply.result
+    (c.apply.ensures.acts s.name parts (waiting_of parts s a) (world_of s a)) c.apply.ensures.kept c.apply.ensures.same))
 
 pub returns-in-Sub-clause-acted : goal.returns-in-Sub-clause-acted
 returns-in-Sub-clause-acted g c =
@@ -219,7 +235,8 @@ returns-in-Sub-clause-acted g c =
     let parts = c.args.code.now in
     came_acted c.flow_of-in-Sub.ensures.came
     (subst (λ (i : Instr). Acted parts s a i c.apply-in-Sub.result s (record a { current = c.apply-in-Sub.new.frame })) (sym c.in-Sub.is)
-    (plain_acted parts s a c.requires.running.live c.apply-in-Sub.new.frame (Sub c.in-Sub.d c.in-Sub.a c.in-Sub.b) c.apply-in-Sub.result (c.apply-in-Sub.ensures.acts s.name parts (waiting_of parts s a) (world_of s a)) c.apply-in-Sub.ensures.kept c.apply-in-Sub.ensures.same))
+    (plain_acted parts s a c.requires.running.live c.apply-in-Sub.new.frame (Sub c.in-Sub.d c.in-Sub.a c.in-Sub.b) c.apply-in-Sub.result
+    (c.apply-in-Sub.ensures.acts s.name parts (waiting_of parts s a) (world_of s a)) c.apply-in-Sub.ensures.kept c.apply-in-Sub.ensures.same))
 
 pub returns-in-Mul-clause-acted : goal.returns-in-Mul-clause-acted
 returns-in-Mul-clause-acted g c =
@@ -228,7 +245,8 @@ returns-in-Mul-clause-acted g c =
     let parts = c.args.code.now in
     came_acted c.flow_of-in-Mul.ensures.came
     (subst (λ (i : Instr). Acted parts s a i c.apply-in-Mul.result s (record a { current = c.apply-in-Mul.new.frame })) (sym c.in-Mul.is)
-    (plain_acted parts s a c.requires.running.live c.apply-in-Mul.new.frame (Mul c.in-Mul.d c.in-Mul.a c.in-Mul.b) c.apply-in-Mul.result (c.apply-in-Mul.ensures.acts s.name parts (waiting_of parts s a) (world_of s a)) c.apply-in-Mul.ensures.kept c.apply-in-Mul.ensures.same))
+    (plain_acted parts s a c.requires.running.live c.apply-in-Mul.new.frame (Mul c.in-Mul.d c.in-Mul.a c.in-Mul.b) c.apply-in-Mul.result
+    (c.apply-in-Mul.ensures.acts s.name parts (waiting_of parts s a) (world_of s a)) c.apply-in-Mul.ensures.kept c.apply-in-Mul.ensures.same))
 
 pub returns-in-Div-clause-acted : goal.returns-in-Div-clause-acted
 returns-in-Div-clause-acted g c =
@@ -237,7 +255,8 @@ returns-in-Div-clause-acted g c =
     let parts = c.args.code.now in
     came_acted c.flow_behind.ensures.came
     (subst (λ (i : Instr). Acted parts s a i c.apply-in-Div.result s (record a { current = c.apply-in-Div.new.frame })) (sym c.in-Div.is)
-    (plain_acted parts s a c.requires.running.live c.apply-in-Div.new.frame (Div c.in-Div.d c.in-Div.a c.in-Div.b) c.apply-in-Div.result (c.apply-in-Div.ensures.acts s.name parts (waiting_of parts s a) (world_of s a)) c.apply-in-Div.ensures.kept c.apply-in-Div.ensures.same))
+    (plain_acted parts s a c.requires.running.live c.apply-in-Div.new.frame (Div c.in-Div.d c.in-Div.a c.in-Div.b) c.apply-in-Div.result
+    (c.apply-in-Div.ensures.acts s.name parts (waiting_of parts s a) (world_of s a)) c.apply-in-Div.ensures.kept c.apply-in-Div.ensures.same))
 
 pub returns-in-Rem-clause-acted : goal.returns-in-Rem-clause-acted
 returns-in-Rem-clause-acted g c =
@@ -246,7 +265,8 @@ returns-in-Rem-clause-acted g c =
     let parts = c.args.code.now in
     came_acted c.flow_of-in-Rem.ensures.came
     (subst (λ (i : Instr). Acted parts s a i c.apply-in-Rem.result s (record a { current = c.apply-in-Rem.new.frame })) (sym c.in-Rem.is)
-    (plain_acted parts s a c.requires.running.live c.apply-in-Rem.new.frame (Rem c.in-Rem.d c.in-Rem.a c.in-Rem.b) c.apply-in-Rem.result (c.apply-in-Rem.ensures.acts s.name parts (waiting_of parts s a) (world_of s a)) c.apply-in-Rem.ensures.kept c.apply-in-Rem.ensures.same))
+    (plain_acted parts s a c.requires.running.live c.apply-in-Rem.new.frame (Rem c.in-Rem.d c.in-Rem.a c.in-Rem.b) c.apply-in-Rem.result
+    (c.apply-in-Rem.ensures.acts s.name parts (waiting_of parts s a) (world_of s a)) c.apply-in-Rem.ensures.kept c.apply-in-Rem.ensures.same))
 
 pub returns-in-Neg-clause-acted : goal.returns-in-Neg-clause-acted
 returns-in-Neg-clause-acted g c =
@@ -255,7 +275,8 @@ returns-in-Neg-clause-acted g c =
     let parts = c.args.code.now in
     came_acted c.flow_behind-in-Neg.ensures.came
     (subst (λ (i : Instr). Acted parts s a i c.negate.result s (record a { current = c.negate.new.frame })) (sym c.in-Neg.is)
-    (plain_acted parts s a c.requires.running.live c.negate.new.frame (Neg c.in-Neg.d c.in-Neg.a) c.negate.result (c.negate.ensures.acts s.name parts (waiting_of parts s a) (world_of s a)) c.negate.ensures.kept c.negate.ensures.same))
+    (plain_acted parts s a c.requires.running.live c.negate.new.frame (Neg c.in-Neg.d c.in-Neg.a) c.negate.result
+    (c.negate.ensures.acts s.name parts (waiting_of parts s a) (world_of s a)) c.negate.ensures.kept c.negate.ensures.same))
 
 pub returns-in-Const-clause-acted : goal.returns-in-Const-clause-acted
 returns-in-Const-clause-acted g c =
@@ -267,7 +288,8 @@ returns-in-Const-clause-acted g c =
     came_acted c.flow_of-in-Const.ensures.came
     (subst (λ (i : Instr). Acted parts s a i c.set.result s (record a { current = c.set.new.frame })) (sym c.in-Const.is)
     (plain_acted parts s a c.requires.running.live c.set.new.frame (Const c.in-Const.d c.in-Const.n) c.set.result
-    (ap (λ (n : ℤ). Goes (behind f (slice_set f.registers c.in-Const.d.0 (ANumber n))) (waiting_of parts s a) (world_of s a)) (sym (to_z-of_z w64 c.in-Const.n fits)) ∙ c.set.ensures.acts s.name parts (waiting_of parts s a) (world_of s a))
+    (ap (λ (n : ℤ). Goes (behind f (slice_set f.registers c.in-Const.d.0 (ANumber n))) (waiting_of parts s a) (world_of s a))
+    (sym (to_z-of_z w64 c.in-Const.n fits)) ∙ c.set.ensures.acts s.name parts (waiting_of parts s a) (world_of s a))
     (c.set.ensures.kept tt) c.set.ensures.same))
 
 pub returns-in-Check-clause-acted : goal.returns-in-Check-clause-acted
@@ -277,7 +299,8 @@ returns-in-Check-clause-acted g c =
     let parts = c.args.code.now in
     came_acted c.flow_behind-in-Check.ensures.came
     (subst (λ (i : Instr). Acted parts s a i c.check.result s a) (sym c.in-Check.is)
-    (plain_acted parts s a c.requires.running.live a.current (Check c.in-Check.o) c.check.result (c.check.ensures.acts s.name parts (waiting_of parts s a) (world_of s a)) (kept_same a.current.registers.items) refl))
+    (plain_acted parts s a c.requires.running.live a.current (Check c.in-Check.o) c.check.result
+    (c.check.ensures.acts s.name parts (waiting_of parts s a) (world_of s a)) (kept_same a.current.registers.items) refl))
 
 pub returns-in-Bound-clause-acted : goal.returns-in-Bound-clause-acted
 returns-in-Bound-clause-acted g c =
@@ -286,7 +309,8 @@ returns-in-Bound-clause-acted g c =
     let parts = c.args.code.now in
     came_acted c.flow_behind-in-Bound.ensures.came
     (subst (λ (i : Instr). Acted parts s a i c.bound.result s a) (sym c.in-Bound.is)
-    (plain_acted parts s a c.requires.running.live a.current (Bound c.in-Bound.i c.in-Bound.elements) c.bound.result (c.bound.ensures.acts s.name parts (waiting_of parts s a) (world_of s a)) (kept_same a.current.registers.items) refl))
+    (plain_acted parts s a c.requires.running.live a.current (Bound c.in-Bound.i c.in-Bound.elements) c.bound.result
+    (c.bound.ensures.acts s.name parts (waiting_of parts s a) (world_of s a)) (kept_same a.current.registers.items) refl))
 
 pub returns-in-Jump-clause-acted : goal.returns-in-Jump-clause-acted
 returns-in-Jump-clause-acted g c =
@@ -295,7 +319,8 @@ returns-in-Jump-clause-acted g c =
     let parts = c.args.code.now in
     came_acted c.flow_of-in-Jump.ensures.came
     (subst (λ (i : Instr). Acted parts s a i c.jump.result s (record a { current = c.jump.new.frame })) (sym c.in-Jump.is)
-    (jump_acted parts s a c.requires.running.live c.jump.new.frame (Jump c.in-Jump.to) c.jump.result (c.jump.ensures.acts s.name parts (waiting_of parts s a) (world_of s a)) c.jump.ensures.registers c.jump.ensures.same))
+    (jump_acted parts s a c.requires.running.live c.jump.new.frame (Jump c.in-Jump.to) c.jump.result
+    (c.jump.ensures.acts s.name parts (waiting_of parts s a) (world_of s a)) c.jump.ensures.registers c.jump.ensures.same))
 
 pub returns-in-Jumplt-clause-acted : goal.returns-in-Jumplt-clause-acted
 returns-in-Jumplt-clause-acted g c =
@@ -304,7 +329,8 @@ returns-in-Jumplt-clause-acted g c =
     let parts = c.args.code.now in
     came_acted c.flow_of-in-Jumplt.ensures.came
     (subst (λ (i : Instr). Acted parts s a i c.jump_less.result s (record a { current = c.jump_less.new.frame })) (sym c.in-Jumplt.is)
-    (jump_acted parts s a c.requires.running.live c.jump_less.new.frame (Jumplt c.in-Jumplt.a c.in-Jumplt.b c.in-Jumplt.to) c.jump_less.result (c.jump_less.ensures.acts s.name parts (waiting_of parts s a) (world_of s a)) c.jump_less.ensures.registers c.jump_less.ensures.same))
+    (jump_acted parts s a c.requires.running.live c.jump_less.new.frame (Jumplt c.in-Jumplt.a c.in-Jumplt.b c.in-Jumplt.to) c.jump_less.result
+    (c.jump_less.ensures.acts s.name parts (waiting_of parts s a) (world_of s a)) c.jump_less.ensures.registers c.jump_less.ensures.same))
 
 pub returns-in-Jumple-clause-acted : goal.returns-in-Jumple-clause-acted
 returns-in-Jumple-clause-acted g c =
@@ -313,7 +339,8 @@ returns-in-Jumple-clause-acted g c =
     let parts = c.args.code.now in
     came_acted c.flow_of-in-Jumple.ensures.came
     (subst (λ (i : Instr). Acted parts s a i c.jump_at_most.result s (record a { current = c.jump_at_most.new.frame })) (sym c.in-Jumple.is)
-    (jump_acted parts s a c.requires.running.live c.jump_at_most.new.frame (Jumple c.in-Jumple.a c.in-Jumple.b c.in-Jumple.to) c.jump_at_most.result (c.jump_at_most.ensures.acts s.name parts (waiting_of parts s a) (world_of s a)) c.jump_at_most.ensures.registers c.jump_at_most.ensures.same))
+    (jump_acted parts s a c.requires.running.live c.jump_at_most.new.frame (Jumple c.in-Jumple.a c.in-Jumple.b c.in-Jumple.to) c.jump_at_most.result
+    (c.jump_at_most.ensures.acts s.name parts (waiting_of parts s a) (world_of s a)) c.jump_at_most.ensures.registers c.jump_at_most.ensures.same))
 
 pub returns-in-Jumpgt-clause-acted : goal.returns-in-Jumpgt-clause-acted
 returns-in-Jumpgt-clause-acted g c =
@@ -322,7 +349,9 @@ returns-in-Jumpgt-clause-acted g c =
     let parts = c.args.code.now in
     came_acted c.flow_of-in-Jumpgt.ensures.came
     (subst (λ (i : Instr). Acted parts s a i c.jump_less-in-Jumpgt.result s (record a { current = c.jump_less-in-Jumpgt.new.frame })) (sym c.in-Jumpgt.is)
-    (jump_acted parts s a c.requires.running.live c.jump_less-in-Jumpgt.new.frame (Jumpgt c.in-Jumpgt.a c.in-Jumpgt.b c.in-Jumpgt.to) c.jump_less-in-Jumpgt.result (c.jump_less-in-Jumpgt.ensures.acts s.name parts (waiting_of parts s a) (world_of s a)) c.jump_less-in-Jumpgt.ensures.registers c.jump_less-in-Jumpgt.ensures.same))
+    (jump_acted parts s a c.requires.running.live c.jump_less-in-Jumpgt.new.frame (Jumpgt c.in-Jumpgt.a c.in-Jumpgt.b c.in-Jumpgt.to)
+    c.jump_less-in-Jumpgt.result (c.jump_less-in-Jumpgt.ensures.acts s.name parts (waiting_of parts s a) (world_of s a))
+    c.jump_less-in-Jumpgt.ensures.registers c.jump_less-in-Jumpgt.ensures.same))
 
 pub returns-in-Jumpge-clause-acted : goal.returns-in-Jumpge-clause-acted
 returns-in-Jumpge-clause-acted g c =
@@ -331,7 +360,9 @@ returns-in-Jumpge-clause-acted g c =
     let parts = c.args.code.now in
     came_acted c.flow_of-in-Jumpge.ensures.came
     (subst (λ (i : Instr). Acted parts s a i c.jump_at_most-in-Jumpge.result s (record a { current = c.jump_at_most-in-Jumpge.new.frame })) (sym c.in-Jumpge.is)
-    (jump_acted parts s a c.requires.running.live c.jump_at_most-in-Jumpge.new.frame (Jumpge c.in-Jumpge.a c.in-Jumpge.b c.in-Jumpge.to) c.jump_at_most-in-Jumpge.result (c.jump_at_most-in-Jumpge.ensures.acts s.name parts (waiting_of parts s a) (world_of s a)) c.jump_at_most-in-Jumpge.ensures.registers c.jump_at_most-in-Jumpge.ensures.same))
+    (jump_acted parts s a c.requires.running.live c.jump_at_most-in-Jumpge.new.frame (Jumpge c.in-Jumpge.a c.in-Jumpge.b c.in-Jumpge.to)
+    c.jump_at_most-in-Jumpge.result (c.jump_at_most-in-Jumpge.ensures.acts s.name parts (waiting_of parts s a) (world_of s a))
+    c.jump_at_most-in-Jumpge.ensures.registers c.jump_at_most-in-Jumpge.ensures.same))
 
 pub load_element-requires-clause-kind : goal.load_element-requires-clause-kind
 load_element-requires-clause-kind g c =
@@ -361,7 +392,8 @@ returns-in_ok-set_root-in-Setroot-clause-acted g c =
     let trap = c.in_ok-set_root-in-Setroot.field-0 in
     came_acted c.written.ensures.came
     (subst (λ (i : Instr). Acted parts s a i (step_of trap) t a) (sym c.in-Setroot.is)
-    (written_acted parts s t a c.requires.running.live (Setroot c.in-Setroot.slot c.in-Setroot.s) root_name c.in-Setroot.slot.0 c.in-Setroot.s trap c.requires.running.shape refl c.in_ok-set_root-in-Setroot.ensures.ok))
+    (written_acted parts s t a c.requires.running.live (Setroot c.in-Setroot.slot c.in-Setroot.s) root_name c.in-Setroot.slot.0 c.in-Setroot.s trap
+    c.requires.running.shape refl c.in_ok-set_root-in-Setroot.ensures.ok))
 
 pub returns-in_ok-store-in-Store-clause-acted : goal.returns-in_ok-store-in-Store-clause-acted
 returns-in_ok-store-in-Store-clause-acted g c =
@@ -374,7 +406,8 @@ returns-in_ok-store-in-Store-clause-acted g c =
     came_acted c.written-in-Store.ensures.came
     (subst (λ (i : Instr). Acted parts s a i (step_of trap) t a) (sym c.in-Store.is)
     (stored_acted parts s a c.requires.running.live t c.in-Store.o c.in-Store.s c.in-Store.slot trap (held_in a.current c.in-Store.o) refl c.requires.running.shape c.in_ok-store-in-Store.ensures.ok
-    (λ plain. subst (λ (h : g.row.H.Denot). Acted parts s a instr (Trap NullTrap) (g.H.HeapAt.state h) a) (sym (c.in_ok-store-in-Store.ensures.null plain)) (null_acted parts s a c.requires.running.live c.in-Store.o c.in-Store.s c.in-Store.slot plain))))
+    (λ plain. subst (λ (h : g.row.H.Denot). Acted parts s a instr (Trap NullTrap) (g.H.HeapAt.state h) a)
+    (sym (c.in_ok-store-in-Store.ensures.null plain)) (null_acted parts s a c.requires.running.live c.in-Store.o c.in-Store.s c.in-Store.slot plain))))
 
 pub returns-in-Loadx-clause-acted : goal.returns-in-Loadx-clause-acted
 returns-in-Loadx-clause-acted g c =
@@ -385,7 +418,8 @@ returns-in-Loadx-clause-acted g c =
     let e = c.new-element.result in
     let f = c.load_element.new.frame in
     came_acted c.flow_behind-in-Loadx.ensures.came
-    (subst (λ (instr : Instr). Acted parts s a instr c.load_element.result s (record a { current = f })) (ap (λ (e : Element). Loadx i.d i.o e.first e.elements e.index) c.new-element.ensures ∙ sym i.is)
+    (subst (λ (instr : Instr). Acted parts s a instr c.load_element.result s (record a { current = f }))
+    (ap (λ (e : Element). Loadx i.d i.o e.first e.elements e.index) c.new-element.ensures ∙ sym i.is)
     (frame_acted parts s a c.requires.running.live f (Loadx i.d i.o e.first e.elements e.index) c.load_element.result
     (c.load_element.ensures.acts parts (waiting_of parts s a) (world_of s a) c.requires.running.shape refl) c.load_element.ensures.live c.load_element.ensures.same))
 
@@ -409,14 +443,17 @@ returns-in_err-set_root-in-Setroot-clause-reads g c =
     let s = g.H.HeapAt.state c.args.heap.now in
     let a = whole c.args.standing.now c.args.frame.now c.args.left.now in
     let parts = c.args.code.now in
-    on_err c.from_residual.result (λ closed. absurd (closed (set_root_writable parts s a c.requires.valid c.requires.running c.in-Setroot.slot c.in-Setroot.s (c.requires.instr ∙ ap (λ (i : Instr). Some i) c.in-Setroot.is))))
+    on_err c.from_residual.result (λ closed. absurd (closed (set_root_writable parts s a c.requires.valid c.requires.running c.in-Setroot.slot
+    c.in-Setroot.s (c.requires.instr ∙ ap (λ (i : Instr). Some i) c.in-Setroot.is))))
 
 pub returns-in_err-store-in-Store-clause-reads : goal.returns-in_err-store-in-Store-clause-reads
 returns-in_err-store-in-Store-clause-reads g c =
     let s = g.H.HeapAt.state c.args.heap.now in
     let a = whole c.args.standing.now c.args.frame.now c.args.left.now in
     let parts = c.args.code.now in
-    on_err c.from_residual-in_err-store-in-Store.result (λ closed. absurd (closed (store_writable parts s a c.requires.valid c.requires.running c.in-Store.o c.in-Store.s c.in-Store.slot (c.requires.instr ∙ ap (λ (i : Instr). Some i) c.in-Store.is))))
+    on_err c.from_residual-in_err-store-in-Store.result (λ closed. absurd
+    (closed (store_writable parts s a c.requires.valid c.requires.running c.in-Store.o c.in-Store.s c.in-Store.slot
+    (c.requires.instr ∙ ap (λ (i : Instr). Some i) c.in-Store.is))))
 
 pub returns-in_err-store_element-in-Storex-clause-reads : goal.returns-in_err-store_element-in-Storex-clause-reads
 returns-in_err-store_element-in-Storex-clause-reads g c =
@@ -424,7 +461,9 @@ returns-in_err-store_element-in-Storex-clause-reads g c =
     let a = whole c.args.standing.now c.args.frame.now c.args.left.now in
     let parts = c.args.code.now in
     let i = c.in-Storex in
-    on_err c.from_residual-in_err-store_element-in-Storex.result (λ closed. absurd (closed (store_element_writable parts s a c.requires.valid c.requires.running i.o i.i i.s i.first i.elements (c.requires.instr ∙ ap (λ (i : Instr). Some i) c.in-Storex.is))))
+    on_err c.from_residual-in_err-store_element-in-Storex.result
+    (λ closed. absurd (closed (store_element_writable parts s a c.requires.valid c.requires.running i.o i.i i.s i.first i.elements
+    (c.requires.instr ∙ ap (λ (i : Instr). Some i) c.in-Storex.is))))
 
 pub set-requires : goal.set-requires
 set-requires g c =
@@ -671,7 +710,8 @@ returns-in_ok-make-in-New-clause-acted g c =
     (target_here parts s a c.requires.valid c.requires.running c.in-New.d c.in-New.ty (c.requires.instr ∙ ap (λ (i : Instr). Some i) c.in-New.is)) c.in_ok-make-in-New.ensures.ok refl in
     came_acted c.flow_behind-in-New.ensures.came
     (subst (λ (i : Instr). Acted parts s a i step t (whole c.make.new.standing c.make.new.frame c.args.left.now)) (sym c.in-New.is)
-    (subst (λ (x : Standing g.row.H-Place.Denot g.row.H-Ref.Denot). Acted parts s a (New c.in-New.d c.in-New.ty) step t (whole x c.make.new.frame c.args.left.now)) (sym c.in_ok-make-in-New.ensures.counted) made))
+    (subst (λ (x : Standing g.row.H-Place.Denot g.row.H-Ref.Denot). Acted parts s a (New c.in-New.d c.in-New.ty) step t
+    (whole x c.make.new.frame c.args.left.now)) (sym c.in_ok-make-in-New.ensures.counted) made))
 
 pub returns-in-Call-clause-acted : goal.returns-in-Call-clause-acted
 returns-in-Call-clause-acted g c =
@@ -764,7 +804,8 @@ root-requires-clause-kinds g c =
     let parts = c.args.code.now in
     let i = c.in-Root in
     let e = c.requires.instr ∙ ap (λ (i : Instr). Some i) i.is in
-    subst (λ (ks : List Kind). i.d.0 < length ks) (sym c.requires.kinds) (has_kind parts s a c.requires.valid c.requires.running i.d (root_there parts s a c.requires.valid c.requires.running i.d i.slot e))
+    subst (λ (ks : List Kind). i.d.0 < length ks) (sym c.requires.kinds)
+    (has_kind parts s a c.requires.valid c.requires.running i.d (root_there parts s a c.requires.valid c.requires.running i.d i.slot e))
 
 pub load-requires-clause-kinds : goal.load-requires-clause-kinds
 load-requires-clause-kinds g c =
@@ -773,7 +814,8 @@ load-requires-clause-kinds g c =
     let parts = c.args.code.now in
     let i = c.in-Load in
     let e = c.requires.instr ∙ ap (λ (i : Instr). Some i) i.is in
-    subst (λ (ks : List Kind). i.d.0 < length ks) (sym c.requires.kinds) (has_kind parts s a c.requires.valid c.requires.running i.d (load_there parts s a c.requires.valid c.requires.running i.d i.o i.slot e).0)
+    subst (λ (ks : List Kind). i.d.0 < length ks) (sym c.requires.kinds)
+    (has_kind parts s a c.requires.valid c.requires.running i.d (load_there parts s a c.requires.valid c.requires.running i.d i.o i.slot e).0)
 
 pub load_element-requires-clause-kinds : goal.load_element-requires-clause-kinds
 load_element-requires-clause-kinds g c =
@@ -782,7 +824,9 @@ load_element-requires-clause-kinds g c =
     let parts = c.args.code.now in
     let i = c.in-Loadx in
     let e = c.requires.instr ∙ ap (λ (i : Instr). Some i) i.is in
-    subst (λ (ks : List Kind). i.d.0 < length ks) (sym c.requires.kinds) (has_kind parts s a c.requires.valid c.requires.running i.d (load_element_there parts s a c.requires.valid c.requires.running i.d i.o i.i i.first i.elements e).0)
+    subst (λ (ks : List Kind). i.d.0 < length ks) (sym c.requires.kinds)
+    (has_kind parts s a c.requires.valid c.requires.running i.d
+    (load_element_there parts s a c.requires.valid c.requires.running i.d i.o i.i i.first i.elements e).0)
 
 pub load_element-requires-clause-index : goal.load_element-requires-clause-index
 load_element-requires-clause-index g c =

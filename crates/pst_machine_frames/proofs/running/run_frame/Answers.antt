@@ -10,12 +10,16 @@ use Rattle.pst_machine_frames.proofs.running.run_frame.Goals as goal
 
 pub returns-in-At : goal.returns-in-At
 returns-in-At g c =
-    let l = subst (λ (r : Rested). Leaves c.args.code.now (g.H.HeapAt.state c.args.heap.now) (whole c.args.standing.now c.args.frame.now c.args.left.now) (came_with r) (g.H.HeapAt.state c.go_on.new.heap) (whole c.go_on.new.standing c.go_on.new.frame c.go_on.new.left)) c.in-At.is c.in_ok-step.ensures.ran in
+    let l = subst (λ (r : Rested). Leaves c.args.code.now (g.H.HeapAt.state c.args.heap.now)
+    (whole c.args.standing.now c.args.frame.now c.args.left.now) (came_with r) (g.H.HeapAt.state c.go_on.new.heap)
+    (whole c.go_on.new.standing c.go_on.new.frame c.go_on.new.left)) c.in-At.is c.in_ok-step.ensures.ran in
     record { ran = l.0; falls = l.1; out = l.2; err = tt; reads = tt; top = c.go_on.ensures.top; last = c.in_ok-step.ensures.last; home = c.go_on.ensures.home }
 
 pub switch-requires : goal.switch-requires
 switch-requires g c =
-    let l = subst (λ (r : Rested). Leaves c.args.code.now (g.H.HeapAt.state c.args.heap.now) (whole c.args.standing.now c.args.frame.now c.args.left.now) (came_with r) (g.H.HeapAt.state c.go_on.new.heap) (whole c.go_on.new.standing c.go_on.new.frame c.go_on.new.left)) c.in-Due.is c.in_ok-step.ensures.ran in
+    let l = subst (λ (r : Rested). Leaves c.args.code.now (g.H.HeapAt.state c.args.heap.now)
+    (whole c.args.standing.now c.args.frame.now c.args.left.now) (came_with r) (g.H.HeapAt.state c.go_on.new.heap)
+    (whole c.go_on.new.standing c.go_on.new.frame c.go_on.new.left)) c.in-Due.is c.in_ok-step.ensures.ran in
     let b = whole c.go_on.new.standing c.go_on.new.frame c.go_on.new.left in
     record {
       valid = c.requires.valid;

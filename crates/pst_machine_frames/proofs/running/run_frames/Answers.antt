@@ -26,7 +26,9 @@ body-procedure-requires g c =
     let parts = c.args.code.now in
     let s = g.H.HeapAt.state c.loop-step.heap in
     let a = whole c.loop-step.standing c.loop-step.frame c.loop-step.left in
-    procedure_there parts (s.heap a.place) a.current.procedure.0 (⊎_elim (λ lt. inl lt) (λ le. inr (slice_get_past parts.procedures a.current.procedure.0 le)) (cases_lt a.current.procedure.0 (length parts.procedures))) (current_of parts s a) refl c.loop-step.invariant.ran.running.sound.frame
+    procedure_there parts (s.heap a.place) a.current.procedure.0
+    (⊎_elim (λ lt. inl lt) (λ le. inr (slice_get_past parts.procedures a.current.procedure.0 le))
+    (cases_lt a.current.procedure.0 (length parts.procedures))) (current_of parts s a) refl c.loop-step.invariant.ran.running.sound.frame
 
 pub run_near-requires-clause-procedure : goal.run_near-requires-clause-procedure
 run_near-requires-clause-procedure g c = ap (λ (o : Option Procedure). unwrap_or o no_procedure) c.body-procedure.ensures
@@ -63,4 +65,6 @@ returns-in_default g c =
 pub returns-in_err-step-clause-reads : goal.returns-in_err-step-clause-reads
 returns-in_err-step-clause-reads g c =
     let parts = c.args.code.now in
-    on_err c.from_residual.result (reads_on parts c.requires.valid (g.H.HeapAt.state c.args.heap.now) (g.H.HeapAt.state c.loop-step.heap) (whole c.args.standing.now c.args.frame.now c.args.left.now) (whole c.loop-step.standing c.loop-step.frame c.loop-step.left) c.requires.running (g.H.HeapAt.state c.run_near.new.heap) c.loop-step.invariant.ran c.in_err-step.ensures.reads)
+    on_err c.from_residual.result (reads_on parts c.requires.valid (g.H.HeapAt.state c.args.heap.now) (g.H.HeapAt.state c.loop-step.heap)
+    (whole c.args.standing.now c.args.frame.now c.args.left.now) (whole c.loop-step.standing c.loop-step.frame c.loop-step.left)
+    c.requires.running (g.H.HeapAt.state c.run_near.new.heap) c.loop-step.invariant.ran c.in_err-step.ensures.reads)

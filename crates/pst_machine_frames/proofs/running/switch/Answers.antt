@@ -34,10 +34,12 @@ module _ {P R : Type 0} (parts : Parts) (s : State P R) (a : Standing P R) (vali
       subst (λ (rs : List Reg). Called a.current a.callers.items p into rs q.procedure.kinds step b.current b.callers.items) same_list
       (subst (λ (o : Option Procedure). IfSome o (λ q. Called a.current a.callers.items p into rs q.kinds step b.current b.callers.items)) q.there d) in
       let out : IsOut step = called_out parts s a.current b.current a.callers.items b.callers.items p into arguments q.procedure.kinds step does in
-      let ran = acted_other parts s s a b (Call p into arguments) step valid running funded next (not_next step out) (called_acted parts s a b p into arguments step q.procedure running.live q.there does same) in
+      let ran = acted_other parts s s a b (Call p into arguments) step valid running funded next (not_next step out)
+      (called_acted parts s a b p into arguments step q.procedure running.live q.there does same) in
       (ran.0, ran.1, out)
 
-  back : (r : Option Reg) (b : Standing P R) → next_instr (current_of parts s a) ≡ Some (Return r) → (step : Step) → Left a.current a.callers.items r step b.current b.callers.items → SameTally a b → Leaves parts s a (Some step) s b
+  back : (r : Option Reg) (b : Standing P R) → next_instr (current_of parts s a) ≡ Some (Return r) → (step : Step)
+      → Left a.current a.callers.items r step b.current b.callers.items → SameTally a b → Leaves parts s a (Some step) s b
   back r b next step does same =
       let out : IsOut step = left_out parts s a.current b.current a.callers.items b.callers.items r step does in
       let ran = acted_other parts s s a b (Return r) step valid running funded next (not_next step out) (left_acted parts s a b r step running.live does same) in
@@ -64,39 +66,51 @@ returns-in-Call-clause-ran g c =
     let s = g.H.HeapAt.state c.args.heap.now in
     let a = whole c.args.standing.now c.args.frame.now c.args._left in
     let parts = c.args.code.now in
-    IfOk-weaker c.call.result _ _ (λ step d. (called parts s a c.requires.valid c.requires.running c.requires.funded c.in-Call.p c.in-Call.into c.in-Call.arguments c.as_slice.result.now (whole c.call.new.standing c.call.new.frame c.args._left) c.as_slice.ensures (c.requires.instr ∙ ap (λ (i : Instr). Some i) c.in-Call.is) step d (same_whole c.call.ensures.same)).0) c.call.ensures.called
+    IfOk-weaker c.call.result _ _ (λ step d. (called parts s a c.requires.valid c.requires.running c.requires.funded c.in-Call.p c.in-Call.into
+    c.in-Call.arguments c.as_slice.result.now (whole c.call.new.standing c.call.new.frame c.args._left) c.as_slice.ensures
+    (c.requires.instr ∙ ap (λ (i : Instr). Some i) c.in-Call.is) step d (same_whole c.call.ensures.same)).0) c.call.ensures.called
 
 pub returns-in-Call-clause-falls : goal.returns-in-Call-clause-falls
 returns-in-Call-clause-falls g c =
     let s = g.H.HeapAt.state c.args.heap.now in
     let a = whole c.args.standing.now c.args.frame.now c.args._left in
     let parts = c.args.code.now in
-    IfOk-weaker c.call.result _ _ (λ step d. (called parts s a c.requires.valid c.requires.running c.requires.funded c.in-Call.p c.in-Call.into c.in-Call.arguments c.as_slice.result.now (whole c.call.new.standing c.call.new.frame c.args._left) c.as_slice.ensures (c.requires.instr ∙ ap (λ (i : Instr). Some i) c.in-Call.is) step d (same_whole c.call.ensures.same)).1) c.call.ensures.called
+    IfOk-weaker c.call.result _ _ (λ step d. (called parts s a c.requires.valid c.requires.running c.requires.funded c.in-Call.p c.in-Call.into
+    c.in-Call.arguments c.as_slice.result.now (whole c.call.new.standing c.call.new.frame c.args._left) c.as_slice.ensures
+    (c.requires.instr ∙ ap (λ (i : Instr). Some i) c.in-Call.is) step d (same_whole c.call.ensures.same)).1) c.call.ensures.called
 
 pub returns-in-Call-clause-out : goal.returns-in-Call-clause-out
 returns-in-Call-clause-out g c =
     let s = g.H.HeapAt.state c.args.heap.now in
     let a = whole c.args.standing.now c.args.frame.now c.args._left in
     let parts = c.args.code.now in
-    IfOk-weaker c.call.result _ _ (λ step d. (called parts s a c.requires.valid c.requires.running c.requires.funded c.in-Call.p c.in-Call.into c.in-Call.arguments c.as_slice.result.now (whole c.call.new.standing c.call.new.frame c.args._left) c.as_slice.ensures (c.requires.instr ∙ ap (λ (i : Instr). Some i) c.in-Call.is) step d (same_whole c.call.ensures.same)).2) c.call.ensures.called
+    IfOk-weaker c.call.result _ _ (λ step d. (called parts s a c.requires.valid c.requires.running c.requires.funded c.in-Call.p c.in-Call.into
+    c.in-Call.arguments c.as_slice.result.now (whole c.call.new.standing c.call.new.frame c.args._left) c.as_slice.ensures
+    (c.requires.instr ∙ ap (λ (i : Instr). Some i) c.in-Call.is) step d (same_whole c.call.ensures.same)).2) c.call.ensures.called
 
 pub returns-in-Return-clause-ran : goal.returns-in-Return-clause-ran
 returns-in-Return-clause-ran g c =
     let s = g.H.HeapAt.state c.args.heap.now in
     let a = whole c.args.standing.now c.args.frame.now c.args._left in
     let parts = c.args.code.now in
-    IfOk-weaker c.leave.result _ _ (λ step d. (back parts s a c.requires.valid c.requires.running c.requires.funded c.in-Return.s (whole c.leave.new.standing c.leave.new.frame c.args._left) (c.requires.instr ∙ ap (λ (i : Instr). Some i) c.in-Return.is) step d (same_whole c.leave.ensures.same)).0) c.leave.ensures.left
+    IfOk-weaker c.leave.result _ _ (λ step d. (back parts s a c.requires.valid c.requires.running c.requires.funded c.in-Return.s
+    (whole c.leave.new.standing c.leave.new.frame c.args._left) (c.requires.instr ∙ ap (λ (i : Instr). Some i) c.in-Return.is) step d
+    (same_whole c.leave.ensures.same)).0) c.leave.ensures.left
 
 pub returns-in-Return-clause-falls : goal.returns-in-Return-clause-falls
 returns-in-Return-clause-falls g c =
     let s = g.H.HeapAt.state c.args.heap.now in
     let a = whole c.args.standing.now c.args.frame.now c.args._left in
     let parts = c.args.code.now in
-    IfOk-weaker c.leave.result _ _ (λ step d. (back parts s a c.requires.valid c.requires.running c.requires.funded c.in-Return.s (whole c.leave.new.standing c.leave.new.frame c.args._left) (c.requires.instr ∙ ap (λ (i : Instr). Some i) c.in-Return.is) step d (same_whole c.leave.ensures.same)).1) c.leave.ensures.left
+    IfOk-weaker c.leave.result _ _ (λ step d. (back parts s a c.requires.valid c.requires.running c.requires.funded c.in-Return.s
+    (whole c.leave.new.standing c.leave.new.frame c.args._left) (c.requires.instr ∙ ap (λ (i : Instr). Some i) c.in-Return.is) step d
+    (same_whole c.leave.ensures.same)).1) c.leave.ensures.left
 
 pub returns-in-Return-clause-out : goal.returns-in-Return-clause-out
 returns-in-Return-clause-out g c =
     let s = g.H.HeapAt.state c.args.heap.now in
     let a = whole c.args.standing.now c.args.frame.now c.args._left in
     let parts = c.args.code.now in
-    IfOk-weaker c.leave.result _ _ (λ step d. (back parts s a c.requires.valid c.requires.running c.requires.funded c.in-Return.s (whole c.leave.new.standing c.leave.new.frame c.args._left) (c.requires.instr ∙ ap (λ (i : Instr). Some i) c.in-Return.is) step d (same_whole c.leave.ensures.same)).2) c.leave.ensures.left
+    IfOk-weaker c.leave.result _ _ (λ step d. (back parts s a c.requires.valid c.requires.running c.requires.funded c.in-Return.s
+    (whole c.leave.new.standing c.leave.new.frame c.args._left) (c.requires.instr ∙ ap (λ (i : Instr). Some i) c.in-Return.is) step d
+    (same_whole c.leave.ensures.same)).2) c.leave.ensures.left

@@ -20,7 +20,8 @@ field-v-requires-clause-kind g c =
     let e : ElementSlot first c.args.element.elements c.in-Some.slot.0 = element_slot first c.args.element.elements (number_of (value_of s.name (held_in frame c.args.element.index))) c.in-Some.slot.0
     (sym (ap (option_map (λ (n : SlotNo). n.0)) c.in-Some.is) ∙ c.slot_of.ensures s.name) in
     ap (kind_in s.shape (s.heap c.args.at) (s.name c.in-Reference.r)) e.is
-    ∙ subst (λ (v : Register g.row.H-Ref.Denot). FieldIs s c.args.at (slice_get c.args.kinds.now c.args.d.0) (first + e.index) v) (sym c.read.ensures.is ∙ c.in-Reference.is) (c.requires.kind.each e.index e.below)
+    ∙ subst (λ (v : Register g.row.H-Ref.Denot). FieldIs s c.args.at (slice_get c.args.kinds.now c.args.d.0) (first + e.index) v)
+    (sym c.read.ensures.is ∙ c.in-Reference.is) (c.requires.kind.each e.index e.below)
     ∙ c.kind_at.ensures
 
 pub returns-in-None-clause-acts : goal.returns-in-None-clause-acts
@@ -43,7 +44,8 @@ returns-in-Some-clause-acts g c = λ parts cs w shape heap.
     let place : ElementSlot e.first.0 e.elements slot = element_slot e.first.0 e.elements (number_of (value_of s.name (held_in c.args.frame.now e.index))) slot at in
     let kind : kind_in s.shape h (s.name c.in-Reference.r) slot ≡ Some c.kind_at.result =
     ap (kind_in s.shape h (s.name c.in-Reference.r)) place.is
-    ∙ subst (λ (v : Register g.row.H-Ref.Denot). FieldIs s c.args.at (slice_get c.args.kinds.now c.args.d.0) (e.first.0 + place.index) v) (sym c.read.ensures.is ∙ c.in-Reference.is) (c.requires.kind.each place.index place.below)
+    ∙ subst (λ (v : Register g.row.H-Ref.Denot). FieldIs s c.args.at (slice_get c.args.kinds.now c.args.d.0) (e.first.0 + place.index) v)
+    (sym c.read.ensures.is ∙ c.in-Reference.is) (c.requires.kind.each place.index place.below)
     ∙ c.kind_at.ensures in
     ap (λ (x : Answer). after_effect (put_answer c.args.d x f.line f.registers w) f cs)
     (element_read parts.shape w.heap s.name c.args.frame.now.registers.items c.args.object.0 e.index.0 c.in-Reference.r e.first.0 e.elements (Some slot) (sym c.read.ensures.is ∙ c.in-Reference.is) at

@@ -13,7 +13,8 @@ loop-i-preserved g c =
     let s = g.H.HeapAt.state c.args.heap.now in
     let rs = c.loop-i.registers.items in
     let near = Reference c.nearest.result in (
-      map-set_same (value_of s.name) rs c.loop-i.i near c.index.result.now (ap (λ (n : Name). Record n) c.nearest.ensures.name ∙ ap (value_of s.name) (sym c.in-Reference.is ∙ c.index.ensures)) ∙ c.loop-i.invariant.0,
+      map-set_same (value_of s.name) rs c.loop-i.i near c.index.result.now
+          (ap (λ (n : Name). Record n) c.nearest.ensures.name ∙ ap (value_of s.name) (sym c.in-Reference.is ∙ c.index.ensures)) ∙ c.loop-i.invariant.0,
       live_set s c.args.at rs c.loop-i.i near c.nearest.ensures.live c.loop-i.invariant.1,
       length-set rs c.loop-i.i near ∙ c.loop-i.invariant.2,
     )

@@ -8,7 +8,8 @@ use Rattle.pst_machine_steps.proofs.frame.set.Goals as goal
 
 pub returns-clause-acts : goal.returns-clause-acts
 returns-clause-acts g c = λ name parts cs w.
-    ap (λ (vs : List Value). Goes (behind (frame_of parts name c.args.frame.now) vs) cs w) (sym (ap (map (value_of name)) c.put_at.ensures ∙ values_set name c.args.frame.now.registers.items c.args.d.0 c.args.v))
+    ap (λ (vs : List Value). Goes (behind (frame_of parts name c.args.frame.now) vs) cs w)
+    (sym (ap (map (value_of name)) c.put_at.ensures ∙ values_set name c.args.frame.now.registers.items c.args.d.0 c.args.v))
 
 pub returns-clause-kept : goal.returns-clause-kept
 returns-clause-kept g c = λ plain.

@@ -13,5 +13,7 @@ returns-clause-acts g c = λ name parts cs w.
     let left : SFits w64 c.operand-left.result = search rules in
     let right : SFits w64 c.operand-right.result = search rules in
     let given : answer_of c.operate.result ≡ operate c.args.op (held f.registers c.args.a) (held f.registers c.args.b) =
-    c.operate.ensures (held f.registers c.args.a) (held f.registers c.args.b) (sym (to_z-of_z w64 c.operand-left.result left ∙ c.operand-left.ensures parts name)) (sym (to_z-of_z w64 c.operand-right.result right ∙ c.operand-right.ensures parts name)) in
+    c.operate.ensures (held f.registers c.args.a) (held f.registers c.args.b)
+    (sym (to_z-of_z w64 c.operand-left.result left ∙ c.operand-left.ensures parts name))
+    (sym (to_z-of_z w64 c.operand-right.result right ∙ c.operand-right.ensures parts name)) in
     ap (λ (x : Answer). after_effect (put_answer c.args.d x f.line f.registers w) f cs) (sym given) ∙ c.put.ensures.acts name parts cs w

@@ -6,4 +6,5 @@ use Rattle.pst_notation.specs.Canonical.{parameter_text}
 use Rattle.pst_notation.proofs.declarations.put_more_parameters.Given as goal
 
 abbrev pub invariant-loop-parameter : goal.invariant-loop-parameter
-invariant-loop-parameter l = l.out.items ++ flat_map (behind_comma parameter_text) (map local_of (drop l.parameter-index l.list)) ≡ l.fn.out.items ++ flat_map (behind_comma parameter_text) (map local_of l.list)
+invariant-loop-parameter l = l.out.items ++ flat_map (behind_comma parameter_text) (map local_of (drop l.parameter-index l.list)) ≡ l.fn.out.items ++
+    flat_map (behind_comma parameter_text) (map local_of l.list)

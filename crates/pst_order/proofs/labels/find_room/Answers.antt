@@ -43,7 +43,9 @@ loop-width-smaller c =
     let a : ℕ = label_of c.args.labels.now c.args.place in
     let n : length qs ≡ length c.args.next.now = length-walk c.args.next.now (length c.args.next.now) (get_or c.args.next.now c.args.place 0) in
     let i = c.loop-width.invariant in
-    let s : IsSearched c.args.labels.now a qs c.loop-width.steps = search_on c.args.labels.now a qs c.loop-width.steps c.loop-width.at c.loop-width.width i.some (omega (arith, n, i.within, c.requires.found)) i.rest i.here i.wide c.loop-width-test.true in
+    let s : IsSearched c.args.labels.now a qs c.loop-width.steps =
+    search_on c.args.labels.now a qs c.loop-width.steps c.loop-width.at c.loop-width.width i.some (omega (arith, n, i.within, c.requires.found))
+    i.rest i.here i.wide c.loop-width-test.true in
     let g : length c.args.next.now - (c.loop-width.steps + 1) < length c.args.next.now - c.loop-width.steps = omega (arith, s.within, c.requires.found) in
     g
 
@@ -53,7 +55,9 @@ loop-width-preserved c =
     let a : ℕ = label_of c.args.labels.now c.args.place in
     let n : length qs ≡ length c.args.next.now = length-walk c.args.next.now (length c.args.next.now) (get_or c.args.next.now c.args.place 0) in
     let i = c.loop-width.invariant in
-    let s : IsSearched c.args.labels.now a qs c.loop-width.steps = search_on c.args.labels.now a qs c.loop-width.steps c.loop-width.at c.loop-width.width i.some (omega (arith, n, i.within, c.requires.found)) i.rest i.here i.wide c.loop-width-test.true in
+    let s : IsSearched c.args.labels.now a qs c.loop-width.steps =
+    search_on c.args.labels.now a qs c.loop-width.steps c.loop-width.at c.loop-width.width i.some (omega (arith, n, i.within, c.requires.found))
+    i.rest i.here i.wide c.loop-width-test.true in
     record {
       some = omega arith;
       within = s.within;
@@ -69,7 +73,8 @@ returns-clause-steps c =
     let qs : List ℕ = walk c.args.next.now (length c.args.next.now) (get_or c.args.next.now c.args.place 0) in
     let n : length qs ≡ length c.args.next.now = length-walk c.args.next.now (length c.args.next.now) (get_or c.args.next.now c.args.place 0) in
     let i = c.loop-width.invariant in
-    search_end c.args.labels.now (label_of c.args.labels.now c.args.place) qs c.loop-width.steps c.loop-width.at c.loop-width.width i.some (omega (arith, n, i.within, c.requires.found)) i.rest i.here i.wide c.loop-width-test.false
+    search_end c.args.labels.now (label_of c.args.labels.now c.args.place) qs c.loop-width.steps c.loop-width.at c.loop-width.width i.some
+    (omega (arith, n, i.within, c.requires.found)) i.rest i.here i.wide c.loop-width-test.false
 
 pub returns-clause-width : goal.returns-clause-width
 returns-clause-width c =
@@ -77,10 +82,13 @@ returns-clause-width c =
     let a : ℕ = label_of c.args.labels.now c.args.place in
     let n : length qs ≡ length c.args.next.now = length-walk c.args.next.now (length c.args.next.now) (get_or c.args.next.now c.args.place 0) in
     let i = c.loop-width.invariant in
-    let e : c.loop-width.steps ≡ reach c.args.labels.now a qs 1 = search_end c.args.labels.now a qs c.loop-width.steps c.loop-width.at c.loop-width.width i.some (omega (arith, n, i.within, c.requires.found)) i.rest i.here i.wide c.loop-width-test.false in
+    let e : c.loop-width.steps ≡ reach c.args.labels.now a qs 1 =
+    search_end c.args.labels.now a qs c.loop-width.steps c.loop-width.at c.loop-width.width i.some (omega (arith, n, i.within, c.requires.found))
+    i.rest i.here i.wide c.loop-width-test.false in
     i.wide ∙ (ap (λ (t : ℕ). way a (label_of c.args.labels.now t)) i.here ∙ ap (λ (t : ℕ). way a (label_of c.args.labels.now (get_or qs (t - 1) 0))) e)
 
 pub returns-clause-low : goal.returns-clause-low
 returns-clause-low c =
     let i = c.loop-width.invariant in
-    subst (λ (t : ℕ). t ≤ circle) (sym i.wide) (ahead_low (label_of c.args.labels.now c.args.place) (label_of c.args.labels.now c.loop-width.at) (label_low c.args.labels.now c.args.place c.requires.low) (label_low c.args.labels.now c.loop-width.at c.requires.low))
+    subst (λ (t : ℕ). t ≤ circle) (sym i.wide) (ahead_low (label_of c.args.labels.now c.args.place) (label_of c.args.labels.now c.loop-width.at)
+    (label_low c.args.labels.now c.args.place c.requires.low) (label_low c.args.labels.now c.loop-width.at c.requires.low))

@@ -27,13 +27,16 @@ loop-nth-preserved c =
     let i = c.loop-nth.invariant in
     let k : 1 ≤ c.loop-nth._nth = c.loop-nth.auto._nth in
     let share = sym (share_there (goal.at.loop-nth-preserved c).In-loop-nth) in
-    let v : c.shifted.result ≡ (c.args.start + c.args.room.now.width * c.loop-nth._nth / c.args.room.now.steps) % circle = c.shifted.ensures.result ∙ ap (λ (t : ℕ). (c.args.start + t) % circle) share in
+    let v : c.shifted.result ≡ (c.args.start + c.args.room.now.width * c.loop-nth._nth / c.args.room.now.steps) % circle = c.shifted.ensures.result
+    ∙ ap (λ (t : ℕ). (c.args.start + t) % circle) share in
     record {
       here = walk_on c.args.next.now (length c.args.next.now) c.args.first c.loop-nth._nth c.loop-nth.at k (omega (arith, c.loop-nth-test.true, c.requires.steps)) i.here;
       there = AreBelow-get (length c.args.next.now) c.args.next.now c.loop-nth.at c.requires.inside i.there;
       low = AreBelow-set circle c.loop-nth.labels c.loop-nth.at c.shifted.result i.low c.shifted.ensures.low;
       same = length-set c.loop-nth.labels c.loop-nth.at c.shifted.result ∙ i.same;
-      sum = share_next c.args.room.now.width c.loop-nth._nth c.args.room.now.steps c.loop-nth.way.whole c.loop-nth.way.parts c.mixed_sum-way.result.whole c.mixed_sum-way.result.parts i.sum c.mixed_sum-way.ensures.sum;
+      sum = share_next c.args.room.now.width c.loop-nth._nth c.args.room.now.steps c.loop-nth.way.whole c.loop-nth.way.parts
+          c.mixed_sum-way.result.whole c.mixed_sum-way.result.parts i.sum c.mixed_sum-way.ensures.sum;
       proper = c.mixed_sum-way.ensures.proper;
-      rest = share_step c.loop-nth.labels qs c.args.start c.args.room.now.width c.args.room.now.steps c.loop-nth._nth c.loop-nth.at c.shifted.result k c.loop-nth-test.true (omega (arith, n, c.requires.steps)) i.here v ∙ i.rest;
+      rest = share_step c.loop-nth.labels qs c.args.start c.args.room.now.width c.args.room.now.steps c.loop-nth._nth c.loop-nth.at c.shifted.result k
+          c.loop-nth-test.true (omega (arith, n, c.requires.steps)) i.here v ∙ i.rest;
     }

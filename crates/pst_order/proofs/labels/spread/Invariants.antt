@@ -13,5 +13,6 @@ invariant-loop-nth l =
       same : length l.labels ≡ length l.next;
       sum : l.way.whole * l.room.steps + l.way.parts ≡ l.room.width * l._nth;
       proper : l.way.parts < l.room.steps;
-      rest : spread_labels l.labels (drop (l._nth - 1) (take (l.room.steps - 1) qs)) l.start l.room.width l.room.steps l._nth ≡ spread_labels l.initial.labels (take (l.room.steps - 1) qs) l.start l.room.width l.room.steps 1;
+      rest : spread_labels l.labels (drop (l._nth - 1) (take (l.room.steps - 1) qs)) l.start l.room.width l.room.steps l._nth ≡ spread_labels
+          l.initial.labels (take (l.room.steps - 1) qs) l.start l.room.width l.room.steps 1;
     }

@@ -46,4 +46,5 @@ returns-clause-parses c = λ ts end lexes.
 
 pub returns-clause-lexed : goal.returns-clause-lexed
 returns-clause-lexed c =
-    c.in_ok-declarations.ensures.lexed c.args.text.now (subst (λ (x : Lexer). IsReached c.args.text.now x) (sym c.keep.ensures.lexer) (c.in_ok-fill.ensures.reached c.args.text.now c.new-window.ensures.0))
+    c.in_ok-declarations.ensures.lexed c.args.text.now (subst (λ (x : Lexer). IsReached c.args.text.now x) (sym c.keep.ensures.lexer)
+    (c.in_ok-fill.ensures.reached c.args.text.now c.new-window.ensures.0))

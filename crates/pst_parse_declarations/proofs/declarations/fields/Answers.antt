@@ -14,7 +14,8 @@ returns-in_err-field-clause-given c =
 pub loop-alloc-preserved : goal.loop-alloc-preserved
 loop-alloc-preserved c = (
   omega (arith, c.in_ok-field.ensures.shorter, c.loop-alloc.invariant.0),
-  loop_more starts_field (field c.args.language) field_of _ _ c.in_ok-field.field _ _ _ (field_short c.args.language) c.in_ok-push.ensures.items c.loop-alloc-test.ensures c.in_ok-field.ensures.given c.loop-alloc.invariant.1,
+  loop_more starts_field (field c.args.language) field_of _ _ c.in_ok-field.field _ _ _ (field_short c.args.language) c.in_ok-push.ensures.items
+      c.loop-alloc-test.ensures c.in_ok-field.ensures.given c.loop-alloc.invariant.1,
 )
 
 pub returns-clause-given : goal.returns-clause-given

@@ -9,7 +9,8 @@ use Rattle.pst_parse_declarations.proofs.declarations.fields.Given as goal
 
 abbrev pub invariant-loop-alloc : goal.invariant-loop-alloc
 invariant-loop-alloc l =
-    (length l.rest ≤ length l.fn.tokens) × (behind (map field_of l.items.items) (many starts_field (field l.fn.language) (lexemes_of l.rest)) ≡ many starts_field (field l.fn.language) (lexemes_of l.fn.tokens))
+    (length l.rest ≤ length l.fn.tokens) × (behind (map field_of l.items.items) (many starts_field (field l.fn.language) (lexemes_of l.rest)) ≡ many
+    starts_field (field l.fn.language) (lexemes_of l.fn.tokens))
 
 abbrev pub decreases-loop-alloc : goal.decreases-loop-alloc
 decreases-loop-alloc l = length l.rest

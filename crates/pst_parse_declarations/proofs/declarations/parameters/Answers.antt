@@ -16,7 +16,8 @@ returns-in_err-parameter-clause-given c =
 pub loop-next-preserved : goal.loop-next-preserved
 loop-next-preserved c = (
   omega (arith, c.in_ok-parameter.ensures.shorter, c.in-Some-after.ensures.shorter, c.loop-next.invariant.0),
-  comma_more parameter local_of _ _ c.in_ok-parameter.parameter _ _ _ _ parameter_short c.in_ok-push-2.ensures.items c.in-Some-after.ensures.seen c.in_ok-parameter.ensures.given c.loop-next.invariant.1,
+  comma_more parameter local_of _ _ c.in_ok-parameter.parameter _ _ _ _ parameter_short c.in_ok-push-2.ensures.items c.in-Some-after.ensures.seen
+      c.in_ok-parameter.ensures.given c.loop-next.invariant.1,
 )
 
 pub returns-clause-given : goal.returns-clause-given

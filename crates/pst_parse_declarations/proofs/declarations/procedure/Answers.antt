@@ -14,7 +14,12 @@ returns-in_err-signature-clause-given c =
 pub returns-in_err-locals-clause-given : goal.returns-in_err-locals-clause-given
 returns-in_err-locals-clause-given c =
     let p = err_from_is_err_and c.from_residual-in_err-locals.result c.from_residual-in_err-locals.ensures.1 in
-    rw (p.1, p.2, procedure_goes c.args.language c.args.height c.args.nesting c.args.line c.args.query (lexemes_of c.args.tokens.now) _ _ c.in_ok-signature.ensures.given) (stops_bind _ _ _ c.in_err-locals.ensures.given)
+    rw (
+      p.1,
+      p.2,
+      procedure_goes c.args.language c.args.height c.args.nesting c.args.line c.args.query (lexemes_of c.args.tokens.now) _ _
+          c.in_ok-signature.ensures.given,
+    ) (stops_bind _ _ _ c.in_err-locals.ensures.given)
 
 pub returns-in_err-body-clause-given : goal.returns-in_err-body-clause-given
 returns-in_err-body-clause-given c =
@@ -24,5 +29,10 @@ returns-in_err-body-clause-given c =
 
 pub returns-clause-given : goal.returns-clause-given
 returns-clause-given c =
-    rw (procedure_goes c.args.language c.args.height c.args.nesting c.args.line c.args.query (lexemes_of c.args.tokens.now) _ _ c.in_ok-signature.ensures.given, c.in_ok-locals.ensures.given, c.in_ok-body.ensures.given)
+    rw (
+      procedure_goes c.args.language c.args.height c.args.nesting c.args.line c.args.query (lexemes_of c.args.tokens.now) _ _
+          c.in_ok-signature.ensures.given,
+      c.in_ok-locals.ensures.given,
+      c.in_ok-body.ensures.given,
+    )
     (followed_gives item_of _ _ sign.CloseBrace _ c.followed.ensures.given c.followed.ensures.kept)

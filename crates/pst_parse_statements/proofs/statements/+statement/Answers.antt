@@ -14,18 +14,21 @@ pub block-returns-in_err-statement-clause-given : goal.block-returns-in_err-stat
 block-returns-in_err-statement-clause-given t c =
     let p = err_from_is_err_and c.from_residual.result c.from_residual.ensures.1 in
     rw (p.1, p.2) (stops_bind _ (λ ss. Got (block_of ss)) _
-    (loop_bad starts (reading_statement c.args.language c.args.height c.args.nesting) stated_of _ _ _ _ (statement_short c.args.language c.args.height c.args.nesting) c.loop-alloc-test.ensures c.in_err-statement.ensures.given c.loop-alloc.invariant.1))
+    (loop_bad starts (reading_statement c.args.language c.args.height c.args.nesting) stated_of _ _ _ _
+    (statement_short c.args.language c.args.height c.args.nesting) c.loop-alloc-test.ensures c.in_err-statement.ensures.given c.loop-alloc.invariant.1))
 
 pub block-loop-alloc-preserved : goal.block-loop-alloc-preserved
 block-loop-alloc-preserved t c = (
   omega (arith, c.in_ok-statement.ensures.shorter, c.loop-alloc.invariant.0),
-  loop_more starts (reading_statement c.args.language c.args.height c.args.nesting) stated_of _ _ c.in_ok-statement.statement _ _ _ (statement_short c.args.language c.args.height c.args.nesting) c.in_ok-put.ensures
+  loop_more starts (reading_statement c.args.language c.args.height c.args.nesting) stated_of _ _ c.in_ok-statement.statement _ _ _
+      (statement_short c.args.language c.args.height c.args.nesting) c.in_ok-put.ensures
       c.loop-alloc-test.ensures c.in_ok-statement.ensures.given c.loop-alloc.invariant.1,
 )
 
 pub block-returns-clause-given : goal.block-returns-clause-given
 block-returns-clause-given t c =
-    ap (λ r. and_then r (λ ss. Got (block_of ss))) (loop_done starts (reading_statement c.args.language c.args.height c.args.nesting) stated_of c.loop-alloc.items.items _ _ c.loop-alloc-test.ensures c.loop-alloc.invariant.1)
+    ap (λ r. and_then r (λ ss. Got (block_of ss))) (loop_done starts (reading_statement c.args.language c.args.height c.args.nesting) stated_of
+    c.loop-alloc.items.items _ _ c.loop-alloc-test.ensures c.loop-alloc.invariant.1)
     ∙ ap (λ ss. Got (block_of (map stated_of ss)) (lexemes_of c.loop-alloc.rest.now)) (sym c.shrink_to_fit.ensures.items)
     ∙ ap (λ b. Got b (lexemes_of c.loop-alloc.rest.now)) (sym (made_block (record { items = c.shrink_to_fit.new.self })))
 

@@ -28,7 +28,8 @@ decreases-statement l = 4 * length l.tokens.now + 2
 abbrev pub invariant-block-loop-alloc : goal.invariant-block-loop-alloc
 invariant-block-loop-alloc l =
     (length l.rest ≤ length l.fn.tokens)
-    × (behind (map stated_of l.items.items) (many starts (reading_statement l.fn.language l.fn.height l.fn.nesting) (lexemes_of l.rest)) ≡ many starts (reading_statement l.fn.language l.fn.height l.fn.nesting) (lexemes_of l.fn.tokens))
+    × (behind (map stated_of l.items.items) (many starts (reading_statement l.fn.language l.fn.height l.fn.nesting) (lexemes_of l.rest)) ≡ many starts
+    (reading_statement l.fn.language l.fn.height l.fn.nesting) (lexemes_of l.fn.tokens))
 
 abbrev pub decreases-block-loop-alloc : goal.decreases-block-loop-alloc
 decreases-block-loop-alloc l = length l.rest

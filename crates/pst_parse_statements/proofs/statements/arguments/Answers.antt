@@ -9,12 +9,14 @@ use Rattle.pst_parse_statements.proofs.statements.arguments.Goals as goal
 pub returns-in_err-argument-clause-given : goal.returns-in_err-argument-clause-given
 returns-in_err-argument-clause-given c =
     let p = err_from_is_err_and c.from_residual-in_err-argument.result c.from_residual-in_err-argument.ensures.1 in
-    rw (p.1, p.2) (comma_bad (read c.args.language c.args.height 0) expr_of _ _ _ _ _ (argument_short c.args.language c.args.height) c.in-Some-after.ensures.seen c.in_err-argument.ensures.given c.loop-next.invariant.1)
+    rw (p.1, p.2) (comma_bad (read c.args.language c.args.height 0) expr_of _ _ _ _ _ (argument_short c.args.language c.args.height)
+    c.in-Some-after.ensures.seen c.in_err-argument.ensures.given c.loop-next.invariant.1)
 
 pub loop-next-preserved : goal.loop-next-preserved
 loop-next-preserved c = (
   omega (arith, c.in_ok-argument.ensures.shorter, c.in-Some-after.ensures.shorter, c.loop-next.invariant.0),
-  comma_more (read c.args.language c.args.height 0) expr_of _ _ c.in_ok-argument.argument _ _ _ _ (argument_short c.args.language c.args.height) c.in_ok-push-2.ensures.items c.in-Some-after.ensures.seen c.in_ok-argument.ensures.given.0 c.loop-next.invariant.1,
+  comma_more (read c.args.language c.args.height 0) expr_of _ _ c.in_ok-argument.argument _ _ _ _ (argument_short c.args.language c.args.height)
+      c.in_ok-push-2.ensures.items c.in-Some-after.ensures.seen c.in_ok-argument.ensures.given.0 c.loop-next.invariant.1,
 )
 
 pub returns-in_err-rest-clause-given : goal.returns-in_err-rest-clause-given

@@ -21,7 +21,8 @@ loop-number-preserved g c =
     let i = c.loop-number.number in
     let noted = noted_at s c.args.at (entries_of c.in_ok-found.found) i c.record.result c.in_ok-found.ensures.entries c.record.ensures in
     let next = lines_text-next types h names names i (s.name c.record.result) noted.listed in
-    line_put c.loop-number.out.items c.put_line.new.out.items (line_text types i (line_of names (get h (s.name c.record.result)))) (lines_text types (i + 1) (drop (i + 1) (lines_of h names))) (dump_text types h names)
+    line_put c.loop-number.out.items c.put_line.new.out.items (line_text types i (line_of names (get h (s.name c.record.result))))
+    (lines_text types (i + 1) (drop (i + 1) (lines_of h names))) (dump_text types h names)
     c.in_ok-put_line.ensures (sym (ap (λ t. c.loop-number.out.items ++ t) next) ∙ c.loop-number.invariant)
 
 pub returns : goal.returns

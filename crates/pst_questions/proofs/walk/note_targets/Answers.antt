@@ -1,7 +1,7 @@
 use Rattle.std.proofs.Common.{◌≡◌, ◌+◌, ◌-◌, length, drop, ap, sym, ◌∙◌, arith}
 use Rattle.std.proofs.lemmas.List.{drop_all}
 use Rattle.pst_questions.specs.Walk.{names_of, pointers_of, noted, all_noted}
-use Rattle.pst_questions.proofs.Fields.{fields_of, drop-pointers}
+use Rattle.pst_questions.proofs.FieldLemmas.{fields_of, drop-pointers}
 use Rattle.pst_questions.proofs.walk.note_targets.Goals as goal
 
 pub loop-slot-preserved : goal.loop-slot-preserved
@@ -26,7 +26,8 @@ loop-slot-preserved g c =
 pub returns-clause-names : goal.returns-clause-names
 returns-clause-names g c =
     let s = g.H.HeapAt.state c.args.heap.now in
-    let has = fields_of s.shape (s.heap c.args.at) (s.name c.args.r) c.args.fields.now (c.known.ensures.well_formed c.args.at (c.known.ensures.placed c.args.at c.args.r c.requires.fields.live)) c.requires.fields.fields_are in
+    let has = fields_of s.shape (s.heap c.args.at) (s.name c.args.r) c.args.fields.now
+    (c.known.ensures.well_formed c.args.at (c.known.ensures.placed c.args.at c.args.r c.requires.fields.live)) c.requires.fields.fields_are in
     let count = has.pointers in
     let listed : length c.as_slice.result.now ≡ length c.args.fields.now.targets = ap length c.as_slice.ensures in
     let past = c.loop-slot-test.false in

@@ -6,7 +6,7 @@ use Rattle.indexmap.specs.IndexMap.{insert_entry}
 use Rattle.pst_base.specs.Name.{root_name, same_name}
 use Rattle.pst_questions.specs.Walk.{entries_of, names_of, IsEntry}
 use Rattle.pst_questions.proofs.Entries.{noted_at, AreEntries-noted}
-use Rattle.pst_questions.proofs.Fields.{known_type, fields_read}
+use Rattle.pst_questions.proofs.FieldLemmas.{known_type, fields_read}
 use Rattle.pst_questions.proofs.Walked.{WalkedOn}
 use Rattle.pst_questions.proofs.Numbered.{WalkedOn-none, WalkedOn-next, AreNumbered-all}
 use Rattle.pst_questions.proofs.walk.records.Goals as goal
@@ -17,7 +17,8 @@ loop-number-init g c =
     let es = c.in_ok-note.ensures ∙ ap (λ es. insert_entry same_name es root_name c.root.result) c.new-found.ensures in
     record {
       walked = subst (WalkedOn (s.heap c.args.at) 0) (sym (ap (map (λ e. e.0)) es)) (WalkedOn-none (s.heap c.args.at));
-      entries = subst (All (IsEntry s c.args.at)) (sym es) (AreEntries-noted s c.args.at [] root_name c.root.result (record { live = c.root.ensures.live; name = c.root.ensures.name }) (All-nil (IsEntry s c.args.at)));
+      entries = subst (All (IsEntry s c.args.at)) (sym es) (AreEntries-noted s c.args.at [] root_name c.root.result
+          (record { live = c.root.ensures.live; name = c.root.ensures.name }) (All-nil (IsEntry s c.args.at)));
     }
 
 pub type_of-requires : goal.type_of-requires

@@ -5,7 +5,8 @@ use Rattle.pst_repair.proofs.load.queue_if_over.Goals as goal
 use Rattle.pst_repair.proofs.load.queue_if_over.Goals.{else-is_over-via-then-is_over+else-not-waits, else-is_over-via-else-is_over}
 
 pub returns-then-not-waits-clause-queue : goal.returns-then-not-waits-clause-queue
-returns-then-not-waits-clause-queue c = queue_pushed c.args.shape.now c.args.nodes.now.list.items _ c.args.queue.now _ c.args.id.0 c.push.ensures.rest.0 c.push.ensures.rest.1 (c.is_over.ensures.0 c.if-is_over.true) c.push.ensures.held
+returns-then-not-waits-clause-queue c = queue_pushed c.args.shape.now c.args.nodes.now.list.items _ c.args.queue.now _ c.args.id.0
+    c.push.ensures.rest.0 c.push.ensures.rest.1 (c.is_over.ensures.0 c.if-is_over.true) c.push.ensures.held
 
 pub returns-else-is_over-clause-queue : goal.returns-else-is_over-clause-queue
 returns-else-is_over-clause-queue c = queue_kept c.args.shape.now c.args.nodes.now.list.items c.args.queue.now c.args.id.0

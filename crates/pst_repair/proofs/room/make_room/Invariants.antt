@@ -11,6 +11,7 @@ invariant-loop-index g l =
     let qs = g.O.Order.places l.order in
     record {
       same : AreSameNodes l.fn.nodes.list.items l.nodes.list.items;
-      room : (s j : ℕ) (d : Row) → l.first ≤ s → s < l.index → names j ((chart qs l.fn.nodes.list.items).holds l.x.0 s (rank qs l.at.0)) ≡ true → j ≢ l.x.0 → HasRoom (row_at l.nodes.list.items j d) (l.end - l.first);
+      room : (s j : ℕ) (d : Row) → l.first ≤ s → s < l.index → names j ((chart qs l.fn.nodes.list.items).holds l.x.0 s (rank qs l.at.0)) ≡ true
+          → j ≢ l.x.0 → HasRoom (row_at l.nodes.list.items j d) (l.end - l.first);
       spare : spare_nodes l.nodes ≡ spare_nodes l.fn.nodes;
     }

@@ -7,7 +7,9 @@ use Rattle.pst_repair.proofs.RoomLemmas.{named_there}
 use Rattle.pst_repair.proofs.room.reserve_partner.Goals as goal
 
 pub reserve_row-requires : goal.reserve_row-requires
-reserve_row-requires g c = named_there (g.O.Order.places c.args.order.now) c.args.nodes.now.list.items c.args.x.0 c.args.slot.0 ((rank (g.O.Order.places c.args.order.now)) c.args.at.0) c.in-Some.node.0 c.read.result c.requires.rows c.requires.mirrored (sym c.read.ensures) c.in-Some.ensures.some
+reserve_row-requires g c = named_there (g.O.Order.places c.args.order.now) c.args.nodes.now.list.items c.args.x.0 c.args.slot.0
+    ((rank (g.O.Order.places c.args.order.now)) c.args.at.0) c.in-Some.node.0 c.read.result c.requires.rows c.requires.mirrored (sym c.read.ensures)
+    c.in-Some.ensures.some
 
 pub returns-in-Some-clause-room : goal.returns-in-Some-clause-room
 returns-in-Some-clause-room g c = on_ok_weaker c.reserve_row.result

@@ -14,4 +14,5 @@ pub returns-clause-few : goal.returns-clause-few
 returns-clause-few c =
     let m = meaning_of c.args.program.now in
     let h = kept_for c.args.program.now c.args.history.now in
-    few-under m (direct_is_lawful (routines_of c.args.program.now) c.requires.typed.valid) h c.requires.sound c.args.number.0 (run_at h c.args.number.0) refl c.requires.there c.in_ok-outcome.outcome.counts (λ r e. (c.in_ok-outcome.ensures r e).counts)
+    few-under m (direct_is_lawful (routines_of c.args.program.now) c.requires.typed.valid) h c.requires.sound c.args.number.0
+    (run_at h c.args.number.0) refl c.requires.there c.in_ok-outcome.outcome.counts (λ r e. (c.in_ok-outcome.ensures r e).counts)

@@ -15,7 +15,8 @@ worked-requires-clause-there c = (query-accepted (meaning_of c.args.program.now)
 pub worked-requires-clause-older : goal.worked-requires-clause-older
 worked-requires-clause-older c =
     let h = kept_for c.args.program.now c.args.history.now in
-    subst (λ k. made_below h.start c.args.history.now.since.versions c.args.call.now.version.0 ≤ k) (sym c.next_number-number.ensures) (made_below-next (meaning_of c.args.program.now) h c.requires.sound c.args.call.now.version.0)
+    subst (λ k. made_below h.start c.args.history.now.since.versions c.args.call.now.version.0 ≤ k) (sym c.next_number-number.ensures)
+    (made_below-next (meaning_of c.args.program.now) h c.requires.sound c.args.call.now.version.0)
 
 pub worked-requires-clause-work : goal.worked-requires-clause-work
 worked-requires-clause-work c =
@@ -28,4 +29,5 @@ pub returns : goal.returns
 returns c =
     let m = meaning_of c.args.program.now in
     let h = kept_for c.args.program.now c.args.history.now in
-    c.queried.ensures ∙ query-answered m h c.args.call.now c.next_number-number.result.0 c.in_ok-calls.calls c.in_ok-outcome.outcome c.next_number-number.ensures c.in_ok-calls.ensures c.in_ok-outcome.ensures
+    c.queried.ensures ∙ query-answered m h c.args.call.now c.next_number-number.result.0 c.in_ok-calls.calls c.in_ok-outcome.outcome
+    c.next_number-number.ensures c.in_ok-calls.ensures c.in_ok-outcome.ensures

@@ -17,7 +17,9 @@ loop-at-preserved c =
     let found = present h.runs i below in
     let f = run_counts (meaning_of c.args.program.now) h in
     record {
-      sum = sum-more f h.runs i found.0 (record { records = 1; pointer_writes = 0; value_writes = 0 }) c.loop-at.total c.in_ok-counts.counts c.plus-total.result found.1 c.loop-at.invariant.sum (c.in_ok-counts.ensures.counts found.0 (numbered-at 1 h.runs (i + 1) i (omega arith) ∙ found.1)) c.plus-total.ensures;
+      sum = sum-more f h.runs i found.0 (record { records = 1; pointer_writes = 0; value_writes = 0 }) c.loop-at.total c.in_ok-counts.counts
+          c.plus-total.result found.1 c.loop-at.invariant.sum
+          (c.in_ok-counts.ensures.counts found.0 (numbered-at 1 h.runs (i + 1) i (omega arith) ∙ found.1)) c.plus-total.ensures;
       few = few-more i c.loop-at.total c.in_ok-counts.counts c.plus-total.result c.loop-at.invariant.few c.in_ok-counts.ensures.few c.plus-total.ensures;
     }
 
@@ -26,4 +28,5 @@ unfolding counts_of
 returns c =
     let h = kept_for c.args.program.now c.args.history.now in
     let all : length h.runs ≤ c.loop-at.at = search rules in
-    c.loop-at.invariant.sum ∙ ap (λ xs. counts_plus (record { records = 1; pointer_writes = 0; value_writes = 0 }) (total_counts (run_counts (meaning_of c.args.program.now) h) 1 xs)) (take_all c.loop-at.at h.runs all)
+    c.loop-at.invariant.sum ∙ ap (λ xs. counts_plus (record { records = 1; pointer_writes = 0; value_writes = 0 })
+    (total_counts (run_counts (meaning_of c.args.program.now) h) 1 xs)) (take_all c.loop-at.at h.runs all)

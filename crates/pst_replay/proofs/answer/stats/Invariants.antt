@@ -8,6 +8,7 @@ use Rattle.pst_replay.proofs.answer.stats.Given as goal
 
 abbrev pub invariant-loop-at : goal.invariant-loop-at
 invariant-loop-at l = record {
-  sum : l.total ≡ counts_plus (record { records = 1; pointer_writes = 0; value_writes = 0 }) (total_counts (run_counts (meaning_of l.program) (kept_for l.program l.history)) 1 (take l.at l.history.since.runs));
+  sum : l.total ≡ counts_plus (record { records = 1; pointer_writes = 0; value_writes = 0 })
+      (total_counts (run_counts (meaning_of l.program) (kept_for l.program l.history)) 1 (take l.at l.history.since.runs));
   few : CountsWithin l.total (1 + l.at * 4294967295);
 }

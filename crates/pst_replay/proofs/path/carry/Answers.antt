@@ -16,7 +16,8 @@ pub execute-requires-clause-ready : goal.execute-requires-clause-ready
 execute-requires-clause-ready c =
     let m = meaning_of c.args.program.now in
     let law = direct_is_lawful (routines_of c.args.program.now) c.requires.typed.valid in
-    let made = version-made m law c.args.history.now.since c.requires.sound c.args.version c.version_of-made.result c.run_of-run.result.now c.version_of-made.ensures c.run_of-run.ensures c.requires.above in
+    let made = version-made m law c.args.history.now.since c.requires.sound c.args.version c.version_of-made.result c.run_of-run.result.now
+    c.version_of-made.ensures c.run_of-run.ensures c.requires.above in
     let P : Heap → Type 0 = λ x. CanBeDone m (work_of c.version_of-made.result.run.0 c.run_of-run.result.now) x in
     subst P (sym c.requires.heap) made.ready
 
@@ -30,4 +31,5 @@ returns-clause-heap c =
     c.in_ok-execute.ensures.heap ∙ ap (λ (x : Heap). (m.outcome w run.budget x).heap) c.requires.heap ∙ sym made.heap
 
 pub execute-requires-clause-calls : goal.execute-requires-clause-calls
-execute-requires-clause-calls c = calls_found c.args.program.now c.args.history.now c.requires.numbered c.version_of-made.result.run.0 c.calls_of_run-calls.result.now c.run_of-run.result.now c.calls_of_run-calls.ensures c.run_of-run.ensures
+execute-requires-clause-calls c = calls_found c.args.program.now c.args.history.now c.requires.numbered c.version_of-made.result.run.0
+    c.calls_of_run-calls.result.now c.run_of-run.result.now c.calls_of_run-calls.ensures c.run_of-run.ensures

@@ -10,7 +10,8 @@ loop-at-preserved c =
     let there = whole.there in
     record {
       there = omega arith;
-      path = path-longer c.args.history.now.versions c.loop-at.at c.args.version.0 c.loop-at.path.items c.push.new.self.items v c.version_of-at.ensures c.loop-at-test.true whole.there c.in_ok-push.ensures.items whole.path;
+      path = path-longer c.args.history.now.versions c.loop-at.at c.args.version.0 c.loop-at.path.items c.push.new.self.items v
+          c.version_of-at.ensures c.loop-at-test.true whole.there c.in_ok-push.ensures.items whole.path;
     }
 
 pub returns : goal.returns

@@ -13,7 +13,8 @@ pub returns-clause-ended : goal.returns-clause-ended
 unfolding direct
 returns-clause-ended c =
     let r = routines_of c.args.program.now in
-    let P : List TaskCall → Type 0 = λ cs. IsOutcome c.in_ok-outcome.outcome c.evaluate.new.heap.heap (outcome r (record { run = c.args.number; calls = cs; budget = c.args.run.now.budget }) c.args.granted c.args.heap.now.heap) in
+    let P : List TaskCall → Type 0 = λ cs. IsOutcome c.in_ok-outcome.outcome c.evaluate.new.heap.heap
+    (outcome r (record { run = c.args.number; calls = cs; budget = c.args.run.now.budget }) c.args.granted c.args.heap.now.heap) in
     let is = subst P c.requires.calls c.in_ok-outcome.ensures.outcome in
     record { end = is.end; printed = is.printed; counts = is.counts }
 
@@ -21,6 +22,7 @@ pub returns-clause-heap : goal.returns-clause-heap
 unfolding direct
 returns-clause-heap c =
     let r = routines_of c.args.program.now in
-    let P : List TaskCall → Type 0 = λ cs. IsOutcome c.in_ok-outcome.outcome c.evaluate.new.heap.heap (outcome r (record { run = c.args.number; calls = cs; budget = c.args.run.now.budget }) c.args.granted c.args.heap.now.heap) in
+    let P : List TaskCall → Type 0 = λ cs. IsOutcome c.in_ok-outcome.outcome c.evaluate.new.heap.heap
+    (outcome r (record { run = c.args.number; calls = cs; budget = c.args.run.now.budget }) c.args.granted c.args.heap.now.heap) in
     let is = subst P c.requires.calls c.in_ok-outcome.ensures.outcome in
     is.heap_left

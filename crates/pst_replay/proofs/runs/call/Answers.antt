@@ -21,7 +21,8 @@ progress-requires-clause-sound c =
     let h = kept_for c.args.program.now c.args.history.now in
     let new = kept_for c.args.program.now c.add.new.self in
     let call : NamedCall = record { procedure = c.args.procedure.now; arguments = c.args.arguments.now } in
-    let is : new ≡ with_run h c.args.number.0 (called_more call) (run_at h c.args.number.0) = c.in_ok-add.ensures.adds m.shape ∙ ap (λ x. with_run h c.args.number.0 (called_more x) (run_at h c.args.number.0)) c.in_ok-named_call.ensures in
+    let is : new ≡ with_run h c.args.number.0 (called_more call) (run_at h c.args.number.0) = c.in_ok-add.ensures.adds m.shape
+    ∙ ap (λ x. with_run h c.args.number.0 (called_more x) (run_at h c.args.number.0)) c.in_ok-named_call.ensures in
     (called-changed m h new c.args.number call c.requires.sound c.requires.accepted is).sound
 
 pub progress-requires-clause-there : goal.progress-requires-clause-there
@@ -30,7 +31,8 @@ progress-requires-clause-there c =
     let h = kept_for c.args.program.now c.args.history.now in
     let new = kept_for c.args.program.now c.add.new.self in
     let call : NamedCall = record { procedure = c.args.procedure.now; arguments = c.args.arguments.now } in
-    let is : new ≡ with_run h c.args.number.0 (called_more call) (run_at h c.args.number.0) = c.in_ok-add.ensures.adds m.shape ∙ ap (λ x. with_run h c.args.number.0 (called_more x) (run_at h c.args.number.0)) c.in_ok-named_call.ensures in
+    let is : new ≡ with_run h c.args.number.0 (called_more call) (run_at h c.args.number.0) = c.in_ok-add.ensures.adds m.shape
+    ∙ ap (λ x. with_run h c.args.number.0 (called_more x) (run_at h c.args.number.0)) c.in_ok-named_call.ensures in
     let P : Option Run → Type 0 = λ o. IsSome o in
     subst P (sym (called-changed m h new c.args.number call c.requires.sound c.requires.accepted is).now) refl
 
@@ -40,5 +42,6 @@ returns-clause-reply c =
     let h = kept_for c.args.program.now c.args.history.now in
     let new = kept_for c.args.program.now c.add.new.self in
     let call : NamedCall = record { procedure = c.args.procedure.now; arguments = c.args.arguments.now } in
-    let is : new ≡ with_run h c.args.number.0 (called_more call) (run_at h c.args.number.0) = c.in_ok-add.ensures.adds m.shape ∙ ap (λ x. with_run h c.args.number.0 (called_more x) (run_at h c.args.number.0)) c.in_ok-named_call.ensures in
+    let is : new ≡ with_run h c.args.number.0 (called_more call) (run_at h c.args.number.0) = c.in_ok-add.ensures.adds m.shape
+    ∙ ap (λ x. with_run h c.args.number.0 (called_more x) (run_at h c.args.number.0)) c.in_ok-named_call.ensures in
     progress-replies m h new c.args.number (called_more call) c.progress.result (called-changed m h new c.args.number call c.requires.sound c.requires.accepted is) c.progress.ensures

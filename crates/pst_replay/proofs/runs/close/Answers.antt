@@ -18,13 +18,15 @@ shut-requires c = is_some-open (run_at (kept_for c.args.program.now c.args.histo
 pub outcome_under-requires-clause-sound : goal.outcome_under-requires-clause-sound
 outcome_under-requires-clause-sound c =
     let m = meaning_of c.args.program.now in
-    (closed-changed m (kept_for c.args.program.now c.args.history.now) (history_for c.args.program.now c.shut.new.history) c.args.number.0 c.requires.sound c.requires.open (c.shut.ensures m.shape)).sound
+    (closed-changed m (kept_for c.args.program.now c.args.history.now) (history_for c.args.program.now c.shut.new.history) c.args.number.0
+    c.requires.sound c.requires.open (c.shut.ensures m.shape)).sound
 
 pub outcome_under-requires-clause-there : goal.outcome_under-requires-clause-there
 outcome_under-requires-clause-there c =
     let m = meaning_of c.args.program.now in
     let P : Option Run → Type 0 = λ o. IsSome o in
-    subst P (sym (closed-changed m (kept_for c.args.program.now c.args.history.now) (history_for c.args.program.now c.shut.new.history) c.args.number.0 c.requires.sound c.requires.open (c.shut.ensures m.shape)).now) refl
+    subst P (sym (closed-changed m (kept_for c.args.program.now c.args.history.now) (history_for c.args.program.now c.shut.new.history)
+    c.args.number.0 c.requires.sound c.requires.open (c.shut.ensures m.shape)).now) refl
 
 pub returns-clause-reply : goal.returns-clause-reply
 returns-clause-reply c =
@@ -41,7 +43,9 @@ returns-clause-closed c =
     let new = history_for c.args.program.now c.shut.new.history in
     let x = closed-changed m h new c.args.number.0 c.requires.sound c.requires.open (c.shut.ensures m.shape) in
     let run = same_Some c.run_of.result.now (closed_run x.run) (sym c.run_of.ensures ∙ x.now) in
-    closed-histories m h new c.finish.new.history c.args.number.0 c.in_ok-outcome.outcome c.run_of.result.now.parent c.finish.result x (closed-end m h new c.args.number.0 c.in_ok-outcome.outcome x c.in_ok-outcome.ensures) (ap (λ r. r.parent) run) (on_ok_weaker c.finish.result (λ all. all m.shape) c.finish.ensures.version)
+    closed-histories m h new c.finish.new.history c.args.number.0 c.in_ok-outcome.outcome c.run_of.result.now.parent c.finish.result x
+    (closed-end m h new c.args.number.0 c.in_ok-outcome.outcome x c.in_ok-outcome.ensures) (ap (λ r. r.parent) run)
+    (on_ok_weaker c.finish.result (λ all. all m.shape) c.finish.ensures.version)
 
 pub outcome_under-requires-clause-numbered : goal.outcome_under-requires-clause-numbered
 outcome_under-requires-clause-numbered c = still_numbered c.args.program.now c.args.history.now c.shut.new.history c.args.number.0 closed_run (λ r. refl) c.shut.ensures c.requires.numbered
@@ -50,9 +54,11 @@ pub run_of-requires : goal.run_of-requires
 run_of-requires c =
     let m = meaning_of c.args.program.now in
     let P : Option Run → Type 0 = λ o. IsSome o in
-    subst P (sym (closed-changed m (kept_for c.args.program.now c.args.history.now) (history_for c.args.program.now c.shut.new.history) c.args.number.0 c.requires.sound c.requires.open (c.shut.ensures m.shape)).now) refl
+    subst P (sym (closed-changed m (kept_for c.args.program.now c.args.history.now) (history_for c.args.program.now c.shut.new.history)
+    c.args.number.0 c.requires.sound c.requires.open (c.shut.ensures m.shape)).now) refl
 
 pub returns-clause-numbered : goal.returns-clause-numbered
 returns-clause-numbered c =
     let one = still_numbered c.args.program.now c.args.history.now c.shut.new.history c.args.number.0 closed_run (λ r. refl) c.shut.ensures c.requires.numbered in
-    on_ok_weaker c.finish.result (λ made. ended_numbered c.args.program.now (record { since = c.shut.new.history; calls = c.args.history.now.calls }) c.finish.new.history c.args.number.0 c.run_of.result.now.parent c.in_ok-outcome.outcome.ended (made []) one) c.finish.ensures.version
+    on_ok_weaker c.finish.result (λ made. ended_numbered c.args.program.now (record { since = c.shut.new.history; calls = c.args.history.now.calls })
+    c.finish.new.history c.args.number.0 c.run_of.result.now.parent c.in_ok-outcome.outcome.ended (made []) one) c.finish.ensures.version

@@ -30,7 +30,9 @@ close-requires-clause-open c =
     let h = kept_for c.args.program.now c.args.history.now in
     let call = c.args.call.now in
     let is : kept_for c.args.program.now c.open.new.self ≡ opened h call.version (call_of call ∷ []) = c.in_ok-open.ensures.opens m.shape ∙ ap (opened h call.version) c.in_ok-one_call.ensures in
-    ap (λ (x : History). is_open_run (run_at x c.next_number-number.result.0)) is ∙ ap (λ n. is_open_run (run_at (opened h call.version (call_of call ∷ [])) n)) c.next_number-number.ensures ∙ ap is_open_run (run_at-new h call.version (call_of call ∷ []))
+    ap (λ (x : History). is_open_run (run_at x c.next_number-number.result.0)) is
+    ∙ ap (λ n. is_open_run (run_at (opened h call.version (call_of call ∷ [])) n)) c.next_number-number.ensures
+    ∙ ap is_open_run (run_at-new h call.version (call_of call ∷ []))
 
 replied : (r : Result Reply AllocError) (a b : Reply) → a ≡ b → IfOk r (λ x. x ≡ a) → IfOk r (λ x. x ≡ b)
 replied (Ok r) a b e q = q ∙ e
@@ -47,7 +49,9 @@ returns-clause-reply c =
     let is : one ≡ opened h call.version calls = c.in_ok-open.ensures.opens m.shape ∙ ap (opened h call.version) c.in_ok-one_call.ensures in
     let same : number ≡ record { 0 = next_run h } = numbered_so number (next_run h) c.next_number-number.ensures in
     let reply : close_reply m one number (run_at one number.0) ≡ answered m h (command.Run call) =
-    ap (λ (x : History). close_reply m x number (run_at x number.0)) is ∙ ap (λ (n : RunNo). close_reply m (opened h call.version calls) n (run_at (opened h call.version calls) n.0)) same ∙ close_reply-new m h call c.requires.sound in
+    ap (λ (x : History). close_reply m x number (run_at x number.0)) is
+    ∙ ap (λ (n : RunNo). close_reply m (opened h call.version calls) n (run_at (opened h call.version calls) n.0)) same
+    ∙ close_reply-new m h call c.requires.sound in
     replied c.close.result (close_reply m one number (run_at one number.0)) (answered m h (command.Run call)) reply c.close.ensures.reply
 
 changed_so : (r : Result Reply AllocError) (new a b : History) → a ≡ b → OnOk r (new ≡ a) → OnOk r (new ≡ b)
@@ -63,5 +67,6 @@ returns-clause-changed c =
     let one = kept_for c.args.program.now c.open.new.self in
     let number = c.next_number-number.result in
     let is : one ≡ opened h call.version calls = c.in_ok-open.ensures.opens m.shape ∙ ap (opened h call.version) c.in_ok-one_call.ensures in
-    let all : closed m one number.0 ≡ closed m (opened h call.version calls) (next_run h) = ap (λ (x : History). closed m x number.0) is ∙ ap (closed m (opened h call.version calls)) c.next_number-number.ensures in
+    let all : closed m one number.0 ≡ closed m (opened h call.version calls) (next_run h) = ap (λ (x : History). closed m x number.0) is
+    ∙ ap (closed m (opened h call.version calls)) c.next_number-number.ensures in
     changed_so c.close.result (kept_for c.args.program.now c.close.new.history) (closed m one number.0) (closed m (opened h call.version calls) (next_run h)) all c.close.ensures.closed

@@ -19,23 +19,28 @@ grant-requires c =
 pub progress-requires-clause-sound : goal.progress-requires-clause-sound
 progress-requires-clause-sound c =
     let m = meaning_of c.args.program.now in
-    (stepped-changed m (kept_for c.args.program.now c.args.history.now) (history_for c.args.program.now c.grant.new.history) c.args.number c.args.charges c.requires.sound c.requires.accepted (c.grant.ensures m.shape)).sound
+    (stepped-changed m (kept_for c.args.program.now c.args.history.now) (history_for c.args.program.now c.grant.new.history) c.args.number
+    c.args.charges c.requires.sound c.requires.accepted (c.grant.ensures m.shape)).sound
 
 pub progress-requires-clause-there : goal.progress-requires-clause-there
 progress-requires-clause-there c =
     let m = meaning_of c.args.program.now in
     let P : Option Run → Type 0 = λ o. IsSome o in
-    subst P (sym (stepped-changed m (kept_for c.args.program.now c.args.history.now) (history_for c.args.program.now c.grant.new.history) c.args.number c.args.charges c.requires.sound c.requires.accepted (c.grant.ensures m.shape)).now) refl
+    subst P (sym (stepped-changed m (kept_for c.args.program.now c.args.history.now) (history_for c.args.program.now c.grant.new.history)
+    c.args.number c.args.charges c.requires.sound c.requires.accepted (c.grant.ensures m.shape)).now) refl
 
 pub returns-clause-reply : goal.returns-clause-reply
 returns-clause-reply c =
     let m = meaning_of c.args.program.now in
     let h = kept_for c.args.program.now c.args.history.now in
     let new = history_for c.args.program.now c.grant.new.history in
-    progress-replies m h new c.args.number (granted_more c.args.charges) c.progress.result (stepped-changed m h new c.args.number c.args.charges c.requires.sound c.requires.accepted (c.grant.ensures m.shape)) c.progress.ensures
+    progress-replies m h new c.args.number (granted_more c.args.charges) c.progress.result
+    (stepped-changed m h new c.args.number c.args.charges c.requires.sound c.requires.accepted (c.grant.ensures m.shape)) c.progress.ensures
 
 pub progress-requires-clause-numbered : goal.progress-requires-clause-numbered
-progress-requires-clause-numbered c = still_numbered c.args.program.now c.args.history.now c.grant.new.history c.args.number.0 (granted_more c.args.charges) (λ r. refl) c.grant.ensures c.requires.numbered
+progress-requires-clause-numbered c = still_numbered c.args.program.now c.args.history.now c.grant.new.history c.args.number.0
+    (granted_more c.args.charges) (λ r. refl) c.grant.ensures c.requires.numbered
 
 pub returns-clause-numbered : goal.returns-clause-numbered
-returns-clause-numbered c = always c.progress.result (still_numbered c.args.program.now c.args.history.now c.grant.new.history c.args.number.0 (granted_more c.args.charges) (λ r. refl) c.grant.ensures c.requires.numbered)
+returns-clause-numbered c = always c.progress.result (still_numbered c.args.program.now c.args.history.now c.grant.new.history c.args.number.0
+    (granted_more c.args.charges) (λ r. refl) c.grant.ensures c.requires.numbered)

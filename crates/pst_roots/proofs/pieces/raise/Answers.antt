@@ -19,4 +19,5 @@ pub loop-start-preserved : goal.loop-start-preserved
 loop-start-preserved c =
     let value = get_or c.loop-start.starts c.loop-start.start-index 0 in
     ap (λ (x : ℕ). set c.loop-start.starts c.loop-start.start-index x) (add-one value)
-    ∙ map_over_more suc c.args.starts.now c.loop-start.starts c.loop-start.start-index value c.loop-start-test.true c.loop-start.invariant (get_or_default c.loop-start.starts c.loop-start.start-index 0 value (omega (arith, c.loop-start.auto.starts)))
+    ∙ map_over_more suc c.args.starts.now c.loop-start.starts c.loop-start.start-index value c.loop-start-test.true c.loop-start.invariant
+    (get_or_default c.loop-start.starts c.loop-start.start-index 0 value (omega (arith, c.loop-start.auto.starts)))

@@ -14,5 +14,6 @@ returns-then-id-count c =
 
 pub returns : goal.returns
 returns c =
-    let past : length (map (λ (n : Node). n.row.lo.0) c.args.nodes.now.list.items) ≤ c.args.id.0 = omega (arith, c.if-id-count.false, c.count-count.ensures, length_of (λ (n : Node). n.row.lo.0) c.args.nodes.now.list.items) in
+    let past : length (map (λ (n : Node). n.row.lo.0) c.args.nodes.now.list.items) ≤ c.args.id.0 =
+    omega (arith, c.if-id-count.false, c.count-count.ensures, length_of (λ (n : Node). n.row.lo.0) c.args.nodes.now.list.items) in
     sym (get_or_past (map (λ (n : Node). n.row.lo.0) c.args.nodes.now.list.items) c.args.id.0 0 past)

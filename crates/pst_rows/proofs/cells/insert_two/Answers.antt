@@ -25,7 +25,8 @@ returns-clause-items c =
     let same : length moved ≡ length xs + 2 = c.copy_within.ensures.len ∙ ap length lent ∙ count in
     let below : SameBelow (xs ++ a ∷ b ∷ []) moved (i + 2) = subst (λ (ys : List Stamp). SameBelow ys moved (i + 2)) lent c.copy_within.ensures.by_index.1 in
     let behind : CopiedTo (xs ++ a ∷ b ∷ []) moved i (i + 2) (length xs - i) =
-    subst (λ (n : ℕ). CopiedTo (xs ++ a ∷ b ∷ []) moved i (i + 2) (n - i)) c.len-len.ensures.value (subst (λ (ys : List Stamp). CopiedTo ys moved i (i + 2) (c.len-len.result - i)) lent c.copy_within.ensures.by_index.0) in
+    subst (λ (n : ℕ). CopiedTo (xs ++ a ∷ b ∷ []) moved i (i + 2) (n - i)) c.len-len.ensures.value
+    (subst (λ (ys : List Stamp). CopiedTo ys moved i (i + 2) (c.len-len.result - i)) lent c.copy_within.ensures.by_index.0) in
     whole_refill (length c.push_reserved-2.new.self.items) c.push_reserved-2.new.self.items (set (set moved i a) (i + 1) b)
     (omega (arith, ap length pushed, count, same, length-set (set moved i a) (i + 1) b, length-set moved i a))
     ∙ moved_by_two xs moved i a b c.requires.index same below behind

@@ -12,7 +12,8 @@ before-requires-clause-a_in g c =
     let ps : List ℕ = g.O.Order.places c.args.order.now in
     let e : Stamp = c.index-cells-index.result in
     subst (λ (p : Pos). IsIn ps p.0) (sym (c.place.ensures ∙ ap (λ (s : Stamp). s.place) c.index-cells-index.is))
-    (kept_one (λ (s : Stamp). IsIn ps s.place.0) _ c.args.front c.args.cells.now c.loop-index.cells c.loop-index.kept c.loop-index.index e c.loop-index.invariant (λ k d l. record { there = c.requires.all k d l }) (omega (arith, c.loop-index-test.true, c.loop-index.invariant.count)))
+    (kept_one (λ (s : Stamp). IsIn ps s.place.0) _ c.args.front c.args.cells.now c.loop-index.cells c.loop-index.kept c.loop-index.index e
+    c.loop-index.invariant (λ k d l. record { there = c.requires.all k d l }) (omega (arith, c.loop-index-test.true, c.loop-index.invariant.count)))
 
 pub loop-index-preserved : goal.loop-index-preserved
 loop-index-preserved g c =

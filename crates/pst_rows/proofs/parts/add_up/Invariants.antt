@@ -8,4 +8,5 @@ invariant-loop-slot l = record {
   sum : l.before ≡ before_slot l.initial.cells.stamps l.slot;
   added : AreAddedTo l.initial.cells.slots l.cells.slots l.initial.cells.stamps l.slot;
   stamps : l.cells.stamps ≡ l.initial.cells.stamps;
+  capacity : l.cells.capacity ≡ l.initial.cells.capacity;
 }

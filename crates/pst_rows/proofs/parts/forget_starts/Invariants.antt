@@ -8,4 +8,5 @@ invariant-loop-slot l = record {
   contents : (g : ℕ) → (get_or l.cells.slots g no_slot).content ≡ (get_or l.initial.cells.slots g no_slot).content;
   starts : (g : ℕ) → g < l.slot → (get_or l.cells.slots g no_slot).start ≡ 0;
   stamps : l.cells.stamps ≡ l.initial.cells.stamps;
+  capacity : l.cells.capacity ≡ l.initial.cells.capacity;
 }

@@ -46,7 +46,9 @@ loop-stamp-preserved g c =
           }
       | else-before+then-ne w ↦
           let h : n ≤ m = not_below m n w.if-before.false c.before-in-loop-stamp.ensures.1 in
-          let l : n < m = rank_before ps c.args.at.0 item.place.0 h (subst (λ (e : Stamp). rank ps e.place.0 < length ps) (sym is) (c.requires.all c.loop-stamp.stamp-index item c.loop-stamp-test.true)) (λ e. false≢true (sym (ap not (eq-eqb item.place.0 c.args.at.0 (sym e))) ∙ sym w.ne.ensures ∙ w.if-ne.true)) in
+          let l : n < m = rank_before ps c.args.at.0 item.place.0 h
+          (subst (λ (e : Stamp). rank ps e.place.0 < length ps) (sym is) (c.requires.all c.loop-stamp.stamp-index item c.loop-stamp-test.true))
+          (λ e. false≢true (sym (ap not (eq-eqb item.place.0 c.args.at.0 (sym e))) ∙ sym w.ne.ensures ∙ w.if-ne.true)) in
           record {
             earlier = w.before-is ∙ passed_over before xs c.loop-stamp.stamp-index item c.loop-stamp.before c.loop-stamp-test.true is (le-ltb m n h) c.loop-stamp.invariant.earlier;
             later = w.after-is ∙ counted after xs c.loop-stamp.stamp-index item c.loop-stamp.after c.loop-stamp-test.true is (lt-ltb n m l) c.loop-stamp.invariant.later;

@@ -12,7 +12,9 @@ use Rattle.pst_script.proofs.call.read_arguments.Goals as goal
 pub loop-word-preserved : goal.loop-word-preserved
 loop-word-preserved c =
     let n = c.in-Some-read_argument.number in
-    let push = c.in-Ok-push.ensures.items ∙ ap (λ (k : ℤ). c.loop-word.arguments.items ++ k ∷ []) (to_z-of_z {w = w64} {z = n} (read_in_64_bits n c.read_argument.result (argument_of c.in-Some.word.now) c.read_argument.ensures c.in-Some-read_argument.is)) in
+    let push = c.in-Ok-push.ensures.items ∙ ap (λ (k : ℤ). c.loop-word.arguments.items ++ k ∷ [])
+    (to_z-of_z {w = w64} {z = n} (read_in_64_bits n c.read_argument.result (argument_of c.in-Some.word.now) c.read_argument.ensures
+    c.in-Some-read_argument.is)) in
     record {
       fit = more_fit c.loop-word.arguments.items _ c.read_argument.result (argument_of c.in-Some.word.now) n c.read_argument.ensures c.in-Some-read_argument.is push c.loop-word.invariant.fit;
       whole = word_read _ _ _ c.read_argument.result n c.loop-word.arguments.items _ _ c.in-Some.ensures.words c.read_argument.ensures c.in-Some-read_argument.is push c.loop-word.invariant.whole;

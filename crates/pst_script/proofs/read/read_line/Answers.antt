@@ -20,20 +20,25 @@ fault_passes what Number h = ap read_as h
 fault_passes what Memory h = memory_passes what h
 
 -- what a line is that begins with a verb
-reading_by : (line first : List ℕ) (rest : List (List ℕ)) (verb : Verb) → words line ≡ first ∷ rest → (slice_index first 0 == 35) ≡ false → Some verb ≡ verb_of first → reading line ≡ read_as (judged in_range (command_after (Some verb) rest))
+reading_by : (line first : List ℕ) (rest : List (List ℕ)) (verb : Verb) → words line ≡ first ∷ rest → (slice_index first 0 == 35) ≡ false
+    → Some verb ≡ verb_of first → reading line ≡ read_as (judged in_range (command_after (Some verb) rest))
 unfolding reading
 reading_by line first rest verb w other v =
     ap reading_of w ∙ (ap (λ (b : Bool). if b then Ok None else read_as (judged in_range (command_after (verb_of first) rest))) other
     ∙ ap (λ o. read_as (judged in_range (command_after o rest))) (sym v))
 
-given_on : (what : Result (Option Command) LineFault) (r : Result (Option Command) LineFault) (fault : LineFault) → IsErrAnd r (λ e. e ≡ fault) → IsReadAs (λ command. IsSomeAnd command HasCall) what (Err fault) → IsReadAs (λ command. IsSomeAnd command HasCall) what r
+given_on : (what : Result (Option Command) LineFault) (r : Result (Option Command) LineFault) (fault : LineFault) → IsErrAnd r (λ e. e ≡ fault)
+    → IsReadAs (λ command. IsSomeAnd command HasCall) what (Err fault) → IsReadAs (λ command. IsSomeAnd command HasCall) what r
 given_on what (Ok command) fault h k = absurd h
 given_on what (Err e) fault h k = let P : LineFault → Type 0 = λ f. IsReadAs (λ command. IsSomeAnd command HasCall) what (Err f) in subst P (sym h) k
 
 pub returns-in_err-read_command-clause-command : goal.returns-in_err-read_command-clause-command
 returns-in_err-read_command-clause-command c =
-    let is : reading c.args.line.now ≡ read_as (judged in_range (command_after (Some c.in-Some-find_verb.verb) (words c.in-Some.rest.now))) = reading_by _ _ _ _ c.in-Some.ensures.words (grind (arith, nat_tests)) c.in-Some-find_verb.ensures in
-    given_on _ _ _ c.from_residual.ensures.1 (let P : Result (Option Command) LineFault → Type 0 = λ what. IsReadAs (λ command. IsSomeAnd command HasCall) what (Err c.in_err-read_command.field-0.0) in subst P (sym is) (fault_passes _ _ c.in_err-read_command.ensures))
+    let is : reading c.args.line.now ≡ read_as (judged in_range (command_after (Some c.in-Some-find_verb.verb) (words c.in-Some.rest.now))) =
+    reading_by _ _ _ _ c.in-Some.ensures.words (grind (arith, nat_tests)) c.in-Some-find_verb.ensures in
+    given_on _ _ _ c.from_residual.ensures.1 (let P : Result (Option Command) LineFault → Type 0 =
+    λ what. IsReadAs (λ command. IsSomeAnd command HasCall) what (Err c.in_err-read_command.field-0.0) in
+    subst P (sym is) (fault_passes _ _ c.in_err-read_command.ensures))
 
 -- a command that was judged is in its ranges
 in_its_range : (o : Option Command) (c : Command) → judged in_range o ≡ Ok c → in_range c ≡ true

@@ -15,7 +15,11 @@ returns-in_err-end-clause-err g c = on_err _ _ (inl (ap g.O.Order.places c.in_er
 
 pub returns-in_err-begin-clause-err : goal.returns-in_err-begin-clause-err
 returns-in_err-begin-clause-err g c =
-    on_err _ _ (inr (c.in_ok-end.end.0, subst (λ o. IsInsertedAfter (g.O.Order.places c.args.order.now) (g.O.Order.places o) c.args.behind.0 c.in_ok-end.end.0) (sym c.in_err-begin.ensures.err) c.in_ok-end.ensures.ok))
+    on_err _ _ (inr (
+      c.in_ok-end.end.0,
+      subst (λ o. IsInsertedAfter (g.O.Order.places c.args.order.now) (g.O.Order.places o) c.args.behind.0
+          c.in_ok-end.end.0) (sym c.in_err-begin.ensures.err) c.in_ok-end.ensures.ok,
+    ))
 
 pub returns-clause-ok : goal.returns-clause-ok
 returns-clause-ok g c = record { number = refl; mid = _; end_in = c.in_ok-end.ensures.ok; begin_in = c.in_ok-begin.ensures.ok }

@@ -25,14 +25,16 @@ loop-index-preserved g c =
     let ns : List Node = c.args.nodes.now.list.items in
     record {
       same = refl;
-      held = held_with (arena_at qs (seen ns)) (noted_of ns c.hold.new.roots (suc c.loop-index.index)) (noted_of ns c.hold.new.roots (c.loop-index.index + 1)) refl (omega arith) c.in_ok-hold.ensures.held;
+      held = held_with (arena_at qs (seen ns)) (noted_of ns c.hold.new.roots (suc c.loop-index.index))
+          (noted_of ns c.hold.new.roots (c.loop-index.index + 1)) refl (omega arith) c.in_ok-hold.ensures.held;
     }
 
 pub returns-clause-held : goal.returns-clause-held
 returns-clause-held g c =
     let qs : List ℕ = g.O.Order.places c.args.order.now in
     let ns : List Node = c.args.nodes.now.list.items in
-    held_with (arena_at qs (seen ns)) (noted_of ns c.loop-index.roots c.loop-index.index) (noted_of ns c.loop-index.roots c.loop-index.looked_at) refl c.loop-index.invariant.same c.loop-index.invariant.held
+    held_with (arena_at qs (seen ns)) (noted_of ns c.loop-index.roots c.loop-index.index) (noted_of ns c.loop-index.roots c.loop-index.looked_at) refl
+    c.loop-index.invariant.same c.loop-index.invariant.held
 
 pub returns-clause-all : goal.returns-clause-all
 returns-clause-all g c =

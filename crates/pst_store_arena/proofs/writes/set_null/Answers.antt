@@ -46,47 +46,60 @@ returns-then-is_none-clause-wide g c = seen_wide c.args.shape.now c.args.nodes.n
 pub reserve_pair-requires : goal.reserve_pair-requires
 reserve_pair-requires g c =
     let qs : List ℕ = g.O.Order.places c.args.order.now in
-    record { there = one_there qs c.args.nodes.now.list.items c.args.id.0 c.args.field.0 (rank qs c.args.at.begin.0) c.requires.sound.rows c.requires.sound.mirrored c.led_to-led.result c.led_to-led.ensures c.requires.inside.there }
+    record {
+      there = one_there qs c.args.nodes.now.list.items c.args.id.0 c.args.field.0 (rank qs c.args.at.begin.0) c.requires.sound.rows
+          c.requires.sound.mirrored c.led_to-led.result c.led_to-led.ensures c.requires.inside.there;
+    }
 
 pub returns-in_err-reserve_pair-clause-queued : goal.returns-in_err-reserve_pair-clause-queued
-returns-in_err-reserve_pair-clause-queued g c = queue_refused c.args.shape.now c.args.nodes.now.list.items c.reserve_pair.new.nodes.list.items c.args.queue.now c.reserve_pair.ensures.same c.requires.queued
+returns-in_err-reserve_pair-clause-queued g c = queue_refused c.args.shape.now c.args.nodes.now.list.items c.reserve_pair.new.nodes.list.items
+    c.args.queue.now c.reserve_pair.ensures.same c.requires.queued
 
 -- the pointer is taken away
 
 pub clear-requires-clause-rows : goal.clear-requires-clause-rows
 clear-requires-clause-rows g c =
     let qs : List ℕ = g.O.Order.places c.args.order.now in
-    let s = sound_taken c.args.shape.now qs c.args.nodes.now.list.items c.reserve_pair.new.nodes.list.items c.args.id.0 c.args.field.0 (rank qs c.args.at.begin.0) c.led_to-led.result c.requires.sound c.reserve_pair.ensures.same c.requires.inside.there c.led_to-led.ensures in
+    let s = sound_taken c.args.shape.now qs c.args.nodes.now.list.items c.reserve_pair.new.nodes.list.items c.args.id.0 c.args.field.0
+    (rank qs c.args.at.begin.0) c.led_to-led.result c.requires.sound c.reserve_pair.ensures.same c.requires.inside.there c.led_to-led.ensures in
     s.rows
 
 pub clear-requires-clause-mirrored : goal.clear-requires-clause-mirrored
 clear-requires-clause-mirrored g c =
     let qs : List ℕ = g.O.Order.places c.args.order.now in
-    let s = sound_taken c.args.shape.now qs c.args.nodes.now.list.items c.reserve_pair.new.nodes.list.items c.args.id.0 c.args.field.0 (rank qs c.args.at.begin.0) c.led_to-led.result c.requires.sound c.reserve_pair.ensures.same c.requires.inside.there c.led_to-led.ensures in
+    let s = sound_taken c.args.shape.now qs c.args.nodes.now.list.items c.reserve_pair.new.nodes.list.items c.args.id.0 c.args.field.0
+    (rank qs c.args.at.begin.0) c.led_to-led.result c.requires.sound c.reserve_pair.ensures.same c.requires.inside.there c.led_to-led.ensures in
     s.mirrored
 
 pub clear-requires-clause-led : goal.clear-requires-clause-led
 clear-requires-clause-led g c =
     let qs : List ℕ = g.O.Order.places c.args.order.now in
-    led_taken c.args.shape.now qs c.args.nodes.now.list.items c.reserve_pair.new.nodes.list.items c.args.id.0 c.args.field.0 (rank qs c.args.at.begin.0) c.led_to-led.result c.requires.sound c.reserve_pair.ensures.same c.requires.inside.there c.led_to-led.ensures
+    led_taken c.args.shape.now qs c.args.nodes.now.list.items c.reserve_pair.new.nodes.list.items c.args.id.0 c.args.field.0
+    (rank qs c.args.at.begin.0) c.led_to-led.result c.requires.sound c.reserve_pair.ensures.same c.requires.inside.there c.led_to-led.ensures
 
 pub queue_pair-requires-clause-there : goal.queue_pair-requires-clause-there
 queue_pair-requires-clause-there g c i o =
     let qs : List ℕ = g.O.Order.places c.args.order.now in
-    let l : i < length c.reserve_pair.new.nodes.list.items = one_taken c.args.shape.now qs c.args.nodes.now.list.items c.reserve_pair.new.nodes.list.items c.args.id.0 c.args.field.0 (rank qs c.args.at.begin.0) c.led_to-led.result c.requires.sound c.reserve_pair.ensures.same c.requires.inside.there c.led_to-led.ensures i o in
+    let l : i < length c.reserve_pair.new.nodes.list.items = one_taken c.args.shape.now qs c.args.nodes.now.list.items
+    c.reserve_pair.new.nodes.list.items c.args.id.0 c.args.field.0 (rank qs c.args.at.begin.0) c.led_to-led.result c.requires.sound
+    c.reserve_pair.ensures.same c.requires.inside.there c.led_to-led.ensures i o in
     let is = c.clear.ensures.grown c.args.shape.now in
     omega (arith, l, is.count)
 
 pub queue_pair-requires-clause-typed : goal.queue_pair-requires-clause-typed
 queue_pair-requires-clause-typed g c =
     let qs : List ℕ = g.O.Order.places c.args.order.now in
-    let s = sound_taken c.args.shape.now qs c.args.nodes.now.list.items c.reserve_pair.new.nodes.list.items c.args.id.0 c.args.field.0 (rank qs c.args.at.begin.0) c.led_to-led.result c.requires.sound c.reserve_pair.ensures.same c.requires.inside.there c.led_to-led.ensures in
-    cleared_typed c.args.shape.now qs c.reserve_pair.new.nodes.list.items c.clear.new.nodes.list.items c.args.id.0 c.args.field.0 (rank qs c.args.at.begin.0) c.led_to-led.result c.clear.ensures s.typed
+    let s = sound_taken c.args.shape.now qs c.args.nodes.now.list.items c.reserve_pair.new.nodes.list.items c.args.id.0 c.args.field.0
+    (rank qs c.args.at.begin.0) c.led_to-led.result c.requires.sound c.reserve_pair.ensures.same c.requires.inside.there c.led_to-led.ensures in
+    cleared_typed c.args.shape.now qs c.reserve_pair.new.nodes.list.items c.clear.new.nodes.list.items c.args.id.0 c.args.field.0
+    (rank qs c.args.at.begin.0) c.led_to-led.result c.clear.ensures s.typed
 
 pub queue_pair-requires-clause-held : goal.queue_pair-requires-clause-held
 queue_pair-requires-clause-held g c =
     let is = c.clear.ensures in
-    held_on c.args.nodes.now.list.items c.clear.new.nodes.list.items c.args.queue.now ((is.grown c.args.shape.now).count ∙ c.reserve_pair.ensures.same.count) (λ i. is.links i ∙ c.reserve_pair.ensures.same.links i) (c.requires.queued.0, c.requires.queued.1.held)
+    held_on c.args.nodes.now.list.items c.clear.new.nodes.list.items c.args.queue.now
+    ((is.grown c.args.shape.now).count ∙ c.reserve_pair.ensures.same.count) (λ i. is.links i ∙ c.reserve_pair.ensures.same.links i)
+    (c.requires.queued.0, c.requires.queued.1.held)
 
 -- in the end
 
@@ -106,7 +119,8 @@ module _ (g : Over) (c : goal.After-queue_pair g) where
   abbrev mid : List Node
   mid = c.clear.new.nodes.list.items
 
-  is : IsFieldCleared (g.O.Order.places c.args.order.now) c.reserve_pair.new.nodes.list.items c.clear.new.nodes.list.items c.args.id.0 c.args.field.0 (rank (g.O.Order.places c.args.order.now) c.args.at.begin.0) c.led_to-led.result
+  is : IsFieldCleared (g.O.Order.places c.args.order.now) c.reserve_pair.new.nodes.list.items c.clear.new.nodes.list.items c.args.id.0 c.args.field.0
+      (rank (g.O.Order.places c.args.order.now) c.args.at.begin.0) c.led_to-led.result
   is = c.clear.ensures
 
   typed : (i : ℕ) → i < length c.clear.new.nodes.list.items → IsTyped c.args.shape.now c.clear.new.nodes.list.items i
@@ -116,7 +130,8 @@ module _ (g : Over) (c : goal.After-queue_pair g) where
 pub returns-clause-set : goal.returns-clause-set
 returns-clause-set g c =
     null_written c.args.shape.now (qs g c) (r g c) (mid g c) c.args.id.0 c.args.field.0 (b g c) c.led_to-led.result (is g c) c.args.at (old g c) c.queue_pair.new.nodes.list.items refl
-    (seen_taken c.args.shape.now (qs g c) (old g c) (r g c) c.args.id.0 c.args.field.0 (b g c) c.led_to-led.result c.requires.sound c.reserve_pair.ensures.same c.requires.inside.there c.led_to-led.ensures)
+    (seen_taken c.args.shape.now (qs g c) (old g c) (r g c) c.args.id.0 c.args.field.0 (b g c) c.led_to-led.result c.requires.sound
+    c.reserve_pair.ensures.same c.requires.inside.there c.led_to-led.ensures)
     (seen_links (mid g c) c.queue_pair.new.nodes.list.items c.queue_pair.ensures.rows c.queue_pair.ensures.frames)
 
 pub returns-clause-rows : goal.returns-clause-rows
@@ -134,5 +149,6 @@ pub returns-clause-sound : goal.returns-clause-sound
 returns-clause-sound g c =
     sound_rows c.args.shape.now (qs g c) (mid g c) c.queue_pair.new.nodes.list.items c.queue_pair.ensures.rows c.queue_pair.ensures.frames
     (cleared_sound c.args.shape.now (qs g c) (r g c)
-    (sound_taken c.args.shape.now (qs g c) (old g c) (r g c) c.args.id.0 c.args.field.0 (b g c) c.led_to-led.result c.requires.sound c.reserve_pair.ensures.same c.requires.inside.there c.led_to-led.ensures)
+    (sound_taken c.args.shape.now (qs g c) (old g c) (r g c) c.args.id.0 c.args.field.0 (b g c) c.led_to-led.result c.requires.sound
+    c.reserve_pair.ensures.same c.requires.inside.there c.led_to-led.ensures)
     (mid g c) c.args.id.0 c.args.field.0 (b g c) c.led_to-led.result (is g c))

@@ -21,7 +21,8 @@ use Rattle.pst_store_arena.proofs.writes.set_number.Given.{Over}
 use Rattle.pst_store_arena.proofs.writes.set_number.Goals as goal
 
 pub returns-in_err-reserve_row-clause-queued : goal.returns-in_err-reserve_row-clause-queued
-returns-in_err-reserve_row-clause-queued g c = queue_refused c.args.shape.now c.args.nodes.now.list.items c.reserve_row.new.self.list.items c.args.queue.now c.reserve_row.ensures.same c.requires.queued
+returns-in_err-reserve_row-clause-queued g c = queue_refused c.args.shape.now c.args.nodes.now.list.items c.reserve_row.new.self.list.items
+    c.args.queue.now c.reserve_row.ensures.same c.requires.queued
 
 pub set_over-requires-clause-rows : goal.set_over-requires-clause-rows
 set_over-requires-clause-rows g c = same_rows c.args.nodes.now.list.items c.reserve_row.new.self.list.items c.reserve_row.ensures.same (g.O.Order.places c.args.order.now) c.requires.sound.rows
@@ -33,7 +34,9 @@ set_over-requires-clause-slot g c =
     (value_slot c.args.shape.now qs c.args.nodes.now.list.items c.requires.sound c.args.id.0 (rank qs c.args.at.begin.0) c.requires.inside c.args.field.0 c.requires.field)
 
 pub queue_if_over-requires-clause-held : goal.queue_if_over-requires-clause-held
-queue_if_over-requires-clause-held g c = held_on c.args.nodes.now.list.items c.set_over.new.self.list.items c.args.queue.now (c.set_over.ensures.touched.count ∙ c.reserve_row.ensures.same.count) (λ i. c.set_over.ensures.touched.links i ∙ c.reserve_row.ensures.same.links i) (c.requires.queued.0, c.requires.queued.1.held)
+queue_if_over-requires-clause-held g c = held_on c.args.nodes.now.list.items c.set_over.new.self.list.items c.args.queue.now
+    (c.set_over.ensures.touched.count ∙ c.reserve_row.ensures.same.count)
+    (λ i. c.set_over.ensures.touched.links i ∙ c.reserve_row.ensures.same.links i) (c.requires.queued.0, c.requires.queued.1.held)
 
 module _ (g : Over) (c : goal.After-queue_if_over g) where
   abbrev qs : List ℕ
@@ -52,11 +55,14 @@ module _ (g : Over) (c : goal.After-queue_if_over g) where
   there = omega (arith, c.requires.inside.there, c.reserve_row.ensures.same.count)
 
   set : IsSlotSet (chart qs r) (chart qs c.set_over.new.self.list.items) c.args.id.0 c.args.field.0 (rank qs c.args.at.begin.0) (Number c.args.n)
-  set = subst (λ (v : ℤ). IsSlotSet (chart qs r) (chart qs c.set_over.new.self.list.items) c.args.id.0 c.args.field.0 (rank qs c.args.at.begin.0) (Number v)) (to_z-of_z w64 c.args.n c.ranges.n) c.set_over.ensures.set
+  set = subst (λ (v : ℤ). IsSlotSet (chart qs r) (chart qs c.set_over.new.self.list.items) c.args.id.0 c.args.field.0 (rank qs c.args.at.begin.0)
+      (Number v)) (to_z-of_z w64 c.args.n c.ranges.n) c.set_over.ensures.set
 
   is : IsNumberSeen c.args.shape.now qs (seen old) (seen c.queue_if_over.new.nodes.list.items) c.args.id.0 c.args.field.0 (rank qs c.args.at.begin.0) c.args.n
-  is = number_seen c.args.shape.now qs r c.set_over.new.self.list.items c.args.id.0 c.args.field.0 (rank qs c.args.at.begin.0) c.args.n sound.typed there set c.set_over.ensures.rows c.set_over.ensures.touched c.set_over.ensures.stamped
-      old c.queue_if_over.new.nodes.list.items (seen_same old r c.reserve_row.ensures.same) (seen_links c.set_over.new.self.list.items c.queue_if_over.new.nodes.list.items c.queue_if_over.ensures.rows c.queue_if_over.ensures.frames)
+  is = number_seen c.args.shape.now qs r c.set_over.new.self.list.items c.args.id.0 c.args.field.0 (rank qs c.args.at.begin.0) c.args.n sound.typed
+      there set c.set_over.ensures.rows c.set_over.ensures.touched c.set_over.ensures.stamped
+      old c.queue_if_over.new.nodes.list.items (seen_same old r c.reserve_row.ensures.same)
+      (seen_links c.set_over.new.self.list.items c.queue_if_over.new.nodes.list.items c.queue_if_over.ensures.rows c.queue_if_over.ensures.frames)
 
 pub returns-clause-set : goal.returns-clause-set
 returns-clause-set g c = record { set = (is g c).set; grown = (is g c).grown }
@@ -69,13 +75,17 @@ returns-clause-wide g c = (is g c).wide
 
 pub returns-clause-queued : goal.returns-clause-queued
 returns-clause-queued g c =
-    number_queued c.args.shape.now (qs g c) (r g c) c.set_over.new.self.list.items c.args.id.0 c.args.field.0 (rank (qs g c) c.args.at.begin.0) c.args.n (sound g c).typed (there g c) (set g c) c.set_over.ensures.rows c.set_over.ensures.touched c.set_over.ensures.stamped
-    c.queue_if_over.new.nodes.list.items c.args.queue.now c.queue_if_over.new.queue (queue_refused c.args.shape.now (old g c) (r g c) c.args.queue.now c.reserve_row.ensures.same c.requires.queued) c.queue_if_over.ensures.rows c.queue_if_over.ensures.frames c.queue_if_over.ensures.queue
+    number_queued c.args.shape.now (qs g c) (r g c) c.set_over.new.self.list.items c.args.id.0 c.args.field.0 (rank (qs g c) c.args.at.begin.0)
+    c.args.n (sound g c).typed (there g c) (set g c) c.set_over.ensures.rows c.set_over.ensures.touched c.set_over.ensures.stamped
+    c.queue_if_over.new.nodes.list.items c.args.queue.now c.queue_if_over.new.queue
+    (queue_refused c.args.shape.now (old g c) (r g c) c.args.queue.now c.reserve_row.ensures.same c.requires.queued) c.queue_if_over.ensures.rows
+    c.queue_if_over.ensures.frames c.queue_if_over.ensures.queue
 
 pub returns-clause-sound : goal.returns-clause-sound
 returns-clause-sound g c =
     sound_rows c.args.shape.now (qs g c) c.set_over.new.self.list.items c.queue_if_over.new.nodes.list.items c.queue_if_over.ensures.rows c.queue_if_over.ensures.frames
     (number_sound c.args.shape.now (qs g c) (r g c) (sound g c) _ c.set_over.new.self.list.items c.args.id.0 c.args.field.0 (rank (qs g c) c.args.at.begin.0) c.args.n
-    (number_grown c.args.shape.now (qs g c) (r g c) c.set_over.new.self.list.items c.args.id.0 c.args.field.0 (rank (qs g c) c.args.at.begin.0) (there g c) c.set_over.ensures.touched c.set_over.ensures.stamped)
+    (number_grown c.args.shape.now (qs g c) (r g c) c.set_over.new.self.list.items c.args.id.0 c.args.field.0 (rank (qs g c) c.args.at.begin.0)
+    (there g c) c.set_over.ensures.touched c.set_over.ensures.stamped)
     (set g c) c.set_over.ensures.rows
     (subst (λ (fs : List Frame). c.args.field.0 < (type_at c.args.shape.now (record { 0 = (get_or fs c.args.id.0 no_frame).ty })).values) (sym c.reserve_row.ensures.same.frames) c.requires.field))

@@ -4,4 +4,15 @@ use Rattle.pst_store_meaning.proofs.Stepping.{allocate_law, value_law, null_law,
 use Rattle.pst_store_meaning.proofs.laws.steps.Goals as goal
 
 pub returns : goal.returns
-returns c = record { fork = fork_law; fork_refused = fork_refused_law; fork_broken = fork_broken_law; publish = publish_law; allocate = allocate_law; value = value_law; null = null_law; link = link_law; split = split_step_law }
+returns c = record {
+  fork = fork_law;
+  fork_refused = fork_refused_law;
+  fork_broken = fork_broken_law;
+  publish = publish_law;
+  allocate =
+      allocate_law;
+  value = value_law;
+  null = null_law;
+  link = link_law;
+  split = split_step_law;
+}

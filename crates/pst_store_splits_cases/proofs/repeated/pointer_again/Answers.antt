@@ -29,7 +29,8 @@ pub returns-in-Ok : goal.returns-in-Ok
 returns-in-Ok g c = Keeps_trans _ _ _ c.loop.invariant (pointer_keeps (state_of c.loop.store) _ c.args.at c.args.item 1 c.args.to (Ok tt) c.in-Ok.ensures.outcome)
 
 pub returns-in-Err-InDegree : goal.returns-in-Err-InDegree
-returns-in-Err-InDegree g c = Keeps_trans _ _ _ c.loop.invariant (pointer_keeps (state_of c.loop.store) _ c.args.at c.args.item 1 c.args.to (Err c.in-Err-InDegree.field-0) c.in-Err-InDegree.ensures.outcome)
+returns-in-Err-InDegree g c = Keeps_trans _ _ _ c.loop.invariant
+    (pointer_keeps (state_of c.loop.store) _ c.args.at c.args.item 1 c.args.to (Err c.in-Err-InDegree.field-0) c.in-Err-InDegree.ensures.outcome)
 
 pub loop-preserved : goal.loop-preserved
 loop-preserved g c = Keeps_trans _ _ _ c.loop.invariant (pointer_keeps (state_of c.loop.store) _ c.args.at c.args.item 1 c.args.to (Err c.in-Err-Memory.field-0) c.in-Err-Memory.ensures.outcome)

@@ -26,7 +26,8 @@ loop-n-preserved g c =
     let h = one_more _ _ _ _ _ c.loop-n-test.true c.loop-n.invariant.ready in
     record {
       ready = ready_again _ _ _ _ _ _ h c.in_ok-at.ensures.ok _ _ _ c.root-r.ensures.name c.in_ok-store_value.ensures.ok.0 c.in_ok-store_value.ensures.ok.1;
-      written = all_stay _ _ _ _ _ _ h c.in_ok-at.ensures.ok _ _ _ c.root-r.ensures.name c.in_ok-store_value.ensures.ok.0 c.in_ok-store_value.ensures.ok.1 _ _ c.in_ok-push.ensures.items c.loop-n.invariant.written;
+      written = all_stay _ _ _ _ _ _ h c.in_ok-at.ensures.ok _ _ _ c.root-r.ensures.name c.in_ok-store_value.ensures.ok.0
+          c.in_ok-store_value.ensures.ok.1 _ _ c.in_ok-push.ensures.items c.loop-n.invariant.written;
     }
 
 pub returns-clause-written : goal.returns-clause-written

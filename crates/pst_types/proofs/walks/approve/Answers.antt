@@ -8,4 +8,5 @@ use Rattle.pst_types.proofs.walks.approve.Goals as goal
 pub returns : goal.returns
 returns c =
     let scope = scope_of c.in_ok-scope.scope in
-    approved_checked (map item_of c.as_slice-declarations.result.now) (items_of c.args.tree.now) scope c.approve_all.result (ap (map item_of) c.as_slice-declarations.ensures.value) c.in_ok-scope.ensures (c.approve_all.ensures (root_alone scope))
+    approved_checked (map item_of c.as_slice-declarations.result.now) (items_of c.args.tree.now) scope c.approve_all.result
+    (ap (map item_of) c.as_slice-declarations.ensures.value) c.in_ok-scope.ensures (c.approve_all.ensures (root_alone scope))

@@ -15,4 +15,5 @@ returns-clause-typed c =
     let heads : c.deref.result.now ≡ c.take_bodies.new.declarations = c.deref.ensures.value ∙ all_taken _ _ _ count in
     let before : map item_of c.deref_mut.result.now ≡ items_of c.args.tree = search rules in
     let whole = ap (λ (ds : List Declaration). with_bodies (map phrases_of c.in_ok-bodies.bodies.items) (map item_of ds)) heads ∙ c.in_ok-bodies.ensures.whole ∙ before in
-    answered c.accepted_programs_are_typed.ensures (items_of c.args.tree) c.walk.result c.requires (subst (λ (items : List Item). Answers program_of c.walk.result (checked items)) whole c.walk.ensures.answer)
+    answered c.accepted_programs_are_typed.ensures (items_of c.args.tree) c.walk.result c.requires
+    (subst (λ (items : List Item). Answers program_of c.walk.result (checked items)) whole c.walk.ensures.answer)

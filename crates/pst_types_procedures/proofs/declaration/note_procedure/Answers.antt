@@ -17,4 +17,5 @@ returns c = λ body.
     let entries = ap (entries_of signature_of) c.in_ok-insert.ensures.entries ∙ inserted signature_of c.args.scope.now.procedures.entries c.as_slice-name.result s (free_parts old _ free).2
     ∙ ap (λ x. old.procedures ++ (x, signature_of s) ∷ []) same in
     noted_procedure old (procedure_text_of c.args.head.now body) c.len-count.result (signature_of s) _
-    (c.len-count.ensures.len ∙ sym (length_entries signature_of c.args.scope.now.procedures.entries)) c.if-count-ge256.false (subst (λ x. is_free old x ≡ true) same free) refl refl refl c.of_result.ensures entries
+    (c.len-count.ensures.len ∙ sym (length_entries signature_of c.args.scope.now.procedures.entries)) c.if-count-ge256.false
+    (subst (λ x. is_free old x ≡ true) same free) refl refl refl c.of_result.ensures entries

@@ -14,7 +14,8 @@ returns c = λ limit.
     let r : RecordType = record { number = record { 0 = c.len-count.result + 1 }; members = c.in_ok-members.members } in
     let same = c.as_slice-name.ensures in
     let free : is_free old c.as_slice-name.result.now ≡ true = sym c.if-not-is_free.ensures in
-    let laid : members_of r.members ≡ members_from no_members (map tree_view.field_of c.args.fields.now) = sym (same_ok _ _ c.in_ok-members.ensures) ∙ ap (λ fs. members_from no_members (map tree_view.field_of fs)) c.as_slice.ensures in
+    let laid : members_of r.members ≡ members_from no_members (map tree_view.field_of c.args.fields.now) = sym (same_ok _ _ c.in_ok-members.ensures)
+    ∙ ap (λ fs. members_from no_members (map tree_view.field_of fs)) c.as_slice.ensures in
     let entries = ap (entries_of record_type_of) c.in_ok-insert.ensures.entries ∙ inserted record_type_of c.args.scope.now.types.entries c.as_slice-name.result r (free_parts old _ free).0
     ∙ ap (λ x. old.types ++ (x, record_type_of r) ∷ []) same in
     noted_record old c.args.line c.args.name.now limit (map tree_view.field_of c.args.fields.now) c.len-count.result (record_type_of r) _

@@ -8,4 +8,6 @@ use Rattle.pst_types_procedures.proofs.procedure.add_variables.Given as goal
 
 abbrev pub invariant-loop-local : goal.invariant-loop-local
 invariant-loop-local l =
-    Left (variable (scope_of l.scope) l.most) tree_view.local_of l.locals (through (variable (scope_of l.scope) l.most) (entries_of local_of l.initial.variables.entries) (map tree_view.local_of l.locals)) l.local-index (entries_of local_of l.variables.entries)
+    Left (variable (scope_of l.scope) l.most) tree_view.local_of l.locals
+    (through (variable (scope_of l.scope) l.most) (entries_of local_of l.initial.variables.entries) (map tree_view.local_of l.locals))
+    l.local-index (entries_of local_of l.variables.entries)

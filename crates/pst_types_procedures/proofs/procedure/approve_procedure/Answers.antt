@@ -14,4 +14,5 @@ returns-in_err-setting c =
 pub returns : goal.returns
 returns c =
     let body = phrases_of c.args.body.now in
-    stands_then (scope_of c.args.scope.now) (procedure_text_of c.args.head.now body) (setting_of c.in_ok-setting.setting) c.in_ok-setting._arguments c.approve_block.result (c.in_ok-setting.ensures body) c.approve_block.ensures
+    stands_then (scope_of c.args.scope.now) (procedure_text_of c.args.head.now body) (setting_of c.in_ok-setting.setting) c.in_ok-setting._arguments
+    c.approve_block.result (c.in_ok-setting.ensures body) c.approve_block.ensures

@@ -8,4 +8,5 @@ use Rattle.pst_types_procedures.proofs.Parts.{parts}
 use Rattle.pst_types_procedures.proofs.procedure.judge_procedure.Goals as goal
 
 pub returns : goal.returns
-returns c = subst (λ answer. Answers typed_view.procedure_of c.judge_parts.result answer) (sym (parts (scope_of c.args.scope.now) (procedure_text_of c.args.head.now (phrases_of c.args.body)))) c.judge_parts.ensures
+returns c = subst (λ answer. Answers typed_view.procedure_of c.judge_parts.result answer)
+    (sym (parts (scope_of c.args.scope.now) (procedure_text_of c.args.head.now (phrases_of c.args.body)))) c.judge_parts.ensures

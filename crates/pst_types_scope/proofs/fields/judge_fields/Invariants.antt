@@ -8,4 +8,5 @@ use Rattle.pst_typing.proofs.Through.{Left}
 use Rattle.pst_types_scope.proofs.fields.judge_fields.Given as goal
 
 abbrev pub invariant-loop-field : goal.invariant-loop-field
-invariant-loop-field l = Left (field (scope_of l.scope)) tree_view.field_of l.fields (through (field (scope_of l.scope)) no_members (map tree_view.field_of l.fields)) l.field-index (members_of l.members)
+invariant-loop-field l = Left (field (scope_of l.scope)) tree_view.field_of l.fields
+    (through (field (scope_of l.scope)) no_members (map tree_view.field_of l.fields)) l.field-index (members_of l.members)

@@ -9,10 +9,12 @@ judge_block-loop-statement-init t c = block_starts (setting_of c.args.setting.no
 
 pub judge_block-loop-statement-preserved : goal.judge_block-loop-statement-preserved
 judge_block-loop-statement-preserved t c =
-    block_on (setting_of c.args.setting.now) c.deref-statement-items.result.now c.loop-statement.statement-index c.statement-item.result _ _ c.in_ok-form.form _ c.loop-statement-test.true c.statement-item.is
+    block_on (setting_of c.args.setting.now) c.deref-statement-items.result.now c.loop-statement.statement-index c.statement-item.result _ _
+    c.in_ok-form.form _ c.loop-statement-test.true c.statement-item.is
     c.in_ok-form.ensures c.in_ok-push.ensures.items c.loop-statement.invariant
 
 pub judge_block-returns : goal.judge_block-returns
 judge_block-returns t c =
     let end : c.loop-statement.statement-index ≡ length c.deref-statement-items.result.now = omega arith in
-    block_ends (setting_of c.args.setting.now) c.args.statements.now c.deref-statement-items.result.now c.loop-statement.statement-index _ c.loop-statement.items.items end (ap (λ o. o.items.items) (out-roll-TypedBlock _)) c.loop-statement.invariant
+    block_ends (setting_of c.args.setting.now) c.args.statements.now c.deref-statement-items.result.now c.loop-statement.statement-index _
+    c.loop-statement.items.items end (ap (λ o. o.items.items) (out-roll-TypedBlock _)) c.loop-statement.invariant

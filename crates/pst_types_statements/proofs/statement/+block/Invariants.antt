@@ -8,4 +8,5 @@ use Rattle.pst_types_statements.proofs.statement.+block.Given as goal
 
 abbrev pub invariant-judge_block-loop-statement : goal.invariant-judge_block-loop-statement
 invariant-judge_block-loop-statement l =
-    behind (typed_view.statements_of l.items.items) (block (setting_of l.setting) (tree_view.statements_of (drop l.statement-index l.statement-items))) ≡ block (setting_of l.setting) (tree_view.phrases_of l.fn.statements)
+    behind (typed_view.statements_of l.items.items) (block (setting_of l.setting)
+    (tree_view.statements_of (drop l.statement-index l.statement-items))) ≡ block (setting_of l.setting) (tree_view.phrases_of l.fn.statements)

@@ -13,7 +13,8 @@ loop-statement-preserved c =
     let gone = c.loop-statement.invariant.0 in
     let action = c.in_ok-approve_form.ensures.0 in (
       before gone (Then c.statement-item.result.line action Empty),
-      approved_on (setting_of c.args.setting.now) c.deref-statement-items.result.now c.loop-statement.statement-index c.statement-item.result gone action _ c.loop-statement-test.true c.statement-item.is
+      approved_on (setting_of c.args.setting.now) c.deref-statement-items.result.now c.loop-statement.statement-index c.statement-item.result gone
+          action _ c.loop-statement-test.true c.statement-item.is
           c.in_ok-approve_form.ensures.1 c.loop-statement.invariant.1,
     )
 

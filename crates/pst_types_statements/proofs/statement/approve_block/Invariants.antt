@@ -9,4 +9,5 @@ use Rattle.pst_types_statements.proofs.statement.approve_block.Given as goal
 -- what is left gives, behind what was let go, what all of them give
 abbrev pub invariant-loop-statement : goal.invariant-loop-statement
 invariant-loop-statement l =
-    (gone : Actions) × (behind gone (block (setting_of l.setting) (tree_view.statements_of (drop l.statement-index l.statement-items))) ≡ block (setting_of l.setting) (tree_view.phrases_of l.fn.statements))
+    (gone : Actions) × (behind gone (block (setting_of l.setting) (tree_view.statements_of (drop l.statement-index l.statement-items))) ≡ block
+    (setting_of l.setting) (tree_view.phrases_of l.fn.statements))

@@ -16,6 +16,7 @@ returns-clause-stands g c m h r =
     record {
       meaning = r.meaning;
       going = c.in_ok-reply.ensures.ok.1;
-      stands = subst (λ (n : Meaning). EngineStands (record { meaning = n; parts = parts }) c.apply-answer.new.self (state_in c.apply-answer.new.heap) (after n h c.args.command.now)) (sym r.meaning) stands;
+      stands = subst (λ (n : Meaning). EngineStands (record { meaning = n; parts = parts }) c.apply-answer.new.self (state_in c.apply-answer.new.heap)
+          (after n h c.args.command.now)) (sym r.meaning) stands;
       rested = nothing_waits (queue_in c.apply-answer.new.heap) c.if-pending.ensures.1;
     }

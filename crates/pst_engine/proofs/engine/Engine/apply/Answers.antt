@@ -13,7 +13,9 @@ answer-requires g c =
     let s = g.H.HeapAt.state c.args.heap.now in
     let engine = c.args.self.now in
     let may = c.requires c.if-self.false in
-    let none : refusal m may.history c.args.command.now ≡ None = refusal-told m x s engine.active.items.items engine.budget engine.next_run.0 may.history may.stands c.args.command.now c.as_slice-active.result.now c.refused.result c.as_slice-active.ensures.value c.refused.ensures ∙ c.in_default.is in
+    let none : refusal m may.history c.args.command.now ≡ None =
+    refusal-told m x s engine.active.items.items engine.budget engine.next_run.0 may.history may.stands c.args.command.now
+    c.as_slice-active.result.now c.refused.result c.as_slice-active.ensures.value c.refused.ensures ∙ c.in_default.is in
     record { history = may.history; stands = may.stands; accepted = none }
 
 pub returns-clause-answers : goal.returns-clause-answers
@@ -23,7 +25,8 @@ returns-clause-answers g c = λ h stand.
     let s = g.H.HeapAt.state c.args.heap.now in
     let engine = c.args.self.now in
     let new = c.answer.new.engine in
-    let none : refusal m h c.args.command.now ≡ None = refusal-told m x s engine.active.items.items engine.budget engine.next_run.0 h stand c.args.command.now c.as_slice-active.result.now c.refused.result c.as_slice-active.ensures.value c.refused.ensures ∙ c.in_default.is in
+    let none : refusal m h c.args.command.now ≡ None = refusal-told m x s engine.active.items.items engine.budget engine.next_run.0 h stand
+    c.args.command.now c.as_slice-active.result.now c.refused.result c.as_slice-active.ensures.value c.refused.ensures ∙ c.in_default.is in
     let is = c.in_ok-reply.ensures.ok h stand none in record {
       stands = λ range. carried-stands m x (g.H.HeapAt.state c.answer.new.heap) new.active.items.items new.budget new.next_run.0 h c.args.command.now none (is.stands range);
       reply = carried-reply m h c.args.command.now c.in_ok-reply.reply none is.reply;
@@ -37,7 +40,9 @@ returns-clause-may g c = λ range.
     let engine = c.args.self.now in
     let new = c.answer.new.engine in
     let may = c.requires c.if-self.false in
-    let none : refusal m may.history c.args.command.now ≡ None = refusal-told m x s engine.active.items.items engine.budget engine.next_run.0 may.history may.stands c.args.command.now c.as_slice-active.result.now c.refused.result c.as_slice-active.ensures.value c.refused.ensures ∙ c.in_default.is in
+    let none : refusal m may.history c.args.command.now ≡ None =
+    refusal-told m x s engine.active.items.items engine.budget engine.next_run.0 may.history may.stands c.args.command.now
+    c.as_slice-active.result.now c.refused.result c.as_slice-active.ensures.value c.refused.ensures ∙ c.in_default.is in
     let is = c.in_ok-reply.ensures.ok may.history may.stands none in record {
       history = after m may.history c.args.command.now;
       stands = carried-stands m x (g.H.HeapAt.state c.answer.new.heap) new.active.items.items new.budget new.next_run.0 may.history c.args.command.now none (is.stands range);
@@ -50,8 +55,11 @@ returns-clause-refused g c = λ why is.
     let s = g.H.HeapAt.state c.args.heap.now in
     let engine = c.args.self.now in
     let may = c.requires c.if-self.false in
-    let none : refusal m may.history c.args.command.now ≡ None = refusal-told m x s engine.active.items.items engine.budget engine.next_run.0 may.history may.stands c.args.command.now c.as_slice-active.result.now c.refused.result c.as_slice-active.ensures.value c.refused.ensures ∙ c.in_default.is in
-    absurd (not-refused m may.history c.args.command.now c.in_ok-reply.reply why none (carried-reply m may.history c.args.command.now c.in_ok-reply.reply none (c.in_ok-reply.ensures.ok may.history may.stands none).reply) is)
+    let none : refusal m may.history c.args.command.now ≡ None =
+    refusal-told m x s engine.active.items.items engine.budget engine.next_run.0 may.history may.stands c.args.command.now
+    c.as_slice-active.result.now c.refused.result c.as_slice-active.ensures.value c.refused.ensures ∙ c.in_default.is in
+    absurd (not-refused m may.history c.args.command.now c.in_ok-reply.reply why none
+    (carried-reply m may.history c.args.command.now c.in_ok-reply.reply none (c.in_ok-reply.ensures.ok may.history may.stands none).reply) is)
 
 pub returns-in_err-reply-clause-wants : goal.returns-in_err-reply-clause-wants
 returns-in_err-reply-clause-wants g c =
@@ -67,7 +75,9 @@ returns-in-Some-clause-answers g c = λ h stand.
     let x = machine_runs {H = g.row.H.Denot} {P = g.row.H-Place.Denot} {R = g.row.H-Ref.Denot} (g.C.Meant.meant c.args.code.now).parts in
     let s = g.H.HeapAt.state c.args.heap.now in
     let engine = c.args.self.now in
-    let some : refusal m h c.args.command.now ≡ Some c.in-Some.refusal = refusal-told m x s engine.active.items.items engine.budget engine.next_run.0 h stand c.args.command.now c.as_slice-active.result.now c.refused.result c.as_slice-active.ensures.value c.refused.ensures ∙ c.in-Some.is in record {
+    let some : refusal m h c.args.command.now ≡ Some c.in-Some.refusal =
+    refusal-told m x s engine.active.items.items engine.budget engine.next_run.0 h stand c.args.command.now c.as_slice-active.result.now
+    c.refused.result c.as_slice-active.ensures.value c.refused.ensures ∙ c.in-Some.is in record {
       stands = λ range. refused-stands m x s engine.active.items.items engine.budget engine.next_run.0 h c.args.command.now c.in-Some.refusal some stand;
       reply = refused-reply m h c.args.command.now c.in-Some.refusal some;
     }

@@ -1,4 +1,4 @@
-use Rattle.std.proofs.Common.{arith, ℕ, length-take, length-drop, ap, sym, ◌∙◌, take, ◌+◌, ◌-◌, ◌≤◌, length}
+use Rattle.std.proofs.Common.{arith, ℕ, length-take, length-drop, ap, refl, sym, ◌∙◌, take, ◌+◌, ◌-◌, ◌≤◌, length}
 use Rattle.pst_io.proofs.Parts.{read_behind}
 use Rattle.pst_io.proofs.input.Input.read_more.Goals as goal
 
@@ -16,4 +16,5 @@ returns-clause-reads g c =
       consumed = c.in_ok-count.ensures.bytes.0;
       kept = sym (read_behind xs ys _ _ end (end + c.min.result - end) n _ within c.in_ok-count.ensures.bound.0 size front);
       counted = omega arith;
+      limit = refl;
     })

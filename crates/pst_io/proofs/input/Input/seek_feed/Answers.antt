@@ -1,6 +1,5 @@
-use Rattle.std.proofs.Common.{◌≡◌, ◌∙◌, [], ap, sym, arith, false, Err, length}
+use Rattle.std.proofs.Common.{◌≡◌, ◌≤◌, ◌∙◌, [], ap, sym, arith, false, Err, length}
 use Rattle.pst_io.specs.declared.fault.LinesFault.TheVariants.{TooLong}
-use Rattle.pst_io.specs.declared.room.TheConstants.{MOST_INPUT}
 use Rattle.pst_io.specs.Text.{whole_lines}
 use Rattle.pst_io.proofs.Handing.{reads_of, hands_then, hands_kept, hands_grow, was_due, nearer, clear_before}
 use Rattle.pst_io.proofs.input.Input.seek_feed.Goals as goal
@@ -12,7 +11,9 @@ pub reading-smaller : goal.reading-smaller
 reading-smaller g c =
     let r = c.in-Ok.ensures in
     let going : c.reading.self.ended ≡ false = sym (ap (λ s. s.ended) c.self.view_is) ∙ c.if-self.false in
-    nearer MOST_INPUT _ _ c.reading.self.ended c.read_more.new.self.ended going (hands_grow c.reading.self _ c.read_more.new.self _ r.reads) (omega (arith, r.within)) r.more
+    let most : length c.read_more.new.self.held ≤ c.args.self.now.most = omega (arith, r.within, r.limit, c.reading.invariant.hands.limit) in
+    let grow = hands_grow c.reading.self _ c.read_more.new.self _ r.reads in
+    nearer c.args.self.now.most _ _ c.reading.self.ended c.read_more.new.self.ended going grow most r.more
 
 pub reading-preserved : goal.reading-preserved
 reading-preserved g c =

@@ -1,6 +1,6 @@
 use Rattle.std.proofs.Common.{◌≡◌, ◌≤◌, ◌+◌, ◌-◌, [], length, take, IsTrue, cond}
 use Rattle.std.specs.Prelude.{max}
-use Rattle.pst_io.specs.declared.room.TheConstants.{MOST_INPUT, MOST_READ}
+use Rattle.pst_io.specs.declared.room.TheConstants.{MOST_READ}
 use Rattle.pst_io.specs.Text.{whole_lines}
 use Rattle.pst_io.specs.Input.{Hands, EndsWhereSeen, NeedsNoRead}
 use Rattle.pst_io.proofs.input.Input.seek_feed.Given as goal
@@ -20,4 +20,4 @@ invariant-reading g l = record {
 
 -- each turn reads a byte, or is the last but one
 abbrev pub decreases-reading : goal.decreases-reading
-decreases-reading g l = (MOST_INPUT - length l.self.held) + cond l.self.ended 0 1
+decreases-reading g l = (l.fn.self.most - length l.self.held) + cond l.self.ended 0 1

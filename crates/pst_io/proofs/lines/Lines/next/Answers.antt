@@ -1,33 +1,44 @@
-use Rattle.std.proofs.Common.{◌≡◌, ◌∙◌, ap, length, true, ltb, ltb-true}
-use Rattle.pst_io.proofs.Handing.{hands_feed, gives_feed, hands_rest, gives_rest}
+use Rattle.pst_io.proofs.Going.{line_of, end_of, cut_off_of, reads_of_fault, past_of, failed_of, ready_of, open_of}
 use Rattle.pst_io.proofs.lines.Lines.next.Goals as goal
 
-pub returns-in-Ok-Some-clause-text : goal.returns-in-Ok-Some-clause-text
-returns-in-Ok-Some-clause-text g c = λ e.
-    let first = rw c.in-Ok-Some.field-0-is at c.in-Ok-Some.ensures.found in
-    let before : c.skip.new.self ≡ c.args.self.now.input = c.skip.ensures ∙ ap (λ s. s.input) c.self.view_is in
-    let reads = c.in-Ok-Some.ensures.reads (λ is. cc) in
-    rw (← before) (hands_feed c.skip.new.self _ c.seek_feed.new.self _ c.in-Ok-Some.end reads.hands first)
+pub returns-clause-text : goal.returns-clause-text
+returns-clause-text g c = λ e. (line_of _ _ _ _ _ c.go_on.ensures.goes e).text
 
-pub returns-in-Ok-Some-clause-line : goal.returns-in-Ok-Some-clause-line
-returns-in-Ok-Some-clause-line g c = λ e.
-    let first = rw c.in-Ok-Some.field-0-is at c.in-Ok-Some.ensures.found in
-    let before : c.skip.new.self ≡ c.args.self.now.input = c.skip.ensures ∙ ap (λ s. s.input) c.self.view_is in
-    let reads = c.in-Ok-Some.ensures.reads (λ is. cc) in
-    rw (← before) (gives_feed c.skip.new.self _ c.seek_feed.new.self _ c.in-Ok-Some.end reads first)
+pub returns-clause-line : goal.returns-clause-line
+returns-clause-line g c = λ e. (line_of _ _ _ _ _ c.go_on.ensures.goes e).gives
 
-pub returns-in-Ok-None-clause-text : goal.returns-in-Ok-None-clause-text
-returns-in-Ok-None-clause-text g c = λ e.
-    let before : c.skip.new.self ≡ c.args.self.now.input = c.skip.ensures ∙ ap (λ s. s.input) c.self.view_is in
-    let reads = c.in-Ok-None.ensures.reads (λ is. cc) in
-    rw (← before) (hands_rest c.skip.new.self _ c.seek_feed.new.self _ _ reads.hands (ap length c.held-rest.ensures.held))
+pub returns-clause-no_feed : goal.returns-clause-no_feed
+returns-clause-no_feed g c = λ e. (line_of _ _ _ _ _ c.go_on.ensures.goes e).no_feed
 
-pub returns-in-Ok-None-clause-line : goal.returns-in-Ok-None-clause-line
-returns-in-Ok-None-clause-line g c = λ e.
-    let before : c.skip.new.self ≡ c.args.self.now.input = c.skip.ensures ∙ ap (λ s. s.input) c.self.view_is in
-    let reads = c.in-Ok-None.ensures.reads (λ is. cc) in
-    let (clear, ended) = rw c.in-Ok-None.field-0-is at c.in-Ok-None.ensures.end in
-    let n = length c.held-rest.result.now in
-    let test : ltb 0 n ≡ true = cc in
-    rw (← before)
-    (gives_rest c.skip.new.self _ c.seek_feed.new.self _ n reads (ap length c.held-rest.ensures.held) (ltb-true _ _ test) clear ended (c.in-Ok-None.ensures.seen ended))
+pub returns-clause-last : goal.returns-clause-last
+returns-clause-last g c = λ e. (line_of _ _ _ _ _ c.go_on.ensures.goes e).last
+
+pub returns-clause-ahead : goal.returns-clause-ahead
+returns-clause-ahead g c = λ e. (line_of _ _ _ _ _ c.go_on.ensures.goes e).ahead
+
+pub returns-clause-goes_on : goal.returns-clause-goes_on
+returns-clause-goes_on g c = λ e. (line_of _ _ _ _ _ c.go_on.ensures.goes e).goes_on
+
+pub returns-clause-end : goal.returns-clause-end
+returns-clause-end g c = λ e. let p = end_of _ _ _ _ _ c.go_on.ensures.goes e in (p.reads, p.over)
+
+pub returns-clause-nothing : goal.returns-clause-nothing
+returns-clause-nothing g c = λ e. (end_of _ _ _ _ _ c.go_on.ensures.goes e).nothing
+
+pub returns-clause-cut_off : goal.returns-clause-cut_off
+returns-clause-cut_off g c = cut_off_of _ _ _ _ _ c.go_on.ensures.goes
+
+pub returns-clause-reads : goal.returns-clause-reads
+returns-clause-reads g c = reads_of_fault _ _ _ _ _ c.go_on.ensures.goes
+
+pub returns-clause-too_long : goal.returns-clause-too_long
+returns-clause-too_long g c = past_of _ _ _ _ _ c.go_on.ensures.goes
+
+pub returns-clause-failed : goal.returns-clause-failed
+returns-clause-failed g c = failed_of _ _ _ _ _ c.go_on.ensures.goes
+
+pub returns-clause-ready : goal.returns-clause-ready
+returns-clause-ready g c = ready_of _ _ _ _ _ c.go_on.ensures.goes
+
+pub returns-clause-open : goal.returns-clause-open
+returns-clause-open g c = open_of _ _ _ _ _ c.go_on.ensures.goes

@@ -26,10 +26,17 @@ hi_here : (g : Over) (c : After-hi g) → c.hi.result.0 ≡ hi_at c.args.self.no
 hi_here g c = ap (λ p. p.0) c.hi.ensures ∙ sym (at_map (λ (n : Node). n.row.hi.0) c.args.self.now.list.items c.args.id.0 c.index-node.result.now 0 c.requires.live.there c.index-node.ensures)
 
 pub before-requires-clause-a_in : goal.before-requires-clause-a_in
-before-requires-clause-a_in g c = record { there = live_in (g.O.Order.places c.args.order.now) c.args.self.now.list.items c.args.id.0 (rank (g.O.Order.places c.args.order.now) c.args.at.0) c.requires.rows c.requires.live }
+before-requires-clause-a_in g c = record {
+  there = live_in (g.O.Order.places c.args.order.now) c.args.self.now.list.items c.args.id.0
+      (rank (g.O.Order.places c.args.order.now) c.args.at.0) c.requires.rows c.requires.live;
+}
 
 pub before-requires-clause-b_in : goal.before-requires-clause-b_in
-before-requires-clause-b_in g c = record { there = subst (λ (p : ℕ). rank (g.O.Order.places c.args.order.now) p < length (g.O.Order.places c.args.order.now)) (sym (hi_here g c)) (hi_in (g.O.Order.places c.args.order.now) c.args.self.now.list.items c.args.id.0 c.requires.live.there c.requires.rows) }
+before-requires-clause-b_in g c = record {
+  there = subst (λ (p : ℕ). rank (g.O.Order.places c.args.order.now) p < length
+      (g.O.Order.places c.args.order.now)) (sym (hi_here g c)) (hi_in (g.O.Order.places c.args.order.now) c.args.self.now.list.items c.args.id.0
+      c.requires.live.there c.requires.rows);
+}
 
 pub returns-clause-some : goal.returns-clause-some
 returns-clause-some g c =

@@ -13,9 +13,15 @@ index-requires c =
 pub returns-clause-label : goal.returns-clause-label
 returns-clause-label c =
     let l : c.args.place.0 < length c.self.inside.next.items = in_range c.self.inside.next.items c.self.inside.labels.items c.args.self.now c.args.place.0 c.self.view_is c.self.invariant c.requires in
-    get_or_read c.self.inside.labels.items c.args.place.0 c.index.result.now (omega (arith, l, c.self.invariant.same)) c.index.ensures 0 ∙ ap (λ (s : Labelled). get_or s.labels c.args.place.0 0) c.self.view_is
+    get_or_read c.self.inside.labels.items c.args.place.0 c.index.result.now (omega (arith, l, c.self.invariant.same)) c.index.ensures 0
+    ∙ ap (λ (s : Labelled). get_or s.labels c.args.place.0 0) c.self.view_is
 
 pub returns-clause-low : goal.returns-clause-low
 returns-clause-low c =
     let l : c.args.place.0 < length c.self.inside.next.items = in_range c.self.inside.next.items c.self.inside.labels.items c.args.self.now c.args.place.0 c.self.view_is c.self.invariant c.requires in
-    omega (arith, get_or_read c.self.inside.labels.items c.args.place.0 c.index.result.now (omega (arith, l, c.self.invariant.same)) c.index.ensures 0, label_low c.self.inside.labels.items c.args.place.0 c.self.invariant.low)
+    omega (
+      arith,
+      get_or_read c.self.inside.labels.items c.args.place.0 c.index.result.now (omega (arith, l, c.self.invariant.same)) c.index.ensures
+          0,
+      label_low c.self.inside.labels.items c.args.place.0 c.self.invariant.low,
+    )

@@ -14,9 +14,13 @@ returns c =
     let y : c.fourfold_offset-2.result ≡ 4 * offset_of labels c.args.b.0 = c.fourfold_offset-2.ensures ∙ ap (λ (ls : List ℕ). 4 * offset_of ls c.args.b.0) c.deref-2.ensures.value in
     let f : (offset_of labels c.args.a.0 < offset_of labels c.args.b.0) ↔ (rank c.args.self.now.places c.args.a.0 < rank c.args.self.now.places c.args.b.0) =
     subst (λ (s : Labelled). (offset_of labels c.args.a.0 < offset_of labels c.args.b.0) ↔ (rank s.places c.args.a.0 < rank s.places c.args.b.0)) c.self.view_is
-    (ordered_by_offsets next labels c.args.a.0 c.args.b.0 c.self.invariant (seen next labels c.args.self.now c.args.a.0 c.self.view_is c.requires.a_in) (seen next labels c.args.self.now c.args.b.0 c.self.view_is c.requires.b_in)) in (
+    (ordered_by_offsets next labels c.args.a.0 c.args.b.0 c.self.invariant
+    (seen next labels c.args.self.now c.args.a.0 c.self.view_is c.requires.a_in)
+    (seen next labels c.args.self.now c.args.b.0 c.self.view_is c.requires.b_in)) in (
       λ h. let e : c.fourfold_offset.result < c.fourfold_offset-2.result = ltb-true c.fourfold_offset.result c.fourfold_offset-2.result h in f.0 (omega (arith, x, y, e)),
-      λ h. let e : offset_of labels c.args.a.0 < offset_of labels c.args.b.0 = f.1 h in let e' : c.fourfold_offset.result < c.fourfold_offset-2.result = omega (arith, x, y, e) in lt-ltb c.fourfold_offset.result c.fourfold_offset-2.result e',
+      λ h. let e : offset_of labels c.args.a.0 < offset_of labels c.args.b.0 = f.1 h in
+          let e' : c.fourfold_offset.result < c.fourfold_offset-2.result = omega (arith, x, y, e) in
+          lt-ltb c.fourfold_offset.result c.fourfold_offset-2.result e',
     )
 
 pub fourfold_offset-requires-clause-place : goal.fourfold_offset-requires-clause-place

@@ -19,5 +19,6 @@ returns-then-b-ne0 c =
     let r : c.index.result.now ≡ get_or next c.args.a.0 0 = get_or_read next c.args.a.0 c.index.result.now l c.index.ensures 0 in
     let f : (get_or next c.args.a.0 0 ≡ c.args.b.0) ↔ (rank c.args.self.now.places c.args.b.0 ≡ suc (rank c.args.self.now.places c.args.a.0)) =
     subst (λ (s : Labelled). (get_or next c.args.a.0 0 ≡ c.args.b.0) ↔ (rank s.places c.args.b.0 ≡ suc (rank s.places c.args.a.0))) c.self.view_is
-    (follows_is next labels c.args.a.0 c.args.b.0 c.self.invariant (seen next labels c.args.self.now c.args.a.0 c.self.view_is c.requires.a_in) (seen next labels c.args.self.now c.args.b.0 c.self.view_is c.requires.b_in) c.if-b-ne0.true) in
+    (follows_is next labels c.args.a.0 c.args.b.0 c.self.invariant (seen next labels c.args.self.now c.args.a.0 c.self.view_is c.requires.a_in)
+    (seen next labels c.args.self.now c.args.b.0 c.self.view_is c.requires.b_in) c.if-b-ne0.true) in
     (λ h. f.0 (sym r ∙ eqb-true c.index.result.now c.args.b.0 h), λ h. eq-eqb c.index.result.now c.args.b.0 (r ∙ f.1 h))

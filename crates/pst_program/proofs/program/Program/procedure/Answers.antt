@@ -6,7 +6,9 @@ use Rattle.pst_program.proofs.Lookups.{number_named-map}
 use Rattle.pst_program.proofs.program.Program.procedure.Goals as goal
 
 pub returns-in-None : goal.returns-in-None
-returns-in-None c = c.in-None.ensures ∙ ap (position (λ p. bytes_eq p.name c.args.name.now)) c.as_slice.ensures.value ∙ sym (number_named-map signature procedure_of c.args.self.now.procedures.items.items c.args.name.now)
+returns-in-None c = c.in-None.ensures ∙ ap (position (λ p. bytes_eq p.name c.args.name.now)) c.as_slice.ensures.value
+    ∙ sym (number_named-map signature procedure_of c.args.self.now.procedures.items.items c.args.name.now)
 
 pub returns-in-Some : goal.returns-in-Some
-returns-in-Some c = c.in-Some.ensures ∙ ap (position (λ p. bytes_eq p.name c.args.name.now)) c.as_slice.ensures.value ∙ sym (number_named-map signature procedure_of c.args.self.now.procedures.items.items c.args.name.now)
+returns-in-Some c = c.in-Some.ensures ∙ ap (position (λ p. bytes_eq p.name c.args.name.now)) c.as_slice.ensures.value
+    ∙ sym (number_named-map signature procedure_of c.args.self.now.procedures.items.items c.args.name.now)

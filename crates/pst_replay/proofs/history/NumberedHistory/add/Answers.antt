@@ -19,4 +19,6 @@ returns-clause-numbered c =
     let below : c.index_of-index.result < length c.args.self.now.calls = omega (arith, many, within) in
     let at : c.args.number.0 ≡ suc c.index_of-index.result = omega arith in
     let found = slice_get-get_or _ c.index_of-index.result c.index_mut.result.now (subst R (sym c.self.view_is) below) ∙ ap Some (sym c.index_mut.ensures.value ∙ sym c.behind-self.view_is) in
-    on_ok_weaker c.add.result (λ changes. added_numbered c.args.program.now _ _ c.args.number.0 c.index_of-index.result _ c.in_ok-by_number.by_number c.args.call at found (subst Q (sym c.self.view_is) c.requires.there) c.in_ok-by_number.ensures (ap (set _ c.index_of-index.result) c.in_ok-push.ensures.items) (subst P (sym c.self.view_is) c.requires.numbered) changes) c.add.ensures
+    on_ok_weaker c.add.result (λ changes. added_numbered c.args.program.now _ _ c.args.number.0 c.index_of-index.result _ c.in_ok-by_number.by_number
+    c.args.call at found (subst Q (sym c.self.view_is) c.requires.there) c.in_ok-by_number.ensures
+    (ap (set _ c.index_of-index.result) c.in_ok-push.ensures.items) (subst P (sym c.self.view_is) c.requires.numbered) changes) c.add.ensures

@@ -32,5 +32,6 @@ returns-clause-may c = λ given.
     record {
       sound = subst P (sym c.in_ok-reply.ensures.changed) extends.sound;
       numbered = c.in_ok-reply.ensures.numbered;
-      counted = c.open_after-self.ensures ∙ ap (λ n. open_after n c.args.command.now) may.counted ∙ counted-after m h c.args.command.now accepted ∙ ap (λ (x : History). count_by is_open x.runs) (sym c.in_ok-reply.ensures.changed);
+      counted = c.open_after-self.ensures ∙ ap (λ n. open_after n c.args.command.now) may.counted ∙ counted-after m h c.args.command.now accepted
+          ∙ ap (λ (x : History). count_by is_open x.runs) (sym c.in_ok-reply.ensures.changed);
     }

@@ -21,7 +21,8 @@ returns-clause-may c = λ program typed.
     let law = direct_is_lawful (routines_of program) typed.valid in
     let P : History → Type 0 = λ x. IsSoundHistory m x in
     record {
-      sound = subst P (sym (begun_so c.nothing.result.since c.nothing.ensures.budget c.nothing.ensures.runs c.nothing.ensures.versions m.shape)) (begun-sound m (opening m.shape) (opening-sound m law));
+      sound = subst P (sym (begun_so c.nothing.result.since c.nothing.ensures.budget c.nothing.ensures.runs c.nothing.ensures.versions m.shape))
+          (begun-sound m (opening m.shape) (opening-sound m law));
       numbered = ap (map calls_of) c.nothing.ensures.calls ∙ sym (ap (map (direct_calls program)) c.nothing.ensures.runs);
       counted = sym (ap (count_by is_open) c.nothing.ensures.runs);
     }

@@ -5,7 +5,14 @@ use Rattle.pst_roots.proofs.PieceLemmas.{many_starts, start_read, first_within, 
 use Rattle.pst_roots.proofs.pieces.Pieces.first.Goals as goal
 
 pub index-index-requires : goal.index-index-requires
-index-index-requires c = omega (arith, many_starts c.self.inside.pieces.items c.self.inside.starts.items c.self.invariant.cut.starts_are, c.if-piece-len.false, c.len.ensures, c.self.inside.pieces.ok.0, c.self.inside.starts.ok.0)
+index-index-requires c = omega (
+  arith,
+  many_starts c.self.inside.pieces.items c.self.inside.starts.items c.self.invariant.cut.starts_are,
+  c.if-piece-len.false,
+  c.len.ensures,
+  c.self.inside.pieces.ok.0,
+  c.self.inside.starts.ok.0,
+)
 
 pub returns : goal.returns
 returns c =

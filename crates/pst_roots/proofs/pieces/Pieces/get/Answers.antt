@@ -11,7 +11,8 @@ within ps held e index l = omega (arith, ap length e, l)
 
 pub piece_at-piece-requires-clause-first : goal.piece_at-piece-requires-clause-first
 piece_at-piece-requires-clause-first c =
-    start_before c.self.inside.pieces.items c.deref.result.now (c.deref.ensures.value ∙ c.self.invariant.cut.starts_are) c.args.index (within c.self.inside.pieces.items c.args.self.now.nodes (ap (λ (h : Held). h.nodes) c.self.view_is) c.args.index c.requires)
+    start_before c.self.inside.pieces.items c.deref.result.now (c.deref.ensures.value ∙ c.self.invariant.cut.starts_are) c.args.index
+    (within c.self.inside.pieces.items c.args.self.now.nodes (ap (λ (h : Held). h.nodes) c.self.view_is) c.args.index c.requires)
 
 pub piece_at-piece-requires-clause-rising : goal.piece_at-piece-requires-clause-rising
 piece_at-piece-requires-clause-rising c =
@@ -19,19 +20,28 @@ piece_at-piece-requires-clause-rising c =
 
 pub index-requires : goal.index-requires
 index-requires c =
-    let falls = falls_into c.self.inside.pieces.items c.self.inside.starts.items c.self.invariant.cut.starts_are c.deref.result.now c.deref.ensures.value c.args.index c.piece_at-piece.result (within c.self.inside.pieces.items c.args.self.now.nodes (ap (λ (h : Held). h.nodes) c.self.view_is) c.args.index c.requires) c.piece_at-piece.ensures in
+    let falls = falls_into c.self.inside.pieces.items c.self.inside.starts.items c.self.invariant.cut.starts_are c.deref.result.now
+    c.deref.ensures.value c.args.index c.piece_at-piece.result
+    (within c.self.inside.pieces.items c.args.self.now.nodes (ap (λ (h : Held). h.nodes) c.self.view_is) c.args.index c.requires)
+    c.piece_at-piece.ensures in
     omega (arith, falls.there, c.self.inside.pieces.ok.0)
 
 pub get-requires : goal.get-requires
 get-requires c =
-    let falls = falls_into c.self.inside.pieces.items c.self.inside.starts.items c.self.invariant.cut.starts_are c.deref.result.now c.deref.ensures.value c.args.index c.piece_at-piece.result (within c.self.inside.pieces.items c.args.self.now.nodes (ap (λ (h : Held). h.nodes) c.self.view_is) c.args.index c.requires) c.piece_at-piece.ensures in
+    let falls = falls_into c.self.inside.pieces.items c.self.inside.starts.items c.self.invariant.cut.starts_are c.deref.result.now
+    c.deref.ensures.value c.args.index c.piece_at-piece.result
+    (within c.self.inside.pieces.items c.args.self.now.nodes (ap (λ (h : Held). h.nodes) c.self.view_is) c.args.index c.requires)
+    c.piece_at-piece.ensures in
     let part = get_or_read c.self.inside.pieces.items c.piece_at-piece.result c.index.result.now falls.there c.index.ensures [] in
     let start = start_read c.self.inside.pieces.items c.self.inside.starts.items c.self.invariant.cut.starts_are c.piece_at-piece.result c.index-2.result.now falls.there c.index-2.ensures in
     omega (arith, ap length part, start, falls.early, falls.within)
 
 pub returns : goal.returns
 returns c =
-    let falls = falls_into c.self.inside.pieces.items c.self.inside.starts.items c.self.invariant.cut.starts_are c.deref.result.now c.deref.ensures.value c.args.index c.piece_at-piece.result (within c.self.inside.pieces.items c.args.self.now.nodes (ap (λ (h : Held). h.nodes) c.self.view_is) c.args.index c.requires) c.piece_at-piece.ensures in
+    let falls = falls_into c.self.inside.pieces.items c.self.inside.starts.items c.self.invariant.cut.starts_are c.deref.result.now
+    c.deref.ensures.value c.args.index c.piece_at-piece.result
+    (within c.self.inside.pieces.items c.args.self.now.nodes (ap (λ (h : Held). h.nodes) c.self.view_is) c.args.index c.requires)
+    c.piece_at-piece.ensures in
     let part = get_or_read c.self.inside.pieces.items c.piece_at-piece.result c.index.result.now falls.there c.index.ensures [] in
     let start = start_read c.self.inside.pieces.items c.self.inside.starts.items c.self.invariant.cut.starts_are c.piece_at-piece.result c.index-2.result.now falls.there c.index-2.ensures in
     c.get.ensures

@@ -23,7 +23,12 @@ overflow_sub-behind c =
     let pieces = c.piece_with_room-at.new.pieces in
     let starts = c.piece_with_room-at.new.starts in
     let cut = c.piece_with_room-at.ensures.cut in
-    omega (arith, start_read pieces.items starts.items cut.starts_are c.piece_with_room-at.result c.index.result.now c.piece_with_room-at.ensures.falls.there c.index.ensures, c.piece_with_room-at.ensures.falls.early)
+    omega (
+      arith,
+      start_read pieces.items starts.items cut.starts_are c.piece_with_room-at.result c.index.result.now
+          c.piece_with_room-at.ensures.falls.there c.index.ensures,
+      c.piece_with_room-at.ensures.falls.early,
+    )
 
 pub raise_from-requires-clause-from : goal.raise_from-requires-clause-from
 raise_from-requires-clause-from c =
@@ -34,7 +39,8 @@ raise_from-requires-clause-from c =
 
 pub raise_from-requires-clause-low : goal.raise_from-requires-clause-low
 raise_from-requires-clause-low c =
-    subst (λ (xs : List ℕ). All (λ start. start < 2 ^ 63) xs) (sym c.deref_mut.ensures.value) (starts_are_low c.piece_with_room-at.new.pieces c.piece_with_room-at.new.starts c.piece_with_room-at.new.pool c.piece_with_room-at.ensures.cut)
+    subst (λ (xs : List ℕ). All (λ start. start < 2 ^ 63) xs) (sym c.deref_mut.ensures.value)
+    (starts_are_low c.piece_with_room-at.new.pieces c.piece_with_room-at.new.starts c.piece_with_room-at.new.pool c.piece_with_room-at.ensures.cut)
 
 pub overflow_add-self : goal.overflow_add-self
 overflow_add-self c =
@@ -45,7 +51,9 @@ invariant_of-self c =
     let pieces = c.piece_with_room-at.new.pieces in
     let starts = c.piece_with_room-at.new.starts in
     let cut = c.piece_with_room-at.ensures.cut in
-    let put = put_behind pieces.items starts.items cut.starts_are c.args.index c.piece_with_room-at.result c.args.id.0 c.piece_with_room-at.ensures.falls c.index_mut-piece.result.now c.index_mut-piece.ensures.value c.index.result.now c.index.ensures c.insert.new.self c.insert.ensures in
+    let put = put_behind pieces.items starts.items cut.starts_are c.args.index c.piece_with_room-at.result c.args.id.0
+    c.piece_with_room-at.ensures.falls c.index_mut-piece.result.now c.index_mut-piece.ensures.value c.index.result.now c.index.ensures
+    c.insert.new.self c.insert.ensures in
     let pool = c.piece_with_room-at.new.pool in
     let at = c.piece_with_room-at.result in
     let raised = c.raise_from.new.starts in
@@ -56,8 +64,16 @@ invariant_of-self c =
     ∙ ap (λ (n : ℕ). take n starts.items ++ map suc (drop n starts.items)) (add-one at) in
     let within : c.args.index < length (concat pieces.items) = omega (arith, c.requires.index, ap (λ (h : Held). length h.nodes) c.self.view_is, ap length c.piece_with_room-at.ensures.nodes) in
     record {
-      cut = still_grown pieces (with_item pieces at c.insert.new.self) starts (with_items starts raised) pool pool cut at c.piece_with_room-at.ensures.falls.there c.insert.new.self c.piece_with_room-at.ensures.room put.longer refl starts_are refl (omega arith) (omega arith);
-      counted = omega (arith, c.self.invariant.counted, ap length c.piece_with_room-at.ensures.nodes, ap length put.held, length-insert (concat pieces.items) (suc c.args.index) c.args.id.0 (omega (arith, within)));
+      cut = still_grown pieces (with_item pieces at c.insert.new.self) starts (with_items starts raised) pool pool cut at
+          c.piece_with_room-at.ensures.falls.there c.insert.new.self c.piece_with_room-at.ensures.room put.longer refl starts_are refl (omega arith)
+          (omega arith);
+      counted = omega (
+        arith,
+        c.self.invariant.counted,
+        ap length c.piece_with_room-at.ensures.nodes,
+        ap length put.held,
+        length-insert (concat pieces.items) (suc c.args.index) c.args.id.0 (omega (arith, within)),
+      );
     }
 
 pub returns-clause-nodes : goal.returns-clause-nodes
@@ -65,5 +81,7 @@ returns-clause-nodes c =
     let pieces = c.piece_with_room-at.new.pieces in
     let starts = c.piece_with_room-at.new.starts in
     let cut = c.piece_with_room-at.ensures.cut in
-    let put = put_behind pieces.items starts.items cut.starts_are c.args.index c.piece_with_room-at.result c.args.id.0 c.piece_with_room-at.ensures.falls c.index_mut-piece.result.now c.index_mut-piece.ensures.value c.index.result.now c.index.ensures c.insert.new.self c.insert.ensures in
+    let put = put_behind pieces.items starts.items cut.starts_are c.args.index c.piece_with_room-at.result c.args.id.0
+    c.piece_with_room-at.ensures.falls c.index_mut-piece.result.now c.index_mut-piece.ensures.value c.index.result.now c.index.ensures
+    c.insert.new.self c.insert.ensures in
     put.held ∙ ap (λ (xs : List ℕ). insert xs (suc c.args.index) c.args.id.0) (c.piece_with_room-at.ensures.nodes ∙ ap (λ (h : Held). h.nodes) c.self.view_is)

@@ -12,5 +12,6 @@ returns-clause-held g c =
     let nodes = c.args.nodes.now.list.items in
     let held = held_of c.args.self.now in
     let k = c.left_of-left.result in
-    let last : IsLastIndex (g.O.Order.places c.args.order.now) nodes held (lo_at nodes c.args.right.0) k = subst (λ (p : ℕ). IsLastIndex (g.O.Order.places c.args.order.now) nodes held p k) c.begin_of-begin.ensures c.left_of-left.ensures in
+    let last : IsLastIndex (g.O.Order.places c.args.order.now) nodes held (lo_at nodes c.args.right.0) k =
+    subst (λ (p : ℕ). IsLastIndex (g.O.Order.places c.args.order.now) nodes held p k) c.begin_of-begin.ensures c.left_of-left.ensures in
     added_root (g.O.Order.places c.args.order.now) nodes held c.insert_behind.new.self.nodes c.args.right.0 k last c.insert_behind.ensures.nodes

@@ -8,4 +8,5 @@ returns-clause-found g c =
     let list = g.P.Compare.list c.args.compare.now in
     let held = held_of c.args.self.now in
     let last = c.last_before-last in
-    subst (λ (i : ℕ). IsLastBefore list c.args.nodes.now.list.items held c.args.place.0 i) (sym last.ensures.node.node) (last_before list c.args.nodes.now.list.items held c.args.place.0 last.result.index last.ensures.found)
+    subst (λ (i : ℕ). IsLastBefore list c.args.nodes.now.list.items held c.args.place.0 i) (sym last.ensures.node.node)
+    (last_before list c.args.nodes.now.list.items held c.args.place.0 last.result.index last.ensures.found)

@@ -17,6 +17,7 @@ returns-else-index-count-2 g c = λ before.
     absurd (false≢true (sym c.if-before.false ∙ c.before-else-index-count.ensures.1 (subst (λ (p : ℕ). rank list c.args.place.0 < rank list p) (sym here) l))))
     (λ (l : rank list (get_or begins c.args.index 0) ≤ rank list c.args.place.0). l)
     (cases_lt (rank list c.args.place.0) (rank list (get_or begins c.args.index 0))) in
-    let late : rank list c.args.place.0 < rank list (get_or begins (suc c.args.index) 0) = subst (λ (p : ℕ). rank list c.args.place.0 < rank list p) behind (c.before-else-index-count-2.ensures.0 before) in
+    let late : rank list c.args.place.0 < rank list (get_or begins (suc c.args.index) 0) =
+    subst (λ (p : ℕ). rank list c.args.place.0 < rank list p) behind (c.before-else-index-count-2.ensures.0 before) in
     let within : suc c.args.index < length held = omega (arith, c.count-count.ensures, c.if-index-count.false, c.if-index-count-2.false) in
     last_beside list c.args.nodes.now.list.items held c.args.place.0 c.args.index c.requires.roots within early late

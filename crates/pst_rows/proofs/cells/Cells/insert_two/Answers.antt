@@ -8,13 +8,18 @@ use Rattle.pst_rows.proofs.cells.Cells.insert_two.Goals as goal
 
 pub returns-clause-slots : goal.returns-clause-slots
 returns-clause-slots c =
-    let at = stamp-behind c.args.self.now c.self.inside.width c.self.inside.behind c.self.inside.end c.self.inside.head c.self.inside.list.items c.self.inside.list.capacity c.args.index c.self.invariant c.self.view_is c.requires.index in
-    slots-kept c.args.self.now c.self.inside.width c.self.inside.head c.mark_end.new.head c.self.inside.list.items c.insert_two.new.list.items c.self.inside.list.capacity c.self.view_is c.mark_end.ensures.head.whole c.mark_end.ensures.head.slots
-    (ap (λ (xs : List Stamp). take c.self.inside.width (c.self.inside.head ++ xs)) c.insert_two.ensures.items ∙ head-insert_two c.self.inside.width c.self.inside.head c.self.inside.list.items (c.self.inside.behind + c.args.index) c.args.first c.args.second at.1 at.2)
+    let at = stamp-behind c.args.self.now c.self.inside.width c.self.inside.behind c.self.inside.end c.self.inside.head c.self.inside.list.items
+    c.self.inside.list.capacity c.args.index c.self.invariant c.self.view_is c.requires.index in
+    slots-kept c.args.self.now c.self.inside.width c.self.inside.head c.mark_end.new.head c.self.inside.list.items c.insert_two.new.list.items
+    c.self.inside.list.capacity c.self.view_is c.mark_end.ensures.head.whole c.mark_end.ensures.head.slots
+    (ap (λ (xs : List Stamp). take c.self.inside.width (c.self.inside.head ++ xs)) c.insert_two.ensures.items
+    ∙ head-insert_two c.self.inside.width c.self.inside.head c.self.inside.list.items (c.self.inside.behind + c.args.index) c.args.first
+    c.args.second at.1 at.2)
 
 pub returns-clause-stamps : goal.returns-clause-stamps
 returns-clause-stamps c =
-    let at = stamp-behind c.args.self.now c.self.inside.width c.self.inside.behind c.self.inside.end c.self.inside.head c.self.inside.list.items c.self.inside.list.capacity c.args.index c.self.invariant c.self.view_is c.requires.index in
+    let at = stamp-behind c.args.self.now c.self.inside.width c.self.inside.behind c.self.inside.end c.self.inside.head c.self.inside.list.items
+    c.self.inside.list.capacity c.args.index c.self.invariant c.self.view_is c.requires.index in
     ap (drop (c.self.inside.width - head_size)) c.insert_two.ensures.items
     ∙ stamps-insert_two (c.self.inside.width - head_size) c.self.inside.list.items (c.self.inside.behind + c.args.index) c.args.index c.args.first c.args.second at.0 at.2
     ∙ ap (λ (v : CellsValue). insert (insert v.stamps c.args.index c.args.second) c.args.index c.args.first) c.self.view_is

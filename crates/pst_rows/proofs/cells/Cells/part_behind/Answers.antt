@@ -14,5 +14,6 @@ returns c =
           ∙ ap (λ (xs : List Stamp). (get_or xs (c.args.slot + 1 - head_size) w.index-list-next.result).place.0) c.as_slice-list.ensures)
       | else-next-behind w ↦ Last w.if-next-behind.false (w.stop-is ∙ ap (λ (xs : List Stamp). length xs - c.self.inside.behind) c.as_slice-list.ensures)
     ] in
-    list-part c.args.self.now c.self.inside.width c.self.inside.behind c.self.inside.end c.self.inside.head c.self.inside.list.items c.self.inside.list.capacity c.args.slot c.start.result c.if-next-behind.stop
+    list-part c.args.self.now c.self.inside.width c.self.inside.behind c.self.inside.end c.self.inside.head c.self.inside.list.items
+    c.self.inside.list.capacity c.args.slot c.start.result c.if-next-behind.stop
     c.self.invariant c.self.view_is c.requires.there (omega (arith, c.requires.behind)) c.start.ensures ends

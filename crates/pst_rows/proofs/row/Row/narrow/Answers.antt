@@ -11,7 +11,8 @@ use Rattle.pst_rows.specs.Steps.{AreBounds, IsHalf, IsMiddleFrom}
 use Rattle.pst_rows.proofs.SplitLemmas.{places_in, same_read, place_in, split_found, too_late, too_early, passed_more, none_stamped}
 use Rattle.pst_rows.proofs.row.Row.narrow.Given as given
 use Rattle.pst_rows.proofs.row.Row.narrow.Goals as goal
-use Rattle.pst_rows.proofs.row.Row.narrow.Goals.{Joined-before, After-place-place, then-before+then-before-2+in-Less, then-before+then-before-2+in-Greater, else-before, else-before-via-then-before+else-before-2, else-before-via-else-before}
+use Rattle.pst_rows.proofs.row.Row.narrow.Goals.{Joined-before, After-place-place, then-before+then-before-2+in-Less, then-before+then-before-2+in-Greater}
+use Rattle.pst_rows.proofs.row.Row.narrow.Goals.{else-before, else-before-via-then-before+else-before-2, else-before-via-else-before}
 
 -- the stamp that is looked at, with its place as it was read
 abbrev placed : Stamp → Pos → Stamp
@@ -44,11 +45,17 @@ narrowed g c =
     (same_read c.stamps-stamps.result.now row.cells.stamps c.loop-index.index c.index-stamps-index.result c.stamps-stamps.ensures c.loop-index-test.true c.index-stamps-index.is) in
     elim c.if-before.branch [
       | then-before+then-before-2+in-Less w ↦
-          subst (λ (b : Bounds). IsNarrowed ps row e b) (sym w.bounds-is)
-          (too_late ps row c.requires.row c.loop-index.index e t.0 t.1 c.loop-index.bounds c.loop-index.invariant.bounds (subst (λ (xs : List Stamp). IsMiddleFrom (rank ps) xs (rank ps e.place.0) Less) c.stamps-stamps.ensures w.in-Less.ensures), λ p. omega (arith, p.1))
+          subst (λ (b : Bounds). IsNarrowed ps row e b) (sym w.bounds-is) (
+            too_late ps row c.requires.row c.loop-index.index e t.0 t.1 c.loop-index.bounds c.loop-index.invariant.bounds
+                (subst (λ (xs : List Stamp). IsMiddleFrom (rank ps) xs (rank ps e.place.0) Less) c.stamps-stamps.ensures w.in-Less.ensures),
+            λ p. omega (arith, p.1),
+          )
       | then-before+then-before-2+in-Greater w ↦
-          subst (λ (b : Bounds). IsNarrowed ps row e b) (sym w.bounds-is)
-          (too_early ps row c.requires.row c.loop-index.index e t.0 t.1 c.loop-index.bounds c.loop-index.invariant.bounds (subst (λ (xs : List Stamp). IsMiddleFrom (rank ps) xs (rank ps e.place.0) Greater) c.stamps-stamps.ensures w.in-Greater.ensures), λ p. omega (arith, p.0))
+          subst (λ (b : Bounds). IsNarrowed ps row e b) (sym w.bounds-is) (
+            too_early ps row c.requires.row c.loop-index.index e t.0 t.1 c.loop-index.bounds c.loop-index.invariant.bounds
+                (subst (λ (xs : List Stamp). IsMiddleFrom (rank ps) xs (rank ps e.place.0) Greater) c.stamps-stamps.ensures w.in-Greater.ensures),
+            λ p. omega (arith, p.0),
+          )
       | else-before w ↦
           subst (λ (b : Bounds). IsNarrowed ps row e b) (sym w.bounds-is) (
             c.loop-index.invariant.bounds,
@@ -78,7 +85,8 @@ pub returns-in-Equal-clause-some : goal.returns-in-Equal-clause-some
 returns-in-Equal-clause-some g c =
     let ps : List ℕ = g.O.Order.places c.args.order.now in
     let c' = (goal.at.returns-in-Equal-clause-some g c).After-place-place in
-    split_found ps c.args.self.now c.requires.row c.loop-index.index (looked_at g c') (there g c').0 (there g c').1 (subst (λ (xs : List Stamp). IsHalf (rank ps) xs (rank ps (looked_at g c').place.0)) c.stamps-stamps.ensures c.in-Equal.ensures)
+    split_found ps c.args.self.now c.requires.row c.loop-index.index (looked_at g c') (there g c').0 (there g c').1
+    (subst (λ (xs : List Stamp). IsHalf (rank ps) xs (rank ps (looked_at g c').place.0)) c.stamps-stamps.ensures c.in-Equal.ensures)
 
 pub loop-index-preserved : goal.loop-index-preserved
 loop-index-preserved g c =
@@ -91,7 +99,8 @@ loop-index-preserved g c =
     }
 
 pub returns-clause-none : goal.returns-clause-none
-returns-clause-none g c _ one = none_stamped (rank (g.O.Order.places c.args.order.now)) c.args.self.now c.loop-index.index (subst (λ (xs : List Stamp). length xs ≤ c.loop-index.index) c.stamps-stamps.ensures c.loop-index-test.false) (c.loop-index.invariant.passed one)
+returns-clause-none g c _ one = none_stamped (rank (g.O.Order.places c.args.order.now)) c.args.self.now c.loop-index.index
+    (subst (λ (xs : List Stamp). length xs ≤ c.loop-index.index) c.stamps-stamps.ensures c.loop-index-test.false) (c.loop-index.invariant.passed one)
 
 pub returns-after-before-clause-bounds : goal.returns-after-before-clause-bounds
 returns-after-before-clause-bounds g c =

@@ -8,5 +8,6 @@ returns-clause-ready g c =
     let five : slot_count c.in_ok-shape.field-0 ≡ 5 = omega (arith, c.in_ok-shape.ensures.0, c.in_ok-shape.ensures.1, c.in_ok-shape.ensures.2) in
     let bases : length c.in_ok-base.base.items ≡ 5 = ap length c.in_ok-base.ensures.items in
     let places : c.in_ok-places.places.items ≡ c.first-lo.result ∷ [] = c.in_ok-places.ensures.items in
-    (new_ready (g.O.Order.places c.args.order.now) (g.O.Order.places c.insert_after.new.self) c.first-lo.result c.in_ok-hi.hi c.in_ok-shape.field-0 (record { row = c.in_ok-row.row; places = c.in_ok-places.places; base = c.in_ok-base.base; stamps = c.new-2.result })
+    (new_ready (g.O.Order.places c.args.order.now) (g.O.Order.places c.insert_after.new.self) c.first-lo.result c.in_ok-hi.hi c.in_ok-shape.field-0
+    (record { row = c.in_ok-row.row; places = c.in_ok-places.places; base = c.in_ok-base.base; stamps = c.new-2.result })
     c.requires c.first-lo.ensures.in_list c.first-lo.ensures.first c.in_ok-hi.ensures.ok c.in_ok-row.ensures five bases places c.new-2.ensures.items).0

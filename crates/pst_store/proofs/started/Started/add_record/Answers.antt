@@ -12,12 +12,15 @@ returns-in_err-id-clause-err g c =
 
 pub invariant_of-self-2 : goal.invariant_of-self-2
 invariant_of-self-2 g c =
-    make_kept _ _ _ _ c.args.at _ c.args.ty c.args.name c.self.view_is c.self.invariant c.requires.writable c.requires.known_type c.requires.fresh c.in_ok-id.ensures.ok c.in_ok-id.ensures.noted c.requires.room
+    make_kept _ _ _ _ c.args.at _ c.args.ty c.args.name c.self.view_is c.self.invariant c.requires.writable c.requires.known_type c.requires.fresh
+    c.in_ok-id.ensures.ok c.in_ok-id.ensures.noted c.requires.room
 
 pub returns-clause-ok : goal.returns-clause-ok
 returns-clause-ok g c =
-    make_allocated _ _ _ _ c.args.at _ c.args.ty c.args.name c.self.view_is c.self.invariant c.requires.writable c.requires.known_type c.requires.fresh c.in_ok-id.ensures.ok c.in_ok-id.ensures.noted c.requires.room
+    make_allocated _ _ _ _ c.args.at _ c.args.ty c.args.name c.self.view_is c.self.invariant c.requires.writable c.requires.known_type
+    c.requires.fresh c.in_ok-id.ensures.ok c.in_ok-id.ensures.noted c.requires.room
 
 pub returns-clause-held : goal.returns-clause-held
 returns-clause-held g c =
-    make_held _ _ _ _ c.args.at _ c.args.ty c.args.name c.self.view_is c.self.invariant c.requires.writable c.requires.known_type c.requires.fresh c.in_ok-id.ensures.ok c.in_ok-id.ensures.noted c.requires.room
+    make_held _ _ _ _ c.args.at _ c.args.ty c.args.name c.self.view_is c.self.invariant c.requires.writable c.requires.known_type c.requires.fresh
+    c.in_ok-id.ensures.ok c.in_ok-id.ensures.noted c.requires.room

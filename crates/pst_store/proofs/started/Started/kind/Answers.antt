@@ -6,4 +6,5 @@ use Rattle.pst_store.proofs.started.Started.kind.Goals as goal
 
 pub returns : goal.returns
 returns g c =
-    c.field_kind.ensures ∙ ap (λ (s : Stored). field_kind (type_at s.shape c.ty.result) c.args.field.0) c.self.view_is ∙ sym (ap (kind_from c.args.self.now.shape c.args.field.0) (c.ty.ensures c.args.at c.requires))
+    c.field_kind.ensures ∙ ap (λ (s : Stored). field_kind (type_at s.shape c.ty.result) c.args.field.0) c.self.view_is
+    ∙ sym (ap (kind_from c.args.self.now.shape c.args.field.0) (c.ty.ensures c.args.at c.requires))

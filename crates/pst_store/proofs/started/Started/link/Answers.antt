@@ -19,15 +19,21 @@ pub returns-then-not-done-clause-rested : goal.returns-then-not-done-clause-rest
 returns-then-not-done-clause-rested g c = ap (λ (s : Stored). s.noted.queue) (c.in_ok-done.ensures.full c.if-not-done.true).1 ∙ c.in_ok-repair.ensures.rested
 
 pub returns-then-not-done-clause-full : goal.returns-then-not-done-clause-full
-returns-then-not-done-clause-full g c = λ u. refused_around c.args.self.now c.repair.new.self c.args.at c.args.r c.args.q c.args.field.0 c.repair.ensures.same c.repair.ensures.stays c.requires c.stamp_target.new.self (c.in_ok-done.ensures.full c.if-not-done.true).0 (c.in_ok-done.ensures.full c.if-not-done.true).1
+returns-then-not-done-clause-full g c = λ u. refused_around c.args.self.now c.repair.new.self c.args.at c.args.r c.args.q c.args.field.0
+    c.repair.ensures.same c.repair.ensures.stays c.requires c.stamp_target.new.self (c.in_ok-done.ensures.full c.if-not-done.true).0
+    (c.in_ok-done.ensures.full c.if-not-done.true).1
 
 pub returns-in_err-repair-2-clause-err : goal.returns-in_err-repair-2-clause-err
 returns-in_err-repair-2-clause-err g c =
-    on_err _ _ (inr (link_around c.args.self.now c.repair.new.self c.args.at c.args.r c.args.q c.args.field.0 c.repair.ensures.same c.repair.ensures.stays c.requires c.stamp_target.new.self c.repair-2.new.self (c.in_ok-done.ensures.written c.if-not-done.false).0 c.repair-2.ensures.same))
+    on_err _ _ (inr (link_around c.args.self.now c.repair.new.self c.args.at c.args.r c.args.q c.args.field.0 c.repair.ensures.same
+    c.repair.ensures.stays c.requires c.stamp_target.new.self c.repair-2.new.self (c.in_ok-done.ensures.written c.if-not-done.false).0
+    c.repair-2.ensures.same))
 
 pub returns-clause-written : goal.returns-clause-written
 returns-clause-written g c =
-    λ u. linked_around c.args.self.now c.repair.new.self c.args.at c.args.r c.args.q c.args.field.0 c.repair.ensures.same c.repair.ensures.stays c.requires c.stamp_target.new.self c.repair-2.new.self (c.in_ok-done.ensures.written c.if-not-done.false) c.repair-2.ensures.same c.repair-2.ensures.stays
+    λ u. linked_around c.args.self.now c.repair.new.self c.args.at c.args.r c.args.q c.args.field.0 c.repair.ensures.same c.repair.ensures.stays
+    c.requires c.stamp_target.new.self c.repair-2.new.self (c.in_ok-done.ensures.written c.if-not-done.false) c.repair-2.ensures.same
+    c.repair-2.ensures.stays
 
 pub returns-in_err-repair-clause-stamps : goal.returns-in_err-repair-clause-stamps
 returns-in_err-repair-clause-stamps g c = only_split 6 c.args.self.now c.repair.new.self c.repair.ensures.splits

@@ -24,7 +24,8 @@ pub returns-clause-rested : goal.returns-clause-rested
 returns-clause-rested g c = if_ok _ _ (ap (λ (n : Noted). n.queue) c.add_record.ensures.noted ∙ c.in_ok-repair.ensures.rested)
 
 pub returns-clause-ok : goal.returns-clause-ok
-returns-clause-ok g c = made_after c.args.self.now c.repair.new.self c.add_record.new.self c.args.at c.args.ty c.args.name c.add_record.result c.requires.writable c.repair.ensures.same c.repair.ensures.stays c.add_record.ensures.ok
+returns-clause-ok g c = made_after c.args.self.now c.repair.new.self c.add_record.new.self c.args.at c.args.ty c.args.name c.add_record.result
+    c.requires.writable c.repair.ensures.same c.repair.ensures.stays c.add_record.ensures.ok
 
 pub returns-clause-err : goal.returns-clause-err
 returns-clause-err g c = refused_after c.args.self.now c.repair.new.self c.add_record.new.self c.add_record.result c.repair.ensures.same c.add_record.ensures.err

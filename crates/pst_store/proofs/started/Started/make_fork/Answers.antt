@@ -31,10 +31,12 @@ pub invariant_of-self-2 : goal.invariant_of-self-2
 invariant_of-self-2 g c =
     let len : c.len-number.result ≡ length c.reserve_one.new.forks.forks = search rules in
     let count : c.len-number.result ≡ length c.self.inside.forks.forks = len ∙ ap length c.in_ok-reserve_one.ensures.forks in
-    forked_kept _ _ c.args.from c.self.view_is c.self.invariant c.requires.published c.requires.calls _ c.len-number.result c.in_ok-place.place c.in_ok-place.ensures.ok count _ _ c.push.ensures c.in_ok-reserve_one.ensures.forks
+    forked_kept _ _ c.args.from c.self.view_is c.self.invariant c.requires.published c.requires.calls _ c.len-number.result c.in_ok-place.place
+    c.in_ok-place.ensures.ok count _ _ c.push.ensures c.in_ok-reserve_one.ensures.forks
 
 pub returns-clause-ok : goal.returns-clause-ok
 returns-clause-ok g c =
     let len : c.len-number.result ≡ length c.reserve_one.new.forks.forks = search rules in
     let count : c.len-number.result ≡ length c.self.inside.forks.forks = len ∙ ap length c.in_ok-reserve_one.ensures.forks in
-    forked_done _ _ c.args.from c.self.view_is c.self.invariant c.requires.published c.requires.calls _ c.len-number.result c.in_ok-place.place c.in_ok-place.ensures.ok count _ _ c.push.ensures c.in_ok-reserve_one.ensures.forks
+    forked_done _ _ c.args.from c.self.view_is c.self.invariant c.requires.published c.requires.calls _ c.len-number.result c.in_ok-place.place
+    c.in_ok-place.ensures.ok count _ _ c.push.ensures c.in_ok-reserve_one.ensures.forks

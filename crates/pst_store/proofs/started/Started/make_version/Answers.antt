@@ -21,8 +21,11 @@ mark_published-requires g c =
 
 pub invariant_of-self-2 : goal.invariant_of-self-2
 invariant_of-self-2 g c =
-    published_kept _ _ c.args.parent c.args.run c.args.at c.self.view_is c.self.invariant c.requires.there c.requires.forked c.mark_published.ensures.fork _ _ c.mark_published.ensures.read c.in_ok-version.ensures.ok c.mark_published.ensures.set_in
+    published_kept _ _ c.args.parent c.args.run c.args.at c.self.view_is c.self.invariant c.requires.there c.requires.forked
+    c.mark_published.ensures.fork _ _ c.mark_published.ensures.read c.in_ok-version.ensures.ok c.mark_published.ensures.set_in
 
 pub returns-clause-ok : goal.returns-clause-ok
 returns-clause-ok g c =
-    published_done _ _ c.args.parent c.args.run c.args.at c.self.view_is c.self.invariant c.requires.there c.requires.forked c.mark_published.ensures.fork _ _ c.mark_published.ensures.read c.in_ok-version.ensures.ok c.mark_published.ensures.set_in c.in_ok-version.version.0 c.in_ok-version.ensures.number
+    published_done _ _ c.args.parent c.args.run c.args.at c.self.view_is c.self.invariant c.requires.there c.requires.forked
+    c.mark_published.ensures.fork _ _ c.mark_published.ensures.read c.in_ok-version.ensures.ok c.mark_published.ensures.set_in
+    c.in_ok-version.version.0 c.in_ok-version.ensures.number

@@ -45,8 +45,12 @@ invariant_of-self-2 g c =
 
 pub returns-clause-ok : goal.returns-clause-ok
 returns-clause-ok g c =
-    let w = found _ _ c.args.at c.args.r c.cover-id.result.0 c.self.view_is c.self.invariant c.requires.live c.cover-id.ensures.inside c.cover-id.ensures.same in
-    (null_stored _ _ _ _ c.args.at c.args.r c.cover-id.result.0 c.args.field.0 w c.requires.writable c.requires.field c.in_ok-set_null.ensures.set c.in_ok-set_null.ensures.kept c.requires.room, null_writes _ _ _ _ c.args.at c.args.r c.cover-id.result.0 c.args.field.0 w c.requires.writable c.requires.field c.in_ok-set_null.ensures.set c.in_ok-set_null.ensures.kept c.requires.room)
+    let w = found _ _ c.args.at c.args.r c.cover-id.result.0 c.self.view_is c.self.invariant c.requires.live c.cover-id.ensures.inside c.cover-id.ensures.same in (
+      null_stored _ _ _ _ c.args.at c.args.r c.cover-id.result.0 c.args.field.0 w c.requires.writable c.requires.field c.in_ok-set_null.ensures.set
+          c.in_ok-set_null.ensures.kept c.requires.room,
+      null_writes _ _ _ _ c.args.at c.args.r c.cover-id.result.0 c.args.field.0 w c.requires.writable
+          c.requires.field c.in_ok-set_null.ensures.set c.in_ok-set_null.ensures.kept c.requires.room,
+    )
 
 pub returns-in_err-set_null-clause-stamped : goal.returns-in_err-set_null-clause-stamped
 returns-in_err-set_null-clause-stamped g c = stamped_failed 6 _ _ _ _ c.self.view_is c.in_err-set_null.ensures.err.0

@@ -41,12 +41,20 @@ returns-in_err-set_number-clause-err g c =
 pub invariant_of-self-2 : goal.invariant_of-self-2
 invariant_of-self-2 g c =
     let fits = c.ranges.n in
-    written_kept _ _ _ _ c.args.at c.args.r c.cover-id.result.0 c.args.field.0 c.args.n c.self.view_is c.self.invariant c.requires.writable c.requires.live c.requires.field c.cover-id.ensures.inside c.cover-id.ensures.same (simp to_z-of_z at c.in_ok-set_number.ensures.set) c.in_ok-set_number.ensures.kept c.requires.room
+    written_kept _ _ _ _ c.args.at c.args.r c.cover-id.result.0 c.args.field.0 c.args.n c.self.view_is c.self.invariant c.requires.writable
+    c.requires.live c.requires.field c.cover-id.ensures.inside c.cover-id.ensures.same (simp to_z-of_z at c.in_ok-set_number.ensures.set)
+    c.in_ok-set_number.ensures.kept c.requires.room
 
 pub returns-clause-ok : goal.returns-clause-ok
 returns-clause-ok g c =
-    let fits = c.ranges.n in
-    (written_stored _ _ _ _ c.args.at c.args.r c.cover-id.result.0 c.args.field.0 c.args.n c.self.view_is c.self.invariant c.requires.writable c.requires.live c.requires.field c.cover-id.ensures.inside c.cover-id.ensures.same (simp to_z-of_z at c.in_ok-set_number.ensures.set) c.in_ok-set_number.ensures.kept c.requires.room, written_writes _ _ _ _ c.args.at c.args.r c.cover-id.result.0 c.args.field.0 c.args.n c.self.view_is c.self.invariant c.requires.writable c.requires.live c.requires.field c.cover-id.ensures.inside c.cover-id.ensures.same (simp to_z-of_z at c.in_ok-set_number.ensures.set) c.in_ok-set_number.ensures.kept c.requires.room)
+    let fits = c.ranges.n in (
+      written_stored _ _ _ _ c.args.at c.args.r c.cover-id.result.0 c.args.field.0 c.args.n c.self.view_is c.self.invariant c.requires.writable
+          c.requires.live c.requires.field c.cover-id.ensures.inside c.cover-id.ensures.same (simp to_z-of_z at c.in_ok-set_number.ensures.set)
+          c.in_ok-set_number.ensures.kept c.requires.room,
+      written_writes _ _ _ _ c.args.at c.args.r c.cover-id.result.0 c.args.field.0 c.args.n
+          c.self.view_is c.self.invariant c.requires.writable c.requires.live c.requires.field c.cover-id.ensures.inside c.cover-id.ensures.same
+          (simp to_z-of_z at c.in_ok-set_number.ensures.set) c.in_ok-set_number.ensures.kept c.requires.room,
+    )
 
 pub returns-in_err-set_number-clause-stamped : goal.returns-in_err-set_number-clause-stamped
 returns-in_err-set_number-clause-stamped g c = stamped_failed 2 _ _ _ _ c.self.view_is c.in_err-set_number.ensures.err.0

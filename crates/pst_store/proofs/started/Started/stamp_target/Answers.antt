@@ -73,13 +73,21 @@ pub invariant_of-self-in-Some : goal.invariant_of-self-in-Some
 invariant_of-self-in-Some g c =
     let w = found _ _ c.args.at c.args.r c.cover-x.result.0 c.self.view_is c.self.invariant c.requires.live c.cover-x.ensures.inside c.cover-x.ensures.same in
     let v = found _ _ c.args.at c.args.q c.cover-y.result.0 c.self.view_is c.self.invariant c.requires.target_live c.cover-y.ensures.inside c.cover-y.ensures.same in
-    link_kept _ _ c.args.at c.args.r c.args.q c.cover-x.result.0 c.cover-y.result.0 c.args.field.0 w v c.requires.fits _ _ c.in-Some.slot.0 c.requires.writable c.in_ok-set_target-in-Some.ensures.set c.in_ok-set_target-in-Some.ensures.kept c.requires.room
+    link_kept _ _ c.args.at c.args.r c.args.q c.cover-x.result.0 c.cover-y.result.0 c.args.field.0 w v c.requires.fits _ _ c.in-Some.slot.0
+    c.requires.writable c.in_ok-set_target-in-Some.ensures.set c.in_ok-set_target-in-Some.ensures.kept c.requires.room
 
 pub returns-in_ok-set_target-in-Some-clause-written : goal.returns-in_ok-set_target-in-Some-clause-written
 returns-in_ok-set_target-in-Some-clause-written g c =
     let w = found _ _ c.args.at c.args.r c.cover-x.result.0 c.self.view_is c.self.invariant c.requires.live c.cover-x.ensures.inside c.cover-x.ensures.same in
     let v = found _ _ c.args.at c.args.q c.cover-y.result.0 c.self.view_is c.self.invariant c.requires.target_live c.cover-y.ensures.inside c.cover-y.ensures.same in
-    λ u. (link_stored _ _ c.args.at c.args.r c.args.q c.cover-x.result.0 c.cover-y.result.0 c.args.field.0 w v c.requires.fits _ _ c.in-Some.slot.0 c.requires.writable c.in_ok-set_target-in-Some.ensures.set c.in_ok-set_target-in-Some.ensures.kept c.requires.room, link_writes _ _ c.args.at c.args.r c.args.q c.cover-x.result.0 c.cover-y.result.0 c.args.field.0 w v c.requires.fits _ _ c.in-Some.slot.0 c.requires.writable c.in_ok-set_target-in-Some.ensures.set c.in_ok-set_target-in-Some.ensures.kept c.requires.room, link_room _ _ c.args.at c.args.r c.args.q c.cover-x.result.0 c.cover-y.result.0 c.args.field.0 w v c.requires.fits c.in-Some.slot.0 c.in-Some.ensures.some)
+    λ u. (
+      link_stored _ _ c.args.at c.args.r c.args.q c.cover-x.result.0 c.cover-y.result.0 c.args.field.0 w v c.requires.fits _ _ c.in-Some.slot.0
+          c.requires.writable c.in_ok-set_target-in-Some.ensures.set c.in_ok-set_target-in-Some.ensures.kept c.requires.room,
+      link_writes _ _ c.args.at c.args.r c.args.q c.cover-x.result.0 c.cover-y.result.0 c.args.field.0 w v c.requires.fits _ _ c.in-Some.slot.0
+          c.requires.writable c.in_ok-set_target-in-Some.ensures.set c.in_ok-set_target-in-Some.ensures.kept c.requires.room,
+      link_room _ _ c.args.at c.args.r c.args.q c.cover-x.result.0 c.cover-y.result.0 c.args.field.0 w v c.requires.fits c.in-Some.slot.0
+          c.in-Some.ensures.some,
+    )
 
 pub returns-in_err-set_target-in-Some-clause-stamped : goal.returns-in_err-set_target-in-Some-clause-stamped
 returns-in_err-set_target-in-Some-clause-stamped g c = stamped_failed 6 _ _ _ _ c.self.view_is c.in_err-set_target-in-Some.ensures.err.0

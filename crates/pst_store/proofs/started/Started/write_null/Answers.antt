@@ -27,12 +27,14 @@ returns-in_err-stamp_null-clause-err g c = on_err _ _ (inl (unchanged_after _ _ 
 pub returns-clause-ok : goal.returns-clause-ok
 returns-clause-ok g c =
     on_ok_both _ _ _
-    (target_around c.args.self.now c.repair.new.self c.stamp_null.new.self c.repair-2.new.self c.args.at c.args.r c.args.field.0 None c.requires.live c.repair.ensures.same c.in_ok-stamp_null.ensures.ok.0 c.repair-2.ensures.same)
+    (target_around c.args.self.now c.repair.new.self c.stamp_null.new.self c.repair-2.new.self c.args.at c.args.r c.args.field.0 None c.requires.live
+    c.repair.ensures.same c.in_ok-stamp_null.ensures.ok.0 c.repair-2.ensures.same)
     (writes_around c.args.self.now c.repair.new.self c.stamp_null.new.self c.repair-2.new.self c.repair.ensures.stays c.in_ok-stamp_null.ensures.ok.1 c.repair-2.ensures.stays)
 
 pub returns-clause-err : goal.returns-clause-err
 returns-clause-err g c =
-    on_err _ _ (inr (target_around c.args.self.now c.repair.new.self c.stamp_null.new.self c.repair-2.new.self c.args.at c.args.r c.args.field.0 None c.requires.live c.repair.ensures.same c.in_ok-stamp_null.ensures.ok.0 c.repair-2.ensures.same))
+    on_err _ _ (inr (target_around c.args.self.now c.repair.new.self c.stamp_null.new.self c.repair-2.new.self c.args.at c.args.r c.args.field.0 None
+    c.requires.live c.repair.ensures.same c.in_ok-stamp_null.ensures.ok.0 c.repair-2.ensures.same))
 
 pub returns-in_err-repair-clause-stamps : goal.returns-in_err-repair-clause-stamps
 returns-in_err-repair-clause-stamps g c = only_split 6 c.args.self.now c.repair.new.self c.repair.ensures.splits

@@ -28,13 +28,15 @@ pub returns-clause-ok : goal.returns-clause-ok
 returns-clause-ok g c =
     let fits = c.ranges.n in
     on_ok_both _ _ _
-    (number_around c.args.self.now c.repair.new.self c.stamp_number.new.self c.repair-2.new.self c.args.at c.args.r c.args.field.0 c.args.n c.requires.live c.repair.ensures.same (simp to_z-of_z at c.in_ok-stamp_number.ensures.ok).0 c.repair-2.ensures.same)
+    (number_around c.args.self.now c.repair.new.self c.stamp_number.new.self c.repair-2.new.self c.args.at c.args.r c.args.field.0 c.args.n
+    c.requires.live c.repair.ensures.same (simp to_z-of_z at c.in_ok-stamp_number.ensures.ok).0 c.repair-2.ensures.same)
     (writes_around c.args.self.now c.repair.new.self c.stamp_number.new.self c.repair-2.new.self c.repair.ensures.stays c.in_ok-stamp_number.ensures.ok.1 c.repair-2.ensures.stays)
 
 pub returns-clause-err : goal.returns-clause-err
 returns-clause-err g c =
     let fits = c.ranges.n in
-    on_err _ _ (inr (number_around c.args.self.now c.repair.new.self c.stamp_number.new.self c.repair-2.new.self c.args.at c.args.r c.args.field.0 c.args.n c.requires.live c.repair.ensures.same (simp to_z-of_z at c.in_ok-stamp_number.ensures.ok).0 c.repair-2.ensures.same))
+    on_err _ _ (inr (number_around c.args.self.now c.repair.new.self c.stamp_number.new.self c.repair-2.new.self c.args.at c.args.r c.args.field.0
+    c.args.n c.requires.live c.repair.ensures.same (simp to_z-of_z at c.in_ok-stamp_number.ensures.ok).0 c.repair-2.ensures.same))
 
 pub returns-in_err-repair-clause-stamps : goal.returns-in_err-repair-clause-stamps
 returns-in_err-repair-clause-stamps g c = only_split 2 c.args.self.now c.repair.new.self c.repair.ensures.splits

@@ -3,19 +3,26 @@ use Rattle.pst_order.specs.Places.{rank}
 use Rattle.pst_store_arena.proofs.arena.ArenaFatNodes.set_null.Goals as goal
 
 pub set_null-requires-clause-sound : goal.set_null-requires-clause-sound
-set_null-requires-clause-sound g c = known_sound c.args.shape.now (g.O.Order.places c.args.order.now) c.self.inside.nodes.list.items c.self.inside.roots c.self.inside.looked_at c.args.self.now c.self.view_is c.requires.nodes
+set_null-requires-clause-sound g c = known_sound c.args.shape.now (g.O.Order.places c.args.order.now) c.self.inside.nodes.list.items
+    c.self.inside.roots c.self.inside.looked_at c.args.self.now c.self.view_is c.requires.nodes
 
 pub set_null-requires-clause-queued : goal.set_null-requires-clause-queued
-set_null-requires-clause-queued g c = known_queued c.args.shape.now (g.O.Order.places c.args.order.now) c.self.inside.nodes.list.items c.self.inside.roots c.self.inside.looked_at c.args.self.now c.self.view_is c.self.inside.queue c.self.invariant c.requires.waiting
+set_null-requires-clause-queued g c = known_queued c.args.shape.now (g.O.Order.places c.args.order.now) c.self.inside.nodes.list.items
+    c.self.inside.roots c.self.inside.looked_at c.args.self.now c.self.view_is c.self.inside.queue c.self.invariant c.requires.waiting
 
 pub set_null-requires-clause-inside : goal.set_null-requires-clause-inside
-set_null-requires-clause-inside g c = known_in c.args.shape.now (g.O.Order.places c.args.order.now) c.self.inside.nodes.list.items c.self.inside.roots c.self.inside.looked_at c.args.self.now c.self.view_is c.args.id.0 (rank (g.O.Order.places c.args.order.now) c.args.at.begin.0) c.requires.inside
+set_null-requires-clause-inside g c = known_in c.args.shape.now (g.O.Order.places c.args.order.now) c.self.inside.nodes.list.items c.self.inside.roots
+    c.self.inside.looked_at c.args.self.now c.self.view_is c.args.id.0 (rank (g.O.Order.places c.args.order.now) c.args.at.begin.0) c.requires.inside
 
 pub set_null-requires-clause-field : goal.set_null-requires-clause-field
-set_null-requires-clause-field g c = known_pointer c.args.shape.now (g.O.Order.places c.args.order.now) c.self.inside.nodes.list.items c.self.inside.roots c.self.inside.looked_at c.args.self.now c.self.view_is c.args.id.0 c.args.field.0 c.requires.field
+set_null-requires-clause-field g c = known_pointer c.args.shape.now (g.O.Order.places c.args.order.now) c.self.inside.nodes.list.items
+    c.self.inside.roots c.self.inside.looked_at c.args.self.now c.self.view_is c.args.id.0 c.args.field.0 c.requires.field
 
 pub returns-clause-kept : goal.returns-clause-kept
-returns-clause-kept g c = kept_written c.args.shape.now (g.O.Order.places c.args.order.now) c.self.inside.nodes.list.items c.self.inside.roots c.self.inside.looked_at c.args.self.now c.self.view_is c.set_null.new.nodes.list.items c.set_null.result c.set_null.new.queue c.set_null.ensures.rows c.set_null.ensures.wide c.set_null.ensures.queued
+returns-clause-kept g c = kept_written c.args.shape.now (g.O.Order.places c.args.order.now) c.self.inside.nodes.list.items c.self.inside.roots
+    c.self.inside.looked_at c.args.self.now c.self.view_is c.set_null.new.nodes.list.items c.set_null.result c.set_null.new.queue
+    c.set_null.ensures.rows c.set_null.ensures.wide c.set_null.ensures.queued
 
 pub returns-clause-err : goal.returns-clause-err
-returns-clause-err g c = kept_refused c.args.shape.now (g.O.Order.places c.args.order.now) c.self.inside.nodes.list.items c.self.inside.roots c.self.inside.looked_at c.args.self.now c.self.view_is c.set_null.new.nodes.list.items c.set_null.result c.set_null.ensures.err_nodes
+returns-clause-err g c = kept_refused c.args.shape.now (g.O.Order.places c.args.order.now) c.self.inside.nodes.list.items c.self.inside.roots
+    c.self.inside.looked_at c.args.self.now c.self.view_is c.set_null.new.nodes.list.items c.set_null.result c.set_null.ensures.err_nodes
