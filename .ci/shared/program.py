@@ -8,7 +8,7 @@ from typing import Iterable, List, Optional, Sequence, Tuple, Union
 
 from shared.repository import TOP
 
-SECONDS = 60
+SECONDS = 120
 # A status, or what stands for it where there was none, and what was written.
 Answer = Tuple[Union[int, str], bytes]
 
