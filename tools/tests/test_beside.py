@@ -97,7 +97,7 @@ class Pages(unittest.TestCase):
         self.addCleanup(os.chdir, here)
         os.chdir(TOP)
         told = 0
-        for page in ('tools/README.md', 'docs/NOTATION.md', 'README.md'):
+        for page in ('tools/README.md', 'docs/HOSTS.md', 'README.md'):
             blocks = self.blocks(page)
             for (kind, given), (_, shown) in zip(blocks, blocks[1:]):
                 if kind == 'python':
@@ -109,7 +109,7 @@ class Pages(unittest.TestCase):
         self.assertGreater(told, 0)
 
     def test_examples_in_rust_stand_in_the_host(self):
-        for page in ('tools/README.md', 'docs/NOTATION.md', 'README.md'):
+        for page in ('tools/README.md', 'docs/HOSTS.md', 'README.md'):
             for kind, given in self.blocks(page):
                 if kind == 'rust':
                     self.assertIn(given, read_text(os.path.join(TOOLS, 'rust', 'examples', 'host.rs')), page)
@@ -117,7 +117,8 @@ class Pages(unittest.TestCase):
     def test_links_of_the_pages_of_the_tools(self):
         for page in ('README.md', 'rust/README.md', 'node/README.md'):
             for target in re.findall(r'\]\(([^)\s]+)\)', read_text(os.path.join(TOOLS, page))):
-                self.assertTrue(os.path.exists(os.path.join(TOOLS, os.path.dirname(page), target)), target)
+                path = os.path.join(TOOLS, os.path.dirname(page), target.partition('#')[0])
+                self.assertTrue(target.startswith('#') or os.path.exists(path), target)
 
 
 class Sources(unittest.TestCase):

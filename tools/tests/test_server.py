@@ -172,7 +172,7 @@ class Paths(Served):
 
     def test_which_version_changed_a_path(self):
         name = self.store(LIST, 'run 0 add 5', 'run 1 add 7')
-        self.assertEqual(self.server.ask('GET', f'/stores/{name}/versions/2/changed/first.next.key').json['changed'], 1)
+        self.assertEqual(self.server.ask('GET', f'/stores/{name}/versions/2/changed/first.next.key').json['changed'], 2)
         self.assertEqual(self.server.ask('GET', f'/stores/{name}/versions/2/changed/first', headers=AS_TEXT).text, 'changed 2\n')
         self.assertEqual(self.server.ask('GET', f'/stores/{name}/versions/0/changed/first').json['changed'], None)
         self.refused(404, 'GET', f'/stores/{name}/versions/2/changed/last')
