@@ -126,6 +126,12 @@ class Guarded(RequestHandler):
         elif now - self.since > (limits.idle_seconds if self.answered else limits.head_seconds):
             self.force_close()
 
+    async def _handle_request(self, *given: Any) -> Tuple[web.StreamResponse, bool]:
+        """A request is not begun where the connection was lost before its turn. (aiohttp asserts that it was not, and tells a fault.)"""
+        if self._request_handler is None:
+            raise ConnectionError('the client has gone')
+        return await super()._handle_request(*given)
+
     def handle_error(self, request: web.BaseRequest, status: int = 500, exc: Optional[BaseException] = None,
                      message: Optional[str] = None) -> web.StreamResponse:
         """What is answered to bytes that are no request."""
