@@ -79,6 +79,9 @@ fn change_of<H: VersionedHeap>(
 /// For a version that is there: its dump, or the line `changed W` with the first version `W`, on the way from it to version 0,
 /// that changed what the path reads, or `never`. The line `refused path` exactly where the program has no such path, and else
 /// `refused version` exactly where no version has the number.
+///
+/// # Errors
+/// Where there was no memory.
 pub fn tell<H: VersionedHeap>(
     alloc: Global,
     heap: &H,

@@ -16,6 +16,9 @@ use pst_script::{LineFault, Refusal, Reply, put_reply, read_line};
 use std::alloc::Global;
 
 /// Writes a piece.
+///
+/// # Errors
+/// Where a write failed: a proper part of the piece was taken.
 pub fn say<K: Sink>(sink: &mut K, piece: &[u8]) -> Result<(), Stop>
     ensures said { HasTaken K.taken sink.old sink.new (λ out. MatchResult result (λ _. out ≡ piece.now) (λ stop. StopsAtReply stop (Some piece.now) out)) }
     ensures later { K.faults sink.old ≤ K.faults sink.new }
@@ -28,6 +31,9 @@ pub fn say<K: Sink>(sink: &mut K, piece: &[u8]) -> Result<(), Stop>
 }
 
 /// The reply to a line on each history that the session stands for, which becomes the one after the line.
+///
+/// # Errors
+/// Where there was no memory.
 pub fn reply_to<X: Session>(
     alloc: Global,
     session: &mut X,

@@ -15,6 +15,9 @@ use pst_script::is_separator;
 use std::alloc::Global;
 
 /// Reads the text of the program, by a reader that has not begun.
+///
+/// # Errors
+/// Where a read failed, the input is too long, or there was no memory.
 pub fn read_text<S: Source>(
     alloc: Global,
     lines: &mut Lines,

@@ -14,6 +14,9 @@ use pst_io::{Lines, Sink, Source};
 use std::alloc::Global;
 
 /// Answers the lines that are left.
+///
+/// # Errors
+/// Where a read or a write failed, the input is too long, or there was no memory: the lines before are answered.
 pub fn answer_script<X: Session, S: Source, K: Sink>(
     alloc: Global,
     session: &mut X,

@@ -27,6 +27,9 @@ pub fn split_line(text: &[u8]) -> Option<(&[u8], &[u8])>
 }
 
 /// Answers the lines of a text. Nothing is read.
+///
+/// # Errors
+/// Where a write failed or there was no memory: the lines before are answered.
 pub fn answer_text<X: Session, K: Sink>(
     alloc: Global,
     session: &mut X,

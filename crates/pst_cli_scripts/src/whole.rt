@@ -12,6 +12,9 @@ use pst_io::{Lines, MOST_INPUT, Source};
 use std::alloc::Global;
 
 /// Reads an input to its end and gives its bytes, by a reader that has not begun.
+///
+/// # Errors
+/// Where a read failed, the input is too long, or there was no memory.
 pub fn read_all<S: Source>(
     alloc: Global,
     lines: &mut Lines,

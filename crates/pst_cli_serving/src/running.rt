@@ -32,6 +32,9 @@ impl<O: Order + Drop, N: FatNodes> Running<O, N> {
     ghost use Rattle.pst_cli_serving.specs.Storing.{IsRunning};
 
     /// A session over a store that has versions, with this next run number and budget. It stands for the opening that has them.
+    ///
+    /// # Errors
+    /// Where there was no memory.
     pub fn over(
         alloc: Global,
         program: Program,

@@ -29,6 +29,9 @@ fn behind(at: u32, code: &[Instr]) -> Result<u32, NoMemory>
 }
 
 /// The code of a block that stands at an index.
+///
+/// # Errors
+/// Where there was no memory.
 #[cycle(blocks)]
 pub fn emit_block(
     alloc: Global,

@@ -13,6 +13,9 @@ use pst_program::Typed;
 
 /// Adds a charge, a condition that stands at the index `test` and goes to the index `to` where it does not hold, and the code
 /// behind it.
+///
+/// # Errors
+/// Where there was no memory.
 pub fn emit_guarded(
     code: &mut Vec<Instr>,
     layout: &Layout<'_>,
@@ -32,6 +35,9 @@ pub fn emit_guarded(
 
 /// Adds the code of a choice with two sides: its condition stands at the index `test`, its second side at `middle`, and what
 /// follows it at `end`.
+///
+/// # Errors
+/// Where there was no memory.
 pub fn emit_choice(
     code: &mut Vec<Instr>,
     layout: &Layout<'_>,

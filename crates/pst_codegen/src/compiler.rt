@@ -57,6 +57,9 @@ fn compile_procedure(
 
 /// The code of a program. Code of more than 4,294,967,295 instructions in a procedure is refused as want of memory, since
 /// the index of an instruction has 32 bits.
+///
+/// # Errors
+/// Where there was no memory.
 pub fn compile(alloc: Global, program: &Program) -> Result<Code, NoMemory>
     requires { IsTyped (routines_of program.now) }
     ensures { IfOk result (λ code. code ≡ code_of (routines_of program.now)) }

@@ -10,6 +10,9 @@ use pst_code::Instr;
 use pst_codegen_expressions::{Layout, put};
 
 /// Adds the code that ends a procedure without `return`.
+///
+/// # Errors
+/// Where there was no memory.
 pub fn emit_end(
     code: &mut Vec<Instr>,
     layout: &Layout<'_>,

@@ -15,6 +15,9 @@ use pst_program::{Typed, TypedList};
 use std::alloc::Global;
 
 /// Adds the code of an assignment to a local.
+///
+/// # Errors
+/// Where there was no memory.
 pub fn emit_set(
     code: &mut Vec<Instr>,
     layout: &Layout<'_>,
@@ -31,6 +34,9 @@ pub fn emit_set(
 }
 
 /// Adds the code of an assignment to a root.
+///
+/// # Errors
+/// Where there was no memory.
 pub fn emit_set_root(
     code: &mut Vec<Instr>,
     layout: &Layout<'_>,
@@ -47,6 +53,9 @@ pub fn emit_set_root(
 }
 
 /// Adds the code of an assignment to a field. Null traps before the value is evaluated.
+///
+/// # Errors
+/// Where there was no memory.
 pub fn emit_store(
     code: &mut Vec<Instr>,
     layout: &Layout<'_>,
@@ -68,6 +77,9 @@ pub fn emit_store(
 
 /// Adds the code of an assignment to an element of an array: the slot of the first one, and how many there are. Null traps
 /// before the index is evaluated, and a number that is no index before the value is.
+///
+/// # Errors
+/// Where there was no memory.
 pub fn emit_store_element(
     code: &mut Vec<Instr>,
     layout: &Layout<'_>,
@@ -93,6 +105,9 @@ pub fn emit_store_element(
 }
 
 /// Adds the code of `print`.
+///
+/// # Errors
+/// Where there was no memory.
 pub fn emit_print(
     code: &mut Vec<Instr>,
     layout: &Layout<'_>,
@@ -108,6 +123,9 @@ pub fn emit_print(
 }
 
 /// Adds the code of `return`.
+///
+/// # Errors
+/// Where there was no memory.
 pub fn emit_return(
     code: &mut Vec<Instr>,
     layout: &Layout<'_>,
@@ -148,6 +166,9 @@ fn emit_arguments(
 }
 
 /// Adds the code of a call.
+///
+/// # Errors
+/// Where there was no memory.
 pub fn emit_call(
     alloc: Global,
     code: &mut Vec<Instr>,

@@ -14,6 +14,9 @@ use pst_code::{Instr, Reg};
 use pst_program::Typed;
 
 /// The index after so many instructions. It has 32 bits, and one that does not fit is refused as want of memory.
+///
+/// # Errors
+/// Where there was no memory.
 pub fn after(at: u32, count: u32) -> Result<u32, NoMemory>
     ensures { IfOk result (λ to. to ≡ at + count) }
 {
@@ -68,6 +71,9 @@ fn compare_len(op: Op) -> u32
 }
 
 /// How many instructions a condition takes.
+///
+/// # Errors
+/// Where there was no memory.
 #[tactic(auto, using(crate::proofs::Lengths::expr_length))]
 pub fn test_len(layout: &Layout<'_>, e: &Typed) -> Result<u32, NoMemory>
     ensures { IfOk result (λ n. n ≡ condition_size layout.now (expr_of e.now)) }
@@ -167,6 +173,9 @@ fn emit_comparison(
 
 /// Adds the code of a condition, which stands at the index `at`: it goes to the index `to` where its truth is the wanted
 /// one, and on otherwise.
+///
+/// # Errors
+/// Where there was no memory.
 pub fn emit_test(
     code: &mut Vec<Instr>,
     layout: &Layout<'_>,

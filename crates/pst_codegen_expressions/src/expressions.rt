@@ -16,6 +16,9 @@ use pst_code::{Instr, Reg};
 use pst_program::Typed;
 
 /// Adds an instruction.
+///
+/// # Errors
+/// Where there was no memory.
 pub fn put(code: &mut Vec<Instr>, instr: Instr) -> Result<(), NoMemory>
     ensures { OnOk result (Emits code.old code.new (instr ∷ [])) }
 {
@@ -33,6 +36,9 @@ fn set(code: &mut Vec<Instr>, register: Reg, instr: Instr) -> Result<Reg, NoMemo
 }
 
 /// Adds the code of an operand of a level. The answer is the register that holds its value.
+///
+/// # Errors
+/// Where there was no memory.
 pub fn emit_expr(
     code: &mut Vec<Instr>,
     layout: &Layout<'_>,

@@ -228,6 +228,9 @@ fn note_end(alloc: Global, table: &mut Table, kind: Option<Kind>) -> Result<(), 
 }
 
 /// The temporary registers of a procedure.
+///
+/// # Errors
+/// Where there was no memory.
 pub fn table_of(alloc: Global, shape: &[TypeShape], p: &TypedProc) -> Result<Table, NoMemory>
     requires { IsReadyProcedure shape.now (procedure_of p.now) }
     ensures { IfOk result (λ table. table ≡ table_of shape.now (procedure_of p.now)) }

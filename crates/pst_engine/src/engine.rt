@@ -63,6 +63,9 @@ impl<H: VersionedHeap> Engine<H> {
     /// for the history after the command, if the command's numbers are such as a line can give. A refused command changes
     /// nothing. Want of memory is the one fault: the engine is failed then, answers the same from then on and changes nothing,
     /// and the heap's versions are those of before, at their places. The code is the same at each call.
+    ///
+    /// # Errors
+    /// Where there was no memory.
     pub fn apply<C: Meant>(
         &mut self,
         alloc: Global,

@@ -21,6 +21,9 @@ pub fn place_at<H: VersionedHeap>(heap: &H, version: VersionNo) -> H::Place
 }
 
 /// The same numbers, in memory of their own.
+///
+/// # Errors
+/// Where there was no memory.
 pub fn copy_of(alloc: Global, numbers: &[i64]) -> Result<Numbers, NoMemory>
     ensures { IfOk result (λ copy. copy ≡ numbers.now) }
 {
@@ -39,6 +42,9 @@ fn queried(printed: Numbers, end: Ended) -> Reply
 
 /// Carries out a query at the place of a version, and gives its answer. It is given the next run number, and does not take it.
 /// Open runs and heap stand for the same history afterwards, and the versions are those of before, also where memory was wanting.
+///
+/// # Errors
+/// Where there was no memory.
 pub fn query<H: VersionedHeap, C: Meant>(
     alloc: Global,
     code: &C,

@@ -60,6 +60,9 @@ pub fn refusal_of_query<C: Meant>(
 }
 
 /// A run at a place, without a call and before its first charge. It takes at most `budget` charges.
+///
+/// # Errors
+/// Where there was no memory.
 pub fn bare<H: HeapAt, C: Meant>(
     code: &C,
     alloc: Global,
@@ -75,6 +78,9 @@ pub fn bare<H: HeapAt, C: Meant>(
 }
 
 /// Adds a call to a run: of a query, or of any procedure at a place that can be written. A refusal changes nothing.
+///
+/// # Errors
+/// Where there was no memory.
 pub fn add<H: HeapAt, C: Meant>(
     code: &C,
     activation: &mut Activation<H>,
@@ -94,6 +100,9 @@ pub fn add<H: HeapAt, C: Meant>(
 
 /// Grants a run that many more charges, never more than its budget in all, and carries out its calls as far as they reach. Other
 /// places keep their heaps, and one that can't be written keeps its own, also after `NoMemory`; the run has failed then.
+///
+/// # Errors
+/// Where there was no memory.
 pub fn advance<H: HeapAt, C: Meant>(
     code: &C,
     activation: &mut Activation<H>,

@@ -25,6 +25,9 @@ fn stepped(run: RunNo, end: Ended) -> Reply
 
 /// Grants an open run more charges, executes it as far as they reach, and gives the answer. The versions are those of before,
 /// also where memory was wanting.
+///
+/// # Errors
+/// Where there was no memory.
 pub fn step<H: VersionedHeap, C: Meant>(
     code: &C,
     heap: &mut H,
@@ -48,6 +51,9 @@ pub fn step<H: VersionedHeap, C: Meant>(
 
 /// Adds a call to an open run, executes it as far as the charges granted so far reach, and gives the answer. The run keeps its
 /// place among the entries, and the versions are those of before, also where memory was wanting.
+///
+/// # Errors
+/// Where there was no memory.
 pub fn call<H: VersionedHeap, C: Meant>(
     code: &C,
     heap: &mut H,

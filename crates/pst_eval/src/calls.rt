@@ -18,6 +18,9 @@ use std::alloc::Global;
 const DEEP: u32 = 255;
 
 /// Carries out calls in order, each with what the one before left, until one traps or a charge is due that is not there.
+///
+/// # Errors
+/// Where there was no memory.
 pub fn run_calls(
     alloc: Global,
     program: &Program,

@@ -13,6 +13,9 @@ use pst_program::{Typed, Value};
 use std::alloc::Global;
 
 /// The values of the arguments in order, or the kind of the first trap.
+///
+/// # Errors
+/// Where there was no memory.
 pub fn arguments(
     alloc: Global,
     list: &[Typed],
@@ -52,6 +55,9 @@ pub fn default_result(kind: Option<Kind>) -> Option<Value>
 }
 
 /// The arguments, and the other locals as they begin.
+///
+/// # Errors
+/// Where there was no memory.
 pub fn first_env(arguments: Vec<Value>, kinds: &[Kind]) -> Result<Vec<Value>, NoMemory>
     ensures { IfOk result (λ env. env.items ≡ first_env kinds.now arguments.items) }
 {

@@ -198,6 +198,9 @@ fn run_call(
 }
 
 /// Runs the body of a procedure, where `deep` more calls may become active, and notes how it ends.
+///
+/// # Errors
+/// Where there was no memory.
 #[cycle(run)]
 pub fn run_body(
     alloc: Global,

@@ -14,6 +14,9 @@ use pst_heap::PlainHeap;
 use pst_program::{MOST_PRINTED, Typed, TypedForm, Value};
 
 /// Carries out a statement that holds no other and calls nothing.
+///
+/// # Errors
+/// Where there was no memory.
 pub fn step(
     form: &TypedForm,
     line: u32,

@@ -11,6 +11,9 @@ use pst_program::{Typed, Value};
 
 /// The value of an expression, or the kind of its first trap from left to right. A number and a local, which most operands are, are
 /// told without a call.
+///
+/// # Errors
+/// The kind of that trap.
 #[cycle(value)]
 #[inline(always)]
 pub fn value(e: &Typed, env: &[Value], heap: &PlainHeap) -> Result<Value, TrapKind>

@@ -36,6 +36,9 @@ pub struct Outcome {
 
 /// Carries out the calls of a run in order on a heap, which becomes the heap that the run leaves. They share the charges,
 /// the numbering of records and the printed numbers; a trap ends all. After want of memory the heap may hold part of the run.
+///
+/// # Errors
+/// Where there was no memory.
 pub fn evaluate(
     alloc: Global,
     program: &Program,

@@ -48,6 +48,9 @@ impl Work {
 }
 
 /// Carries out a statement that holds no other and calls nothing.
+///
+/// # Errors
+/// Where there was no memory.
 #[inline(never)]
 pub fn carry_out(
     form: &TypedForm,

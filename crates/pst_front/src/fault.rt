@@ -60,6 +60,9 @@ fn fault_name(kind: FaultKind) -> &'static str
 }
 
 /// The line that a refused program is answered by.
+///
+/// # Errors
+/// Where there was no memory.
 pub fn fault_text(alloc: Global, fault: Fault) -> Result<String, NoMemory>
     ensures { IfOk result (λ text. string_bytes text ≡ fault_text fault) }
 {

@@ -37,6 +37,9 @@ impl Model for Identifier {
 
 impl Identifier {
     /// The name of these bytes. `NoMemory` where it has more than 14 and there is no memory for them.
+    ///
+    /// # Errors
+    /// Where there was no memory.
     #[inline(always)]
     pub fn from_slice(alloc: Global, bytes: &[u8]) -> Result<Identifier, NoMemory>
         ensures { IfOk result (λ name. name ≡ bytes.now) }

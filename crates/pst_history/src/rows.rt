@@ -47,6 +47,9 @@ pub fn next_number(history: &Since) -> RunNo
 }
 
 /// The parents of the versions after 0, in their order, as `versions` tells them. It errs only where no memory is left.
+///
+/// # Errors
+/// Where there was no memory.
 pub fn parents(alloc: Global, history: &Since) -> Result<Parents, NoMemory>
     ensures { IfOk result (λ p. p ≡ map (λ v. v.parent) history.now.versions) }
 {
@@ -58,6 +61,9 @@ pub fn parents(alloc: Global, history: &Since) -> Result<Parents, NoMemory>
 }
 
 /// A call of a run, of copies of its parts, since a run outlives the line that names them. It errs only where no memory is left.
+///
+/// # Errors
+/// Where there was no memory.
 pub fn named_call(procedure: &Text, arguments: &Numbers) -> Result<NamedCall, NoMemory>
     ensures { IfOk result (λ call. call ≡ record { procedure = procedure.now; arguments = arguments.now }) }
 {
@@ -68,6 +74,9 @@ pub fn named_call(procedure: &Text, arguments: &Numbers) -> Result<NamedCall, No
 }
 
 /// The one call of a line, as the calls of a run. It errs only where no memory is left.
+///
+/// # Errors
+/// Where there was no memory.
 pub fn one_call(alloc: Global, call: &Call) -> Result<NamedCalls, NoMemory>
     ensures { IfOk result (λ calls. calls ≡ call_of call.now ∷ []) }
 {
@@ -78,6 +87,9 @@ pub fn one_call(alloc: Global, call: &Call) -> Result<NamedCalls, NoMemory>
 
 /// Opens a run on a version, with these calls, under the budget that stands and without a charge. It errs only where no memory is
 /// left.
+///
+/// # Errors
+/// Where there was no memory.
 pub fn open(history: &mut Since, version: VersionNo, calls: NamedCalls) -> Result<(), NoMemory>
     ensures { OnOk result (Opens version calls history.old history.new) }
 {
@@ -93,6 +105,9 @@ pub fn open(history: &mut Since, version: VersionNo, calls: NamedCalls) -> Resul
 }
 
 /// Adds a call behind those of a run. It errs only where no memory is left.
+///
+/// # Errors
+/// Where there was no memory.
 pub fn add(history: &mut Since, number: RunNo, call: NamedCall) -> Result<(), NoMemory>
     requires { IsSome (numbered 1 history.old.runs number.0) }
     ensures { OnOk result (Changes (called_more call) number.0 history.old history.new) }
@@ -141,6 +156,9 @@ pub fn give_up(history: &mut Since, number: RunNo)
 
 /// Makes a version of a run that is done, on the heap of this parent, and gives its number, from 1 to 1,048,577. It errs only where
 /// no memory is left.
+///
+/// # Errors
+/// Where there was no memory.
 pub fn publish(history: &mut Since, run: RunNo, parent: VersionNo) -> Result<VersionNo, NoMemory>
     requires { length history.old.versions ≤ RUNS }
     ensures number { IfOk result (λ version. version.0 ≡ 1 + length history.old.versions) }

@@ -274,6 +274,9 @@ fn image(alloc: Global, bytes: &[u8]) -> Result<(ImageParts, &[u8]), FormFault>
 /// Reads the image at the front of the bytes; others may follow it. It takes time by the length of the image.
 ///
 /// `Form` comes exactly where no parts have an image that the bytes begin with.
+///
+/// # Errors
+/// Where no image stands at the front, or there was no memory.
 pub fn read_image(alloc: Global, bytes: &[u8]) -> Result<Image, FormFault>
     ensures found { IfOk result (λ image. HasForm bytes.now image.parts image.length) }
     ensures only { (p : ImageParts) (len : ℕ) → HasForm bytes.now p len → ReadsAs result p len }

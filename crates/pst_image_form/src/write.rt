@@ -105,6 +105,9 @@ fn put_body(out: &mut Vec<u8>, parts: &ImageParts) -> Result<(), NoMemory>
 }
 
 /// The bytes of an image. It takes time by their number.
+///
+/// # Errors
+/// Where there was no memory.
 pub fn write_image(alloc: Global, parts: &ImageParts) -> Result<Text, NoMemory>
     ensures { IfOk result (λ text. text ≡ image_bytes parts.now) }
 {

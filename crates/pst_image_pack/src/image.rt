@@ -49,6 +49,9 @@ fn parts_of<O: Walked + Drop, N: Listed>(
 
 /// The image of a store that an engine left and in which no node waits, with the text of its program, the number of the next run and
 /// the budget that stands. It takes time by its length. `NoMemory` where there is no memory for it: the store is as before.
+///
+/// # Errors
+/// Where there was no memory.
 pub fn pack<O: Walked + Drop, N: Listed>(
     alloc: Global,
     store: &StoreOf<O, N>,

@@ -127,6 +127,9 @@ fn node_part(alloc: Global, node: &Node, positions: &[u32]) -> Result<NodePart, 
 }
 
 /// The nodes, by their numbers. It takes time by the number of nodes, and of what they hold.
+///
+/// # Errors
+/// Where there was no memory.
 pub fn nodes_of(
     alloc: Global,
     nodes: &Nodes,

@@ -22,6 +22,9 @@ fn count_of<O: Walked>(order: &O) -> u32
 }
 
 /// The position of each place in an order list, by the place's number. It takes time by the number of places.
+///
+/// # Errors
+/// Where there was no memory.
 pub fn positions_of<O: Walked>(alloc: Global, order: &O) -> Result<Vec<u32>, NoMemory>
     requires few { length (O.places order.now) < 2 ^ 32 }
     ensures { IfOk result (λ positions. ArePositions (O.places order.now) positions.items) }

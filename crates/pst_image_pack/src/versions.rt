@@ -38,6 +38,9 @@ fn version_part<O: Order + Drop, N: FatNodes>(
 }
 
 /// The versions of a store, by their numbers. It takes time by their number.
+///
+/// # Errors
+/// Where there was no memory.
 pub fn versions_of<O: Order + Drop, N: FatNodes>(
     alloc: Global,
     store: &StoreOf<O, N>,

@@ -50,6 +50,9 @@ fn are_named(places: u32, next_run: u32, nodes: &[NodePart]) -> bool
 }
 
 /// Whether the nodes of each record stand in one chain, and their names are names of records. It takes the time to sort the names.
+///
+/// # Errors
+/// Where there was no memory.
 pub fn are_chained(
     alloc: Global,
     places: u32,

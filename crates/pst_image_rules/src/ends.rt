@@ -68,6 +68,9 @@ fn chains_by(alloc: Global, nodes: &[NodePart], marks: &[bool]) -> Result<Vec<Ch
 
 /// The chains of nodes that stand in chains, each once, in the order of their heads' numbers, for one who makes the records anew.
 /// It takes time by the number of nodes.
+///
+/// # Errors
+/// Where there was no memory.
 pub fn chains_of(alloc: Global, nodes: &[NodePart]) -> Result<Vec<Chain>, NoMemory>
     requires chained { AreInChains nodes.now }
     requires lives { HaveLives nodes.now }

@@ -28,6 +28,9 @@ fn head_at(nodes: &[NodePart], node: usize) -> Head
 }
 
 /// The nodes that no other one leads to, by their names and numbers.
+///
+/// # Errors
+/// Where there was no memory.
 pub fn heads_of(alloc: Global, nodes: &[NodePart], marks: &[bool]) -> Result<Vec<Head>, NoMemory>
     requires { AreMarked nodes.now (length nodes.now) marks.now }
     ensures { IfOk result (λ heads. AreHeads nodes.now marks.now (length nodes.now) heads.items) }
@@ -61,6 +64,9 @@ fn are_neighbours_apart(heads: &[Head]) -> bool
 }
 
 /// Whether no two heads are of one name: sorted, those of one name stand side by side.
+///
+/// # Errors
+/// Where there was no memory.
 pub fn have_own_names(mut heads: Vec<Head>) -> Result<bool, NoMemory>
     ensures { IfOk result (λ own. IsTrue own ↔ HaveOwnNames heads.items) }
 {

@@ -37,6 +37,9 @@ fn first_failed_later(shape: &Shape, parts: &ImageParts) -> Option<Rule>
 /// The first rule that fails of those from `Ranges` on, or None where all hold, for parts that were read and the shape of their text's
 /// program. It takes time by the number of versions, runs, slots and stamped values, times the limit of a type and the logarithm of a
 /// node's stamped values, and the time to sort the names of records.
+///
+/// # Errors
+/// Where there was no memory.
 pub fn first_failed(
     alloc: Global,
     shape: &Shape,

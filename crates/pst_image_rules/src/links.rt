@@ -41,6 +41,9 @@ pub fn later_of(nodes: &[NodePart], node: usize) -> u64
 }
 
 /// Marks each node that another one leads to, or gives None where a node leads to none that can stand behind it, or two lead to one.
+///
+/// # Errors
+/// Where there was no memory.
 pub fn marks(alloc: Global, nodes: &[NodePart]) -> Result<Option<Vec<bool>>, NoMemory>
     ensures { IfOk result (λ marks. IsMarking nodes.now (option_map (λ m. m.items) marks)) }
 {

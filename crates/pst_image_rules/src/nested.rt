@@ -101,6 +101,9 @@ fn are_siblings_apart(
 /// other one has a parent of a lower number, a run of its own below `next_run`, and a stretch strictly inside its parent's; of two
 /// children of one version the one with the greater run stands wholly before the other. It takes time by the number of versions and
 /// of runs.
+///
+/// # Errors
+/// Where there was no memory.
 pub fn are_nested(
     alloc: Global,
     versions: &[VersionPart],
@@ -138,6 +141,9 @@ fn in_order(alloc: Global, versions: &[VersionPart], table: &[u32]) -> Result<Ve
 
 /// The numbers of the versions from 1 on, in the order of their runs, for one who makes them anew. It takes time by the number of
 /// versions and of runs.
+///
+/// # Errors
+/// Where there was no memory.
 pub fn order_of_runs(
     alloc: Global,
     versions: &[VersionPart],

@@ -60,6 +60,9 @@ fn parts_of<O: Walked + Drop, N: Listed>(
 /// The store that an image tells of, for parts that were read and keep all rules for the shape of their text's program: it has the
 /// image's versions, and the heap at each that the nodes denote; its forks are the versions after 0, in the order of their runs. It
 /// takes time by the length of the image. `NoMemory` where there is no memory for it.
+///
+/// # Errors
+/// Where there was no memory.
 pub fn rebuild<O: Walked + Drop, N: Listed>(
     alloc: Global,
     shape: &Shape,

@@ -26,6 +26,9 @@ pub fn content_of(ty: &TypeShape, slot: SlotNo, number: u64) -> Content
 }
 
 /// What the slots of a node of a type hold at first, in a list that is used again for each node.
+///
+/// # Errors
+/// Where there was no memory.
 pub fn put_bases(ty: &TypeShape, numbers: &[u64], bases: &mut Vec<Content>) -> Result<(), NoMemory>
     requires few { length numbers.now < 2 ^ 16 }
     ensures { OnOk result (bases.new.items ≡ contents_from ty.now 0 numbers.now) }
@@ -47,6 +50,9 @@ fn stamp_of(ty: &TypeShape, part: StampPart) -> Stamp
 }
 
 /// What is stamped in a node of a type, in a list that is used again for each node.
+///
+/// # Errors
+/// Where there was no memory.
 pub fn put_stamps(
     ty: &TypeShape,
     parts: &[StampPart],

@@ -49,6 +49,9 @@ fn node_of(
 }
 
 /// The nodes, by their numbers. None of them waits to be split.
+///
+/// # Errors
+/// Where there was no memory.
 pub fn nodes_of(alloc: Global, shape: &Shape, parts: &[NodePart]) -> Result<Nodes, NoMemory>
     requires few { AreFew shape.now parts.now }
     ensures nodes { IfOk result (λ nodes. seen_in nodes ≡ denoted_nodes shape.now parts.now) }

@@ -8,6 +8,9 @@ use pst_order::Walked;
 use std::alloc::Global;
 
 /// So many places, each named by its position: each new one is put behind the last.
+///
+/// # Errors
+/// Where there was no memory.
 pub fn order_of<O: Walked + Drop>(alloc: Global, places: u32) -> Result<O, NoMemory>
     requires some { 1 ≤ places }
     requires few { places ≤ 2 ^ 30 }

@@ -27,6 +27,9 @@ fn relic_of(nodes: &[NodePart], chain: Chain) -> Place
 }
 
 /// The places of all records, one for each.
+///
+/// # Errors
+/// Where there was no memory.
 pub fn relics_of(alloc: Global, nodes: &[NodePart]) -> Result<Vec<Place>, NoMemory>
     requires chained { AreInChains nodes.now }
     requires lives { HaveLives nodes.now }

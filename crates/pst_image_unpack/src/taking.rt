@@ -103,6 +103,9 @@ fn judged_program(alloc: Global, parts: &ImageParts) -> Result<Program, ImageFau
 /// Takes the image at the front of the bytes; others may follow it.
 ///
 /// `Bad` comes exactly where a rule fails, with the first one that does. It takes the time of the rules and that by the image's length.
+///
+/// # Errors
+/// The first rule that fails, or that there was no memory.
 pub fn unpack<O: Walked + Drop, N: Listed>(
     alloc: Global,
     bytes: &[u8],

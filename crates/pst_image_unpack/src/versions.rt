@@ -36,6 +36,9 @@ fn place_of(version: VersionPart, number: u32) -> Place
 }
 
 /// The place of each version, by the versions in the order of their runs.
+///
+/// # Errors
+/// Where there was no memory.
 pub fn places_of(
     alloc: Global,
     versions: &[VersionPart],
@@ -54,6 +57,9 @@ pub fn places_of(
 }
 
 /// The version tree, with the place of each version.
+///
+/// # Errors
+/// Where there was no memory.
 pub fn tree_of(
     alloc: Global,
     versions: &[VersionPart],
@@ -73,6 +79,9 @@ pub fn tree_of(
 }
 
 /// The forks, in the order of the runs: each is published, and was made from the place of its version's parent.
+///
+/// # Errors
+/// Where there was no memory.
 pub fn forks_of(
     alloc: Global,
     versions: &[VersionPart],

@@ -75,6 +75,9 @@ impl Lines {
     /// Each call has to be given the same source. A read is made only where no whole line is left, and
     /// none once the end of the input was seen. After an `Err` the reader has failed and is not asked again;
     /// every whole line that was read has then been handed out.
+    ///
+    /// # Errors
+    /// Where a read failed, more came than may be read, or there was no memory.
     #[inline(always)]
     pub fn next<S: Source>(&mut self, source: &mut S) -> Result<bool, LinesFault>
         requires { IsOpen self.old (S.left source.old) }
@@ -155,6 +158,9 @@ impl Lines {
     /// No line is ready then. As for `next`, each call has to be given the same source, no read is made where
     /// enough is held, and the reader is not asked again after an `Err`: what was handed out before it stands in
     /// the text. No memory is taken by the count, but as bytes come.
+    ///
+    /// # Errors
+    /// Where a read failed, more came than may be read, or there was no memory.
     pub fn hand<S: Source>(
         &mut self,
         source: &mut S,

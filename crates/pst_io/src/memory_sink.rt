@@ -44,6 +44,9 @@ impl MemSink {
     /// the numbers in `failing`, and where `room` bytes were taken and the piece is not empty. Its count
     /// of faults begins at 0, and rises exactly where it fails. Errs only for want of the memory for
     /// `room` bytes.
+    ///
+    /// # Errors
+    /// Where there was no memory.
     pub fn new(
         alloc: Global,
         room: usize,

@@ -47,6 +47,9 @@ pub trait Sink {
 ///
 /// After `Failed`, which comes only where the sink's count of faults rose, a proper prefix of the piece
 /// was taken.
+///
+/// # Errors
+/// Where the sink failed: a proper part of the piece was taken.
 pub fn put<K: Sink>(sink: &mut K, piece: &[u8]) -> Result<(), Failed>
     ensures ok { OnOk result (Appends (K.taken sink.old) (K.taken sink.new) piece.now) }
     ensures err { OnErr result (AppendsProperPart (K.taken sink.old) (K.taken sink.new) piece.now) }

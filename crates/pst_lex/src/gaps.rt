@@ -7,6 +7,9 @@ use crate::bytes::gap_step;
 use crate::faults::LexFault;
 
 /// How many bytes of white space and comments stand at the front, and the line behind them.
+///
+/// # Errors
+/// The fault of a comment that holds a byte which may not stand there.
 #[tactic(auto, using(crate::proofs::Blanks::gaps))]
 pub fn gap_length(text: &[u8], line: u32) -> Result<(usize, u32), LexFault>
     requires { line + length text.now < 2 ^ 32 }

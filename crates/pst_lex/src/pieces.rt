@@ -149,6 +149,9 @@ fn symbol<'a>(text: &'a [u8], line: u32) -> Result<(TokenKind<'a>, usize), LexFa
 }
 
 /// The token at the front, and its length.
+///
+/// # Errors
+/// The fault of the bytes that are no token, with its line.
 pub fn first_token<'a>(text: &'a [u8], line: u32) -> Result<(TokenKind<'a>, usize), LexFault>
     requires some { 0 < length text.now }
     requires no_gap { gap_step false (slice_index text.now 0) ≡ None }

@@ -20,6 +20,9 @@ use pst_base::{NoMemory, NodeId};
 impl Nodes {
     /// Copies a newest node that began before a stamp, the newest one. The copy is the next node, begins at the stamp, has
     /// the contents in force with each pointer redirected, and the entries. A refusal changes nothing.
+    ///
+    /// # Errors
+    /// Where there was no memory.
     pub fn copy(&mut self, x: NodeId, stamp: Stamp) -> Result<(), NoMemory>
         requires line { AreSomeLine stamp.0 self.old }
         requires newest { IsNewest (line_of (λ _. true) self.old) x.0 }

@@ -28,6 +28,9 @@ impl Nodes {
 
     /// Writes null into a field of a newest node, at the newest stamp. A refusal changes nothing, and where the content is
     /// replaced there is none.
+    ///
+    /// # Errors
+    /// Where there was no memory.
     pub fn set_null(&mut self, x: NodeId, field: SlotNo, stamp: Stamp) -> Result<(), NoMemory>
         requires line { AreSomeLine stamp.0 self.old }
         requires newest { IsNewest (line_of (λ _. true) self.old) x.0 }
@@ -45,6 +48,9 @@ impl Nodes {
 
     /// Writes a pointer to a newest node into a field of a newest node, at the newest stamp, and its entry into an inverse
     /// slot. A refusal changes nothing, and where the content is replaced there is none.
+    ///
+    /// # Errors
+    /// Where there was no memory.
     pub fn set_target(
         &mut self,
         x: NodeId,
@@ -99,6 +105,9 @@ impl Nodes {
     }
 
     /// Adds the node of a new record with default fields. A refusal changes nothing.
+    ///
+    /// # Errors
+    /// Where there was no memory.
     pub fn make(
         &mut self,
         shape: &Shape,

@@ -44,6 +44,9 @@ impl Node {
     ghost use Rattle.pst_line_nodes.specs.Rows.{holds, since, base_of, IsRow, IsRowSet};
 
     /// The first node of a new record, with default fields.
+    ///
+    /// # Errors
+    /// Where there was no memory.
     pub fn new(
         alloc: Global,
         shape: &TypeShape,
@@ -158,6 +161,9 @@ impl Node {
 
     /// Writes a field at the newest stamp: replaces the content where the newest segment begins there, and else stamps
     /// one. Where it replaces it takes no memory.
+    ///
+    /// # Errors
+    /// Where there was no memory.
     pub fn set(&mut self, slot: SlotNo, stamp: Stamp, content: Content) -> Result<(), NoMemory>
         requires row { IsRow stamp.0 self.old }
         requires slot { slot.0 < length self.old.base }

@@ -100,6 +100,9 @@ impl Nodes {
 
     /// Writes a field of a node at the newest stamp: replaces the content where the newest segment begins there, and else
     /// stamps one. Where it replaces it takes no memory. A refusal changes nothing.
+    ///
+    /// # Errors
+    /// Where there was no memory.
     pub fn set(
         &mut self,
         x: NodeId,

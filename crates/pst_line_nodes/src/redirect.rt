@@ -16,6 +16,9 @@ impl Nodes {
     /// Makes room for a write of a field at a stamp, the newest one: gives the node, or its copy where the write would stamp one
     /// value too many. Then all pointers to the copied node are redirected, which may copy more nodes. No heap changes, also
     /// where memory is refused: then some pointers may be left to be redirected.
+    ///
+    /// # Errors
+    /// Where there was no memory.
     pub fn make_room(
         &mut self,
         shape: &Shape,

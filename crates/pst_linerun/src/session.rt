@@ -43,6 +43,9 @@ impl LineSession {
     /// afterwards they stand for the history after the command, if the command's numbers are such as a line can give. A refused
     /// command changes nothing. Want of memory is the one fault: the session is failed then, answers the same from then on and
     /// changes nothing, and the store's versions are those of before, with their heaps. The code is the same at each call.
+    ///
+    /// # Errors
+    /// Where there was no memory.
     pub fn apply<S: LineCalls, C: Meant>(
         &mut self,
         alloc: Global,

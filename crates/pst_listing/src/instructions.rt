@@ -62,6 +62,9 @@ fn put_instr(
 }
 
 /// Puts the lines of the instructions of a procedure.
+///
+/// # Errors
+/// Where there was no memory.
 pub fn put_instrs(
     out: &mut Vec<u8>,
     program: &Program,

@@ -11,6 +11,9 @@ use pst_code::{Instr, Procedure, Reg, Regs};
 use pst_program::Program;
 
 /// Puts a word.
+///
+/// # Errors
+/// Where there was no memory.
 pub fn put_word(out: &mut Vec<u8>, text: &[u8]) -> Result<(), NoMemory>
     ensures { OnOk result (out.new.items ≡ out.old.items ++ word text.now) }
 {
@@ -19,6 +22,9 @@ pub fn put_word(out: &mut Vec<u8>, text: &[u8]) -> Result<(), NoMemory>
 }
 
 /// Puts a number as a word.
+///
+/// # Errors
+/// Where there was no memory.
 pub fn put_number_word<N: Integer>(out: &mut Vec<u8>, number: N) -> Result<(), NoMemory>
     ensures { OnOk result (out.new.items ≡ out.old.items ++ word (N.text number)) }
 {
@@ -133,6 +139,9 @@ fn put_call(
 }
 
 /// Puts the operands of an instruction.
+///
+/// # Errors
+/// Where there was no memory.
 pub fn put_operands(
     out: &mut Vec<u8>,
     program: &Program,

@@ -96,6 +96,9 @@ fn listing_of(alloc: Global, procedures: &[Procedure], program: &Program) -> Res
 /// are printed as `r` and the number, record types and procedures by their names, the missing register of a call as `-`,
 /// and all else as decimal numbers. A record type that the program does not name, and a procedure that the code does not
 /// have, is printed as no name.
+///
+/// # Errors
+/// Where there was no memory.
 #[tactic(auto, unfolding(crate::specs::Listing::listed))]
 pub fn listing(alloc: Global, code: &Code, program: &Program) -> Result<Text, NoMemory>
     ensures { IfOk result (λ text. text ≡ listed code.now program.now.names) }

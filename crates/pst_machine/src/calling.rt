@@ -19,6 +19,9 @@ use pst_versions::HeapAt;
 
 /// Carries out the call that is under way and those that wait, until the charges are used and another is due, or to the end.
 /// What a call held is let go where it ends.
+///
+/// # Errors
+/// Where there was no memory.
 pub fn carry_out<H: HeapAt>(
     stage: &mut Stage<H::Place, H::Ref>,
     code: &Code,

@@ -26,6 +26,9 @@ use std::mem;
 /// Runs until the charges are used and another is due, or to the end. The answer is where it came to rest. `NoMemory` where the
 /// heap, a frame or the printed numbers could not grow; other places keep their heaps then too. It stands apart, so that the
 /// registers of its loop do not depend on what calls it.
+///
+/// # Errors
+/// Where there was no memory.
 #[inline(never)]
 pub fn run<H: HeapAt>(
     standing: &mut Standing<H::Place, H::Ref>,

@@ -15,6 +15,9 @@ use std::mem;
 const MOST_CALLERS: usize = 255;
 
 /// Enters a procedure from the frame of a run that is held apart, unless 256 calls are active.
+///
+/// # Errors
+/// Where there was no memory.
 #[inline(always)]
 pub fn call<P: Copy, R: Copy>(
     standing: &mut Standing<P, R>,
@@ -117,6 +120,9 @@ fn filled<R: Copy>(list: Vec<Register<R>>, kinds: &[Kind]) -> Vec<Register<R>>
 }
 
 /// Appends what the registers behind these hold at first.
+///
+/// # Errors
+/// Where there was no memory.
 pub fn fill<R: Copy>(registers: &mut Vec<Register<R>>, kinds: &[Kind]) -> Result<(), NoMemory>
     ensures { OnOk result (registers.new.items ≡ registers.old.items ++ map register_default (drop (length registers.old.items) kinds.now)) }
 {
@@ -169,6 +175,9 @@ fn swap_in<R: Copy>(
 }
 
 /// Ends the frame of a run that is held apart. The one that waits for it goes on.
+///
+/// # Errors
+/// Where there was no memory.
 #[inline(always)]
 pub fn leave<P: Copy, R: Copy>(
     standing: &mut Standing<P, R>,

@@ -225,6 +225,9 @@ pub fn load_element<H: HeapAt>(
 }
 
 /// Writes a field of a record. The answer is why it was refused, if it was.
+///
+/// # Errors
+/// Where there was no memory.
 #[inline(always)]
 pub fn write<H: HeapAt>(
     heap: &mut H,
@@ -249,6 +252,9 @@ pub fn write<H: HeapAt>(
 }
 
 /// Writes a field of the root record. The answer is why it was refused, if it was.
+///
+/// # Errors
+/// Where there was no memory.
 #[inline(always)]
 pub fn set_root<H: HeapAt>(
     heap: &mut H,
@@ -271,6 +277,9 @@ pub fn set_root<H: HeapAt>(
 }
 
 /// Writes a field of the record that a register points to; null traps.
+///
+/// # Errors
+/// Where there was no memory.
 #[inline(always)]
 pub fn store<H: HeapAt>(
     heap: &mut H,
@@ -299,6 +308,9 @@ pub fn store<H: HeapAt>(
 }
 
 /// Writes an element of an array of the record that a register points to; null traps, and then an index of no element.
+///
+/// # Errors
+/// Where there was no memory.
 #[inline(always)]
 pub fn store_element<H: HeapAt>(
     heap: &mut H,
@@ -352,6 +364,9 @@ fn write_pointer<H: HeapAt>(
 
 /// Makes a record whose fields are 0 or null, and sets a register to it. It has the number of the run, and how many the run
 /// had made before.
+///
+/// # Errors
+/// Where there was no memory.
 pub fn make<H: HeapAt>(
     heap: &mut H,
     standing: &mut Standing<H::Place, H::Ref>,

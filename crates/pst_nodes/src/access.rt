@@ -64,6 +64,9 @@ impl Nodes {
 
     /// Makes room for so many more nodes. A refusal changes nothing, the spare room included; there is none where the room
     /// is there already.
+    ///
+    /// # Errors
+    /// Where there was no memory.
     pub fn reserve(&mut self, n: usize) -> Result<(), NoMemory>
         ensures items { self.new.list.items ≡ self.old.list.items }
         ensures room { OnOk result (n ≤ spare_nodes self.new) }
@@ -76,6 +79,9 @@ impl Nodes {
 
     /// Adds a node, which gets the next number and does not wait. It is not refused where there is spare room for one. A
     /// refusal changes nothing.
+    ///
+    /// # Errors
+    /// Where there was no memory.
     pub fn add(&mut self, name: Name, ty: TypeNo, row: Row) -> Result<NodeId, NoMemory>
         ensures id { IfOk result (λ id. id.0 ≡ length self.old.list.items) }
         ensures added { OnOk result (self.new.list.items ≡ self.old.list.items ++ new_node name ty row ∷ []) }
@@ -88,6 +94,9 @@ impl Nodes {
 
     /// Adds a node as it is, with its next node and its link, which gets the next number. It is not refused where there is
     /// spare room for one. A refusal changes nothing.
+    ///
+    /// # Errors
+    /// Where there was no memory.
     pub fn push(&mut self, node: Node) -> Result<NodeId, NoMemory>
         ensures id { IfOk result (λ id. id.0 ≡ length self.old.list.items) }
         ensures added { OnOk result (self.new.list.items ≡ self.old.list.items ++ node ∷ []) }
@@ -176,6 +185,9 @@ impl Nodes {
     }
 
     /// Makes room for so many more stamped values in a row. A refusal changes nothing.
+    ///
+    /// # Errors
+    /// Where there was no memory.
     pub fn reserve_row(&mut self, id: NodeId, n: usize) -> Result<(), NoMemory>
         requires { id.0 < length self.old.list.items }
         ensures same { AreSameNodes self.old.list.items self.new.list.items }
@@ -249,6 +261,9 @@ impl Nodes {
     }
 
     /// Cuts a node in two at a place. The node keeps what is before it, and the rest is a new node. A refusal changes nothing.
+    ///
+    /// # Errors
+    /// Where there was no memory.
     pub fn split_off<O: Order>(
         &mut self,
         order: &O,

@@ -263,6 +263,9 @@ fn put_language(out: &mut Vec<u8>, language: u8) -> Result<(), NoMemory>
 
 /// The canonical text of a program: the line `language 2` if it is of that language, each statement on a line, blocks
 /// indented by two spaces, one space where one is needed. Comments are not kept.
+///
+/// # Errors
+/// Where there was no memory.
 #[tactic(auto, unfolding(crate::specs::Canonical::canonical))]
 pub fn print_program(alloc: Global, tree: &Tree) -> Result<Text, NoMemory>
     ensures { IfOk result (λ text. text ≡ canonical (text_of tree.now)) }

@@ -11,6 +11,9 @@ use pst_base::{NoMemory, Op};
 use pst_grammar::{Expression, Identifier};
 
 /// Puts a number.
+///
+/// # Errors
+/// Where there was no memory.
 pub fn put_number(out: &mut Vec<u8>, number: i64) -> Result<(), NoMemory>
     ensures { OnOk result (out.new.items ≡ out.old.items ++ signed_decimal number) }
 {
@@ -57,6 +60,9 @@ fn put_field_name(out: &mut Vec<u8>, name: &Identifier) -> Result<(), NoMemory>
 }
 
 /// Puts an expression.
+///
+/// # Errors
+/// Where there was no memory.
 #[cycle(expressions)]
 pub fn put_expression(out: &mut Vec<u8>, e: &Expression) -> Result<(), NoMemory>
     ensures { OnOk result (out.new.items ≡ out.old.items ++ expr_text (expr_of e.now)) }

@@ -15,6 +15,9 @@ use pst_grammar::{Block, Expression, Form, Identifier, Statement};
 const STEP: usize = 2;
 
 /// Puts so many spaces.
+///
+/// # Errors
+/// Where there was no memory.
 pub fn put_indent(out: &mut Vec<u8>, indent: usize) -> Result<(), NoMemory>
     ensures { OnOk result (out.new.items ≡ out.old.items ++ replicate indent 32) }
 {
@@ -25,6 +28,9 @@ pub fn put_indent(out: &mut Vec<u8>, indent: usize) -> Result<(), NoMemory>
 }
 
 /// Puts a line that is one text, so many spaces from the left.
+///
+/// # Errors
+/// Where there was no memory.
 pub fn put_line(out: &mut Vec<u8>, indent: usize, text: &[u8]) -> Result<(), NoMemory>
     ensures { OnOk result (out.new.items ≡ out.old.items ++ line indent text.now) }
 {
@@ -167,6 +173,9 @@ fn put_head(out: &mut Vec<u8>, indent: usize, word: &[u8], e: &Expression) -> Re
 }
 
 /// Puts a block, so many spaces from the left.
+///
+/// # Errors
+/// Where there was no memory.
 #[cycle(statements)]
 pub fn put_block(out: &mut Vec<u8>, indent: usize, block: &Block) -> Result<(), NoMemory>
     ensures { OnOk result (out.new.items ≡ out.old.items ++ phrases_text indent (phrases_of block.now)) }

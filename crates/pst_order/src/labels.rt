@@ -72,6 +72,9 @@ impl LabelOrder {
     }
 
     /// Makes room for so many places more. The list stays, also where there is no memory for them.
+    ///
+    /// # Errors
+    /// Where there was no memory.
     pub fn reserve(&mut self, count: usize) -> Result<(), NoMemory>
         ensures places { self.new.places ≡ self.old.places }
         ensures labels { self.new.labels ≡ self.old.labels }

@@ -385,6 +385,9 @@ fn procedure<'a, 't>(
 }
 
 /// A declaration.
+///
+/// # Errors
+/// The tokens from the first one that does not fit on, or that there was no memory.
 pub fn declaration<'a, 't>(
     alloc: Global,
     language: u8,
@@ -433,6 +436,9 @@ pub fn behind_word<'a, 't>(tokens: &'a [Atom<'t>]) -> Option<&'a [Atom<'t>]>
 }
 
 /// The tokens behind the number 2, which has to come.
+///
+/// # Errors
+/// The tokens from the first one that does not fit on, or that there was no memory.
 pub fn behind_two<'a, 't>(tokens: &'a [Atom<'t>]) -> Result<&'a [Atom<'t>], Stop<'a, 't>>
     ensures { GivesRest result (read.two (lexemes_of tokens.now)) }
 {

@@ -70,6 +70,9 @@ fn takes(n: u8, e: &Expression, op: Op) -> bool
 
 /// An operand of rank `n` and of a height up to `budget`, in a language, 1 or 2, by precedence climbing: the operand, its
 /// height, and the tokens after it.
+///
+/// # Errors
+/// The tokens from the first one that does not fit on, or that there was no memory.
 #[cycle(expression)]
 #[tactic(auto, using(crate::proofs::Equations::equations))]
 pub fn operand<'a, 't>(
@@ -198,6 +201,9 @@ fn inverted<'a, 't>(
 }
 
 /// What goes on after an expression of a height, as far as it stays an operand of rank `n`.
+///
+/// # Errors
+/// The tokens from the first one that does not fit on, or that there was no memory.
 #[cycle(expression)]
 #[tactic(auto, using(crate::proofs::Equations::equations))]
 pub fn more<'a, 't>(

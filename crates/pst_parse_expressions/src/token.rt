@@ -12,6 +12,9 @@ use pst_grammar::{Identifier, Label, Sign, TypeName};
 use std::alloc::Global;
 
 /// The tokens after a sign that has to come.
+///
+/// # Errors
+/// The tokens from the first one that does not fit on, or that there was no memory.
 #[inline(always)]
 pub fn expect<'a, 't>(tokens: &'a [Atom<'t>], sign: Sign) -> Result<&'a [Atom<'t>], Stop<'a, 't>>
     ensures given { GivesRest result (expecting sign (lexemes_of tokens.now)) }
@@ -29,6 +32,9 @@ pub fn expect<'a, 't>(tokens: &'a [Atom<'t>], sign: Sign) -> Result<&'a [Atom<'t
 }
 
 /// A name that has to come, and the tokens after it.
+///
+/// # Errors
+/// The tokens from the first one that does not fit on, or that there was no memory.
 #[inline(always)]
 pub fn name<'a, 't>(
     alloc: Global,
@@ -47,6 +53,9 @@ pub fn name<'a, 't>(
 }
 
 /// A number that has to come, and the tokens after it.
+///
+/// # Errors
+/// The tokens from the first one that does not fit on, or that there was no memory.
 pub fn number<'a, 't>(tokens: &'a [Atom<'t>]) -> Result<(i64, &'a [Atom<'t>]), Stop<'a, 't>>
     ensures given { Gives itself result (numbering (lexemes_of tokens.now)) }
     ensures shorter { IfOk result (λ x. length x.1.now < length tokens.now) }
@@ -58,6 +67,9 @@ pub fn number<'a, 't>(tokens: &'a [Atom<'t>]) -> Result<(i64, &'a [Atom<'t>]), S
 }
 
 /// A type that has to come, `int` or a name, and the tokens after it.
+///
+/// # Errors
+/// The tokens from the first one that does not fit on, or that there was no memory.
 pub fn type_name<'a, 't>(
     alloc: Global,
     tokens: &'a [Atom<'t>],

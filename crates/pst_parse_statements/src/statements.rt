@@ -222,6 +222,9 @@ fn put<T: Drop>(items: &mut Vec<T>, item: T) -> Result<(), AllocError>
 }
 
 /// As many statements as stand there, one after another.
+///
+/// # Errors
+/// The tokens from the first one that does not fit on, or that there was no memory.
 #[cycle(statement)]
 #[tactic(auto, using(crate::proofs::StatementEquations::statement_equations))]
 pub fn block<'a, 't>(

@@ -13,6 +13,9 @@ impl ProcCall {
     ghost use Rattle.std.specs.Prelude.{◌≡◌, IfOk};
 
     /// An equal call.
+    ///
+    /// # Errors
+    /// Where there was no memory.
     pub fn copy(&self) -> Result<ProcCall, NoMemory>
         ensures { IfOk result (λ call. call ≡ self.now) }
     {

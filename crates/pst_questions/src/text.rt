@@ -114,6 +114,9 @@ fn put_line<H: HeapAt>(
 /// colon, and what its elements hold in the order of slots, each behind a space: a number, `null`, or `@` and the number of
 /// a record. So the numbers come before the pointers, and an array is listed by index. The time and memory are linear in the
 /// dump.
+///
+/// # Errors
+/// Where there was no memory.
 pub fn dump<H: HeapAt>(
     alloc: Global,
     heap: &H,

@@ -53,6 +53,9 @@ fn split_next<O: Order>(
 /// Splits until the queue is empty, and gives the number of splits, which is at most the potential that the nodes had:
 /// each split lowers it by at least 1 and adds one node. No heap changes. After `NoMemory` a node that is over its
 /// capacity waits again, what was split stays so, and all that the call needs still holds.
+///
+/// # Errors
+/// Where there was no memory.
 #[inline(always)]
 pub fn repair<O: Order>(
     order: &O,

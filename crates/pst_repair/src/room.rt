@@ -75,6 +75,9 @@ fn make_room<O: Order>(
 }
 
 /// Cuts node x in two at a place, after room was made for what is cut elsewhere. A refusal leaves all but room as it was.
+///
+/// # Errors
+/// Where there was no memory.
 pub fn part<O: Order>(
     order: &O,
     nodes: &mut Nodes,

@@ -18,6 +18,9 @@ use pst_order::{Order, Pos};
 
 /// Splits a node that has more stamped values than its capacity, and queues each half and each partner that is over
 /// its capacity then. Gives the right half. A refusal changes nothing but room.
+///
+/// # Errors
+/// Where there was no memory.
 #[inline(never)]
 pub fn split<O: Order>(
     order: &O,

@@ -70,6 +70,9 @@ impl Replayer {
     /// Answers a command of the history kept, which becomes the history after the command. A refused command changes
     /// nothing. Want of memory is the one fault: the replayer is failed then, answers the same from then on, and stays as
     /// it is. The program is the same at each call, and the numbers of the commands before are such as a line can give.
+    ///
+    /// # Errors
+    /// Where there was no memory.
     #[tactic(auto, unfolding(pst_history::specs::History::reply, pst_history::specs::History::after))]
     pub fn apply(&mut self, program: &Program, command: &Command) -> Result<Reply, NoMemory>
         requires typed { IsTyped (routines_of program.now) }

@@ -31,6 +31,9 @@ impl Piece {
     ghost use Rattle.std.specs.Prelude.{◌≡◌, ◌<◌, ◌≤◌, [], length, get_or, take, drop, insert, IfOk, IfSome};
 
     /// A piece with no node. `NoMemory` where there is no memory for it.
+    ///
+    /// # Errors
+    /// Where there was no memory.
     pub fn new(alloc: Global) -> Result<Piece, NoMemory>
         ensures { IfOk result (λ piece. piece ≡ []) }
     {

@@ -73,6 +73,9 @@ impl Pieces {
     ghost use Rattle.pst_roots.specs.Stretches.{IsStretch, IsCut, AreHalvesOf};
 
     /// The list of one node. `NoMemory` where there is no memory for it.
+    ///
+    /// # Errors
+    /// Where there was no memory.
     pub fn new(alloc: Global, first: NodeId) -> Result<Pieces, NoMemory>
         ensures { IfOk result (λ list. list.nodes ≡ first.0 ∷ []) }
     {
@@ -229,6 +232,9 @@ impl Pieces {
     }
 
     /// Makes room for so many nodes more, wherever they come. A refusal changes nothing.
+    ///
+    /// # Errors
+    /// Where there was no memory.
     pub fn reserve(&mut self, n: usize) -> Result<(), NoMemory>
         ensures nodes { self.new.nodes ≡ self.old.nodes }
         ensures room { OnOk result (n ≤ self.new.spare) }

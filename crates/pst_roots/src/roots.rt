@@ -35,6 +35,9 @@ fn begin_of(nodes: &Nodes, id: NodeId) -> Pos
 
 impl RootIndex {
     /// An index that holds the root record's first node alone. `NoMemory` where there is no memory for it.
+    ///
+    /// # Errors
+    /// Where there was no memory.
     pub fn new(alloc: Global, first: NodeId) -> Result<RootIndex, NoMemory>
         ensures { IfOk result (λ roots. held_of roots ≡ first.0 ∷ []) }
     {
@@ -69,6 +72,9 @@ impl RootIndex {
     }
 
     /// Makes room for so many nodes more. A refusal changes nothing.
+    ///
+    /// # Errors
+    /// Where there was no memory.
     pub fn reserve(&mut self, n: usize) -> Result<(), NoMemory>
         ensures held { held_of self.new ≡ held_of self.old }
         ensures room { OnOk result (n ≤ spare_of self.new) }

@@ -61,6 +61,9 @@ impl Model for Cells {
 
 impl Cells {
     /// No slots and no stamps, with room for so many. `NoMemory` where there is no memory for it.
+    ///
+    /// # Errors
+    /// Where there was no memory.
     pub fn with_capacity(alloc: Global, count: usize) -> Result<Cells, NoMemory>
         ensures slots { IfOk result (λ cells. cells.slots ≡ []) }
         ensures stamps { IfOk result (λ cells. cells.stamps ≡ []) }
@@ -211,6 +214,9 @@ impl Cells {
     }
 
     /// Makes room for so many stamps more. `NoMemory` where there is none: then nothing changes.
+    ///
+    /// # Errors
+    /// Where there was no memory.
     pub fn reserve(&mut self, count: usize) -> Result<(), NoMemory>
         ensures slots { self.new.slots ≡ self.old.slots }
         ensures stamps { self.new.stamps ≡ self.old.stamps }
@@ -225,6 +231,9 @@ impl Cells {
 
     /// Puts a slot behind the others, as long as there are no stamps. `NoMemory` where there is no memory for it, or the row has as
     /// many slots as it may.
+    ///
+    /// # Errors
+    /// Where there was no memory.
     #[inline(always)]
     pub fn push_slot(&mut self, content: Content) -> Result<(), NoMemory>
         requires { self.old.stamps ≡ [] }
@@ -264,6 +273,9 @@ impl Cells {
     }
 
     /// Puts a stamp behind the others. `NoMemory` where there is no memory for it.
+    ///
+    /// # Errors
+    /// Where there was no memory.
     pub fn push(&mut self, stamp: Stamp) -> Result<(), NoMemory>
         ensures slots { self.new.slots ≡ self.old.slots }
         ensures stamps { OnOk result (self.new.stamps ≡ self.old.stamps ++ stamp ∷ []) }

@@ -12,6 +12,9 @@ use pst_base::NoMemory;
 use std::alloc::Global;
 
 /// Slots with these contents, and these stamps. It takes a time that grows with the count of both.
+///
+/// # Errors
+/// Where there was no memory.
 pub fn cells_of(alloc: Global, bases: &[Content], stamps: &[Stamp]) -> Result<Cells, NoMemory>
     requires { length stamps.now < 2 ^ 32 }
     ensures slots { IfOk result (λ cells. cells.slots ≡ slots_from stamps.now 0 bases.now) }

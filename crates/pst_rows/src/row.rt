@@ -34,6 +34,9 @@ pub struct Row {
 impl Row {
     /// A row of a type with the life from `lo` to `hi`, without `hi`: each number 0, each pointer null, each inverse slot
     /// free. `NoMemory` where there is no memory for it.
+    ///
+    /// # Errors
+    /// Where there was no memory.
     pub fn new(alloc: Global, shape: &TypeShape, lo: Pos, hi: Pos) -> Result<Row, NoMemory>
         requires { slot_count shape.now ≤ 256 }
         ensures { IfOk result (IsNewRow shape.now lo hi) }
@@ -48,6 +51,9 @@ impl Row {
     /// A row of its parts: the life from `lo` to `hi`, without `hi`, what each slot holds at first, and fewer than `2 ^ 32`
     /// stamped values. Where each slot's own begin is counted; that they stand in the order of slot and then place is for the
     /// caller to know. `NoMemory` where there is no memory for it. It takes a time that grows with the count of both.
+    ///
+    /// # Errors
+    /// Where there was no memory.
     pub fn of_parts(
         alloc: Global,
         lo: Pos,
@@ -118,6 +124,9 @@ impl Row {
 
     /// Makes room for so many stamped values more: at most twice as much as it then holds with them, and one for each slot, as long as
     /// it had no more before. `NoMemory` where there is none: then nothing changes.
+    ///
+    /// # Errors
+    /// Where there was no memory.
     pub fn reserve(&mut self, count: usize) -> Result<(), NoMemory>
         ensures same { IsSameRow self.old self.new }
         ensures ok { OnOk result (count ≤ spare_of self.new) }
@@ -340,6 +349,9 @@ impl Row {
 
     /// Cuts the row in two at a place strictly inside its life: leaves what is before it, and gives the rest, which holds
     /// from the place on what the slots held there. `NoMemory` where there is no memory for the rest: then nothing changes.
+    ///
+    /// # Errors
+    /// Where there was no memory.
     pub fn split_off<O: Order>(&mut self, order: &O, at: Pos) -> Result<Row, NoMemory>
         requires row { IsRowIn (O.places order.now) self.old }
         requires after { rank (O.places order.now) self.old.lo.0 < rank (O.places order.now) at.0 }

@@ -78,6 +78,9 @@ pub fn middle_from<O: Order>(order: &O, stamps: &[Stamp], at: Pos) -> Ordering
 }
 
 /// Puts the stamps after a place behind the others.
+///
+/// # Errors
+/// Where there was no memory.
 pub fn put_after<O: Order>(
     cells: &mut Cells,
     order: &O,

@@ -21,8 +21,8 @@ mod words;
 
 pub use command::{Call, Command, LineFault};
 pub use laws::{most_charges_in_digits, written_one_way};
-pub use numerals::{MOST_CHARGES, is_numeral};
+pub use numerals::{MOST_CHARGES, is_numeral, number};
 pub use read::read_line;
 pub use reply::{Parents, Refusal, Reply};
 pub use text::{put_reply, reply_text};
-pub use words::is_separator;
+pub use words::{is_separator, split_word};

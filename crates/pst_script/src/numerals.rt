@@ -37,7 +37,7 @@ pub(crate) fn is_argument(word: &[u8]) -> bool
 }
 
 /// The number that a numeral writes. None where it has more than 32 bits.
-pub(crate) fn number(word: &[u8]) -> Option<u32>
+pub fn number(word: &[u8]) -> Option<u32>
     requires { is_numeral word.now ≡ true }
     ensures { result ≡ passing fits_32_bits (number_of word.now) }
 {

@@ -36,7 +36,7 @@ fn skip_blanks(line: &[u8]) -> &[u8]
 }
 
 /// The first word of a line, and what stands behind it. None where the line has no word.
-pub(crate) fn split_word(line: &[u8]) -> Option<(&[u8], &[u8])>
+pub fn split_word(line: &[u8]) -> Option<(&[u8], &[u8])>
     ensures words { MatchOption result (words line.now ≡ []) (λ split. words line.now ≡ split.0.now ∷ words split.1.now) }
     ensures some { IfSome result (λ split. 0 < length split.0.now) }
     ensures shorter { IfSome result (λ split. length split.1.now < length line.now) }

@@ -49,6 +49,9 @@ impl ForkList {
     }
 
     /// The forks of a list. `NoMemory` where there is none for them.
+    ///
+    /// # Errors
+    /// Where there was no memory.
     pub fn of_list(alloc: Global, forks: &[Fork]) -> Result<ForkList, NoMemory>
         requires { length forks.now < 2 ^ 32 }
         ensures { IfOk result (λ list. list.forks ≡ forks.now) }
@@ -70,6 +73,9 @@ impl ForkList {
     }
 
     /// Makes room for one fork more. After `NoMemory` there may be room for a part of it.
+    ///
+    /// # Errors
+    /// Where there was no memory.
     #[inline(always)]
     pub fn reserve_one(&mut self) -> Result<(), NoMemory>
         ensures forks { self.new.forks ≡ self.old.forks }

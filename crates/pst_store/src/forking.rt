@@ -36,6 +36,9 @@ impl Near {
 }
 
 /// Room for one fork more. After `NoMemory` there may be room for a part of it.
+///
+/// # Errors
+/// Where there was no memory.
 #[inline(always)]
 pub fn reserve_one(forks: &mut ForkList, roots: &mut Vec<Near>) -> Result<(), NoMemory>
     ensures forks { forks.new.forks ≡ forks.old.forks }
@@ -57,6 +60,9 @@ pub fn note_root(roots: &mut Vec<Near>, at: Place, root: NodeId) {
 }
 
 /// For each of so many forks the first node of the root record: where a root is looked for as long as nothing nearer is known.
+///
+/// # Errors
+/// Where there was no memory.
 pub fn first_roots(alloc: Global, count: usize) -> Result<Vec<Near>, NoMemory>
     ensures { IfOk result (λ roots. vec_len roots ≡ count) }
 {
@@ -67,6 +73,9 @@ pub fn first_roots(alloc: Global, count: usize) -> Result<Vec<Near>, NoMemory>
 
 /// A place between two new entries of the order, both directly behind another one: its end comes in first. After a refusal one
 /// of them may have come in.
+///
+/// # Errors
+/// Where there was no memory.
 #[inline(always)]
 pub fn insert_place<O: Order>(order: &mut O, behind: Pos, number: u32) -> Result<Place, NoMemory>
     requires in_list { IsIn (O.places order.old) behind.0 }

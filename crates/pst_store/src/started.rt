@@ -91,6 +91,9 @@ impl<O: Order + Drop, N: FatNodes> Started<O, N> {
     ghost use Rattle.pst_store.specs.Calls.{IsKept, IsStarted, kind_at, IsNumberStored, IsPointerStored, HoldsAfter, HoldsRoots, RestsAfter, Stays, Same, IsLinked, IsRefused, IsSplitUp, IsStamped, StampsAtMost, HasNoRoom};
 
     /// A store with version 0, which has the root record alone.
+    ///
+    /// # Errors
+    /// Where there was no memory.
     pub fn start(alloc: Global, shape: &Shape) -> Result<Started<O, N>, NoMemory>
         requires { IsValid shape.now }
         ensures { IfOk result (IsStarted shape.now) }
@@ -123,6 +126,9 @@ impl<O: Order + Drop, N: FatNodes> Started<O, N> {
     }
 
     /// A store of parts that keep what a store keeps. `NoMemory` where there is none for a node beside each fork.
+    ///
+    /// # Errors
+    /// Where there was no memory.
     pub fn of_parts(alloc: Global, parts: Parts<O, N>) -> Result<Started<O, N>, NoMemory>
         requires { IsKept parts }
         ensures { IfOk result (λ store. store ≡ parts) }
@@ -294,6 +300,9 @@ impl<O: Order + Drop, N: FatNodes> Started<O, N> {
     }
 
     /// Splits the nodes that wait, until none does. After `NoMemory` those that were not split still wait.
+    ///
+    /// # Errors
+    /// Where there was no memory.
     #[inline(always)]
     pub fn repair(&mut self) -> Result<(), NoMemory>
         ensures rested { OnOk result (self.new.noted.queue ≡ []) }
@@ -306,6 +315,9 @@ impl<O: Order + Drop, N: FatNodes> Started<O, N> {
     }
 
     /// Makes a record with all fields 0 or null, at a place that can be written.
+    ///
+    /// # Errors
+    /// Where there was no memory.
     pub fn make(&mut self, at: Place, ty: TypeNo, name: Name) -> Result<NodeId, NoMemory>
         requires writable { (state_of self.old).writable at }
         requires known_type { IsNewType (state_of self.old) ty }
@@ -339,6 +351,9 @@ impl<O: Order + Drop, N: FatNodes> Started<O, N> {
 
     /// Writes a number, at a place that can be written, and splits nothing: the nodes that were over their capacity wait still, and
     /// those that now are wait too. `write_number` calls it between two repairs, and tests do so to see what one split changes.
+    ///
+    /// # Errors
+    /// Where there was no memory.
     #[inline(always)]
     pub fn stamp_number(
         &mut self,
@@ -363,6 +378,9 @@ impl<O: Order + Drop, N: FatNodes> Started<O, N> {
     }
 
     /// Writes a number, at a place that can be written.
+    ///
+    /// # Errors
+    /// Where there was no memory.
     pub fn write_number(
         &mut self,
         at: Place,
@@ -386,6 +404,9 @@ impl<O: Order + Drop, N: FatNodes> Started<O, N> {
     }
 
     /// Writes null, at a place that can be written.
+    ///
+    /// # Errors
+    /// Where there was no memory.
     pub fn write_null(&mut self, at: Place, r: NodeId, field: SlotNo) -> Result<(), NoMemory>
         requires writable { (state_of self.old).writable at }
         requires live { (state_of self.old).live at r }
@@ -422,6 +443,9 @@ impl<O: Order + Drop, N: FatNodes> Started<O, N> {
 
     /// Writes a pointer to a record, at a place that can be written, or answers false exactly where the record has no
     /// room for a pointer more.
+    ///
+    /// # Errors
+    /// Where there was no memory.
     pub fn link(&mut self, at: Place, r: NodeId, field: SlotNo, q: NodeId) -> Result<bool, NoMemory>
         requires { MayStorePointer (state_of self.old) at r field.0 (Some q) }
         ensures rested { IfOk result (λ _. self.new.noted.queue ≡ []) }
@@ -483,6 +507,9 @@ impl<O: Order + Drop, N: FatNodes> Started<O, N> {
 
     /// Writes a pointer, or null for None, at a place that can be written. It is refused exactly where the target has no room
     /// for a pointer more.
+    ///
+    /// # Errors
+    /// Where the target has no room for a pointer more, or there was no memory.
     pub fn point(
         &mut self,
         at: Place,
@@ -511,6 +538,9 @@ impl<O: Order + Drop, N: FatNodes> Started<O, N> {
 
     /// A new place that can be written, with the heap of a published place. Its end comes in first, so that its begin then
     /// comes to stand before it: both directly behind the begin of the place that is forked. No node changes.
+    ///
+    /// # Errors
+    /// Where there was no memory.
     pub fn make_fork(&mut self, from: Place) -> Result<Place, NoMemory>
         requires published { IsPublished (state_of self.old) from }
         requires calls { (state_of self.old).fork_calls < MOST_FORKS }
@@ -535,6 +565,9 @@ impl<O: Order + Drop, N: FatNodes> Started<O, N> {
     }
 
     /// Makes an unpublished place the next version. No node changes.
+    ///
+    /// # Errors
+    /// Where there was no memory.
     pub fn make_version(
         &mut self,
         parent: VersionNo,

@@ -53,6 +53,9 @@ impl<O: Order + Drop, N: FatNodes> StoreOf<O, N> {
     }
 
     /// Starts an empty store: it then has version 0, in which the root record is alone. After `NoMemory` it is still empty.
+    ///
+    /// # Errors
+    /// Where there was no memory.
     pub fn start(&mut self, alloc: Global, shape: &Shape) -> Result<(), NoMemory>
         requires empty { self.old ≡ None }
         requires shape { IsValid shape.now }

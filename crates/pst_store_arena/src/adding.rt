@@ -12,6 +12,9 @@ use pst_store_meaning::place::Place;
 use std::alloc::Global;
 
 /// Adds a node of a type that lives over a place, with all fields 0 or null. It does not wait. A refusal changes nothing.
+///
+/// # Errors
+/// Where there was no memory.
 pub fn new_node(
     alloc: Global,
     shape: &Shape,

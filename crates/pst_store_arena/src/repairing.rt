@@ -20,6 +20,9 @@ use pst_roots::RootIndex;
 
 /// Splits what waits, and then lets the root index hold the root record's nodes that are new. After `NoMemory` some splits
 /// are made, the rest waits, and what is not held yet is held by the next call.
+///
+/// # Errors
+/// Where there was no memory.
 #[inline(always)]
 pub fn repair_and_hold<O: Order>(
     order: &O,
@@ -55,6 +58,9 @@ fn first_of(queue: &Queue) -> NodeId {
 /// Lets the root index hold the root record's nodes among those that were not looked at yet. They may have been cut off from the
 /// node `near`: behind it their place is looked for first. After a refusal the nodes before the one that could not be held are
 /// looked at.
+///
+/// # Errors
+/// Where there was no memory.
 #[inline(always)]
 pub fn hold_new<O: Order>(
     order: &O,

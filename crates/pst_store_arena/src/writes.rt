@@ -28,6 +28,9 @@ use pst_store_meaning::place::Place;
 
 /// Writes a number over a place, in a node that lives there. All memory is taken first; the node waits where it is above its
 /// capacity then. A refusal changes nothing but room.
+///
+/// # Errors
+/// Where there was no memory.
 pub fn set_number<O: Order>(
     order: &O,
     shape: &Shape,
@@ -60,6 +63,9 @@ pub fn set_number<O: Order>(
 /// Writes null into a field over a place, in a node that lives there: nothing where it is null, else its pointer and the
 /// entry of it are taken away. All memory is taken first; what is above its capacity then waits. A refusal changes nothing but
 /// room.
+///
+/// # Errors
+/// Where there was no memory.
 pub fn set_null<O: Order>(
     order: &O,
     shape: &Shape,
@@ -95,6 +101,9 @@ pub fn set_null<O: Order>(
 /// Writes a pointer into a field over a place, in a node that lives there: the one that it holds is taken away, and the new one
 /// is put in by an inverse slot of the target, which lives there too. All memory is taken first; what is above its capacity
 /// then waits. A refusal changes nothing but room.
+///
+/// # Errors
+/// Where there was no memory.
 pub fn set_target<O: Order>(
     order: &O,
     shape: &Shape,

@@ -107,6 +107,9 @@ fn operand<'t>(line: u32, sort: Sort<'t>, judged: Judged<'t>) -> Result<Typed, T
 }
 
 /// An operand that has to be a pointer.
+///
+/// # Errors
+/// The first fault of typing, or that there was no memory.
 pub fn as_object<'t>(line: u32, judged: Judged<'t>) -> Result<Object<'t>, TypeFault>
     ensures { Answers object_of result (object line (judged_of judged.entry)) }
 {
@@ -140,6 +143,9 @@ fn judge_name<'t>(
 }
 
 /// A field of the records of a type that is no array, by its name.
+///
+/// # Errors
+/// The first fault of typing, or that there was no memory.
 pub fn plain_field<'t>(
     setting: &Setting<'_, 't>,
     line: u32,
@@ -166,6 +172,9 @@ pub struct Array<'t> {
 }
 
 /// A field of the records of a type that is an array, by its name.
+///
+/// # Errors
+/// The first fault of typing, or that there was no memory.
 pub fn array_field<'t>(
     setting: &Setting<'_, 't>,
     line: u32,
@@ -404,6 +413,9 @@ fn judge_operator<'t>(
 }
 
 /// Judges an expression of a statement that begins on the line.
+///
+/// # Errors
+/// The first fault of typing, or that there was no memory.
 #[cycle(judging)]
 pub fn judge<'t>(
     alloc: Global,
@@ -440,6 +452,9 @@ pub fn judge<'t>(
 }
 
 /// An expression that has to fit a type.
+///
+/// # Errors
+/// The first fault of typing, or that there was no memory.
 pub fn fit<'t>(
     alloc: Global,
     setting: &Setting<'_, 't>,
@@ -460,6 +475,9 @@ pub fn fit<'t>(
 }
 
 /// An expression that has to be a number, or a truth.
+///
+/// # Errors
+/// The first fault of typing, or that there was no memory.
 pub fn of_sort<'t>(
     alloc: Global,
     setting: &Setting<'_, 't>,

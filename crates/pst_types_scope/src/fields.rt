@@ -19,6 +19,9 @@ use pst_typing::TypeFault;
 use std::alloc::{AllocError, Global};
 
 /// The fields of a record type; of doubled names the first counts.
+///
+/// # Errors
+/// The first fault of typing, or that there was no memory.
 pub fn lay_out<'t>(alloc: Global, fields: &'t [Field]) -> Result<Members<'t>, TypeFault>
     ensures { Answers members_of result (Ok (members_from no_members (map tree_view.field_of fields.entry.now))) }
 {
@@ -67,6 +70,9 @@ fn add_field<'t>(
 }
 
 /// Judges the fields of a record type.
+///
+/// # Errors
+/// The first fault of typing, or that there was no memory.
 pub fn judge_fields<'t>(
     alloc: Global,
     scope: &Scope<'t>,
@@ -109,6 +115,9 @@ fn targets_of(alloc: Global, scope: &Scope, members: &Members) -> Result<Targets
 }
 
 /// A record type as a shape has it.
+///
+/// # Errors
+/// The first fault of typing, or that there was no memory.
 pub fn shape_of(
     alloc: Global,
     scope: &Scope,
@@ -142,6 +151,9 @@ fn named_field(
 }
 
 /// The names of a record type and of its fields.
+///
+/// # Errors
+/// The first fault of typing, or that there was no memory.
 pub fn names_of(alloc: Global, name: &[u8], members: &Members) -> Result<TypeEntry, TypeFault>
     ensures { Answers (λ names. names) result (Ok (names_of name.now (members_of members.now))) }
 {

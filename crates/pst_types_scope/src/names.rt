@@ -174,6 +174,9 @@ impl<'t> Members<'t> {
     }
 
     /// Adds a field whose name is new.
+    ///
+    /// # Errors
+    /// Where there was no memory.
     pub fn add(
         &mut self,
         name: &'t [u8],
@@ -214,6 +217,9 @@ impl<'t> Members<'t> {
     }
 
     /// Adds a field whose name is new, as it is written.
+    ///
+    /// # Errors
+    /// Where there was no memory.
     pub fn add_field(&mut self, field: &'t Field) -> Result<(), AllocError>
         requires { is_named (field_name (field_of field.now)) (members_of self.old).list ≡ Bool.false }
         ensures { OnOk result (members_of self.new ≡ with_field (members_of self.old) (field_of field.entry.now)) }
@@ -223,6 +229,9 @@ impl<'t> Members<'t> {
     }
 
     /// Adds a field if its name is new.
+    ///
+    /// # Errors
+    /// Where there was no memory.
     pub fn add_new(&mut self, field: &'t Field) -> Result<(), AllocError>
         ensures { OnOk result (members_of self.new ≡ with_new_member (members_of self.old) (field_of field.entry.now)) }
     {

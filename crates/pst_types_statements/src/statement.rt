@@ -293,6 +293,9 @@ fn judge_form(
 
 /// Judges the statements of a block in order, each with the blocks inside it: the first fault with its line, or the typed
 /// block. Recursion is as deep as blocks stand in one another.
+///
+/// # Errors
+/// The first fault of typing, or that there was no memory.
 #[cycle(block)]
 pub fn judge_block(
     alloc: Global,
@@ -322,6 +325,9 @@ fn approve_form(alloc: Global, setting: &Setting, line: u32, form: &Form) -> Res
 
 /// Judges the statements of a block in order for the verdict alone: the first fault with its line, or none. No more than one typed
 /// statement is kept at a time.
+///
+/// # Errors
+/// The first fault of typing, or that there was no memory.
 pub fn approve_block(alloc: Global, setting: &Setting, statements: &Block) -> Result<(), TypeFault>
     ensures { Approves result (block (setting_of setting.now) (phrases_of statements.now)) }
 {
