@@ -91,7 +91,10 @@ fn put_piece<X: Session>(
 }
 
 /// Answers a line: its command is carried out, and then the reply is written. Its text is made in a list that is used again.
-pub(crate) fn answer_line<X: Session, K: Sink>(
+///
+/// # Errors
+/// Where a write failed, and the command is carried out; or there was no memory, and it is carried out or not.
+pub fn answer_line<X: Session, K: Sink>(
     alloc: Global,
     session: &mut X,
     held: &mut X::Held,

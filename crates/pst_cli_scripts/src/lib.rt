@@ -23,7 +23,7 @@ mod stop;
 mod text;
 mod whole;
 
-pub use answer::{reply_to, say};
+pub use answer::{answer_line, reply_to, say};
 pub use program::read_text;
 pub use script::answer_script;
 pub use session::Session;
