@@ -21,6 +21,7 @@ use pst_cli_bench::bench;
 use pst_cli_images::{pack_input, repack_input, resume_input};
 use pst_cli_questions::ask;
 use pst_cli_scripts::read_text;
+use pst_cli_serve::serve_input;
 use pst_cli_serving::{Lining, Replaying, Running, print, serve, status_of};
 use pst_cli_words::{Job, Question, Status, Task, path_in, task_of};
 use pst_front::Page;
@@ -114,6 +115,7 @@ pub fn persist<S: Source, K: Sink, O: Walked + Drop, N: Listed, L: LineCalls>(
         Some(Task::Bench(number)) => { bench(alloc, ring().as_bytes(), number, sink, store) }
         Some(Task::Pack) => pack_input(alloc, source, sink, store),
         Some(Task::Resume) => resume_input(alloc, source, sink, store),
+        Some(Task::Serve) => serve_input(alloc, source, sink, store),
         Some(Task::Repack) => repack_input(alloc, source, sink, store),
     }
 }

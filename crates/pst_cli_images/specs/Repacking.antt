@@ -1,5 +1,6 @@
 -- The image of the store that a script behind an image leaves: what was read and written, and what is held in the end.
 use Rattle.std.specs.Prelude.{◌≡◌, ℕ, ◌^◌, ◌⊎◌, List, [], ◌++◌, drop, Option, Result, Ok, Err}
+use Rattle.pst_io.specs.declared.room.TheConstants.{MOST_SERVED}
 use Rattle.pst_io.specs.Text.{lines_of}
 use Rattle.pst_program.specs.Sound.{CountsWithin}
 use Rattle.pst_typing.specs.Declarations.{NamedProgram}
@@ -72,9 +73,10 @@ RepackComes store Usage k input out = ⊥
 
 -- ---- the table
 
--- The row of a status, for what is held and the store that is left, an input, what the source has left of it, and what was written.
+-- The row of a status, for what is held and the store that is left, an input of at most 2^62 bytes, what the source has left of it, and what
+-- was written.
 abbrev pub RepackRow : Status → Resumed → Option Stored → List ℕ → Option (List ℕ) → List ℕ → Type 0
-RepackRow status k store input left out = WholeRow (RepackComes store) status k input left out
+RepackRow status k store input left out = WholeRow MOST_SERVED (RepackComes store) status k input left out
 
 -- ---- what the functions below come to
 

@@ -17,7 +17,7 @@ use Rattle.pst_cli_scripts.specs.Script.{by_tree, script_of}
 use Rattle.pst_cli_scripts.specs.Sessions.{AnswersText}
 use Rattle.pst_front.specs.Pages.{routines_in}
 use Rattle.pst_cli_serving.specs.Storing.{IsLeft, IsBroken}
-use Rattle.pst_cli_serving.specs.Rows.{HasRead}
+use Rattle.pst_cli_serving.specs.Rows.{HasReadOf}
 use Rattle.pst_image_form.specs.declared.parts.ImageParts.{ImageParts}
 use Rattle.pst_image_rules.specs.declared.rule.Rule.{Rule}
 use Rattle.pst_image_rules.specs.Rules.{number_of}
@@ -39,13 +39,13 @@ resumed_in old new = record { leaves = λ m h. IsLeft m new h; breaks = λ m h. 
 
 -- ---- what was read
 
--- all of the input, which is not too long
-abbrev pub ReadsWhole : List ℕ → Option (List ℕ) → Type 0
-ReadsWhole input left = HasRead (length input) input left
+-- all of the input, which is within the limit
+abbrev pub ReadsWhole : (limit : ℕ) → List ℕ → Option (List ℕ) → Type 0
+ReadsWhole limit input left = HasReadOf limit (length input) input left
 
 -- some of it
-abbrev pub ReadsSome : List ℕ → Option (List ℕ) → Type 0
-ReadsSome input left = (n : ℕ) × HasRead n input left
+abbrev pub ReadsSome : (limit : ℕ) → List ℕ → Option (List ℕ) → Type 0
+ReadsSome limit input left = (n : ℕ) × HasReadOf limit n input left
 
 -- ---- what was written
 
@@ -93,17 +93,17 @@ Resumes Usage k input out = ⊥
 
 -- ---- the table
 
--- The row of a status where an input is read to its end before anything else is done: what comes of it then, by the status; or reading
--- stopped, and nothing was done.
-abbrev pub WholeRow : (Comes : Status → Resumed → (input out : List ℕ) → Type 0) → Status → Resumed → List ℕ → Option (List ℕ) → List ℕ → Type 0
-WholeRow Comes Done k input left out = ReadsWhole input left × Comes Done k input out
-WholeRow Comes Refused k input left out = ReadsWhole input left × Comes Refused k input out
-WholeRow Comes WriteFault k input left out = ReadsWhole input left × Comes WriteFault k input out
-WholeRow Comes ReadFault k input left out = IsUntouched k out × ReadsSome input left
-WholeRow Comes TooLong k input left out = IsUntouched k out × (MOST_INPUT < length input) × (left ≡ Some (drop (MOST_INPUT + 1) input))
-WholeRow Comes Memory k input left out = (IsUntouched k out × ReadsSome input left) ⊎ (ReadsWhole input left × Comes Memory k input out)
-WholeRow Comes Usage k input left out = ⊥
+-- The row of a status where an input of at most `limit` bytes is read to its end before anything else is done: what comes of it then, by
+-- the status; or reading stopped, and nothing was done.
+abbrev pub WholeRow : (limit : ℕ) → (Comes : Status → Resumed → (input out : List ℕ) → Type 0) → Status → Resumed → List ℕ → Option (List ℕ) → List ℕ → Type 0
+WholeRow limit Comes Done k input left out = ReadsWhole limit input left × Comes Done k input out
+WholeRow limit Comes Refused k input left out = ReadsWhole limit input left × Comes Refused k input out
+WholeRow limit Comes WriteFault k input left out = ReadsWhole limit input left × Comes WriteFault k input out
+WholeRow limit Comes ReadFault k input left out = IsUntouched k out × ReadsSome limit input left
+WholeRow limit Comes TooLong k input left out = IsUntouched k out × (limit < length input) × (left ≡ Some (drop (limit + 1) input))
+WholeRow limit Comes Memory k input left out = (IsUntouched k out × ReadsSome limit input left) ⊎ (ReadsWhole limit input left × Comes Memory k input out)
+WholeRow limit Comes Usage k input left out = ⊥
 
 -- The row of a status, for what is held, an input, what the source has left of it, and what was written.
 abbrev pub ResumeRow : Status → Resumed → List ℕ → Option (List ℕ) → List ℕ → Type 0
-ResumeRow status k input left out = WholeRow Resumes status k input left out
+ResumeRow status k input left out = WholeRow MOST_INPUT Resumes status k input left out

@@ -37,4 +37,4 @@ pub use pack::scripts;
 pub use packing::pack_input;
 pub use repack::{day_after_day, resumed};
 pub use repacking::repack_input;
-pub use resuming::resume_input;
+pub use resuming::{refuse_image, resume_input};

@@ -17,12 +17,12 @@ ghost use Rattle.pst_cli_images.specs.Left.{Lacks, Leaves, LeavesImage};
 use crate::packing::image_of_session;
 use crate::resuming::refuse_image;
 use pst_base::{Counts, NoMemory, Text};
-use pst_cli_scripts::{Session, read_all, reply_to, say, split_line};
+use pst_cli_scripts::{Session, Stop, reply_to, say, split_line};
 use pst_cli_serving::{Running, status_of};
 use pst_cli_words::Status;
 use pst_image_rules::Rule;
 use pst_image_unpack::{ImageFault, Unpacked, unpack};
-use pst_io::{Lines, Sink, Source};
+use pst_io::{Lines, MOST_SERVED, Sink, Source};
 use pst_order::Walked;
 use pst_store::StoreOf;
 use pst_store_arena::Listed;
@@ -185,7 +185,7 @@ fn repack_bytes<K: Sink, O: Walked + Drop, N: Listed>(
 /// no image can say. The store is handed in empty, and is as it was until the image is accepted.
 ///
 /// `Done` where the next image was written; `Refused` where a rule fails, and its line was written; `TooLong` where the input has more than
-/// 67,108,864 bytes; else a read or write failed or there was no memory.
+/// 2^62 bytes; else a read or write failed or there was no memory, and nothing or a part of the piece was written.
 pub fn repack_input<S: Source, K: Sink, O: Walked + Drop, N: Listed>(
     alloc: Global,
     source: &mut S,
@@ -199,11 +199,11 @@ pub fn repack_input<S: Source, K: Sink, O: Walked + Drop, N: Listed>(
     ensures not_usage { result ≡ Status.Usage → ⊥ }
     ensures later { (S.faults source.old ≤ S.faults source.new) × (K.faults sink.old ≤ K.faults sink.new) }
 {
-    let mut lines = Lines::new(alloc);
-    let bytes = match read_all(alloc, &mut lines, source) {
-        Err(stop) => return status_of(stop),
-        Ok(bytes) => bytes,
-    };
+    let mut lines = Lines::up_to(alloc, MOST_SERVED);
+    let mut bytes = Vec::new(alloc);
+    if let Err(fault) = lines.hand(source, usize::MAX, &mut bytes) {
+        return status_of(Stop::from(fault));
+    }
     drop(lines);
     repack_bytes(alloc, bytes.as_slice(), sink, store)
 }

@@ -24,6 +24,7 @@ mod answer;
 mod asking;
 mod named;
 
+pub use answer::tell;
 pub use asking::{ask, carry_script};
 pub use named::{
     accepted_types_are_named_apart, declared_are_names, dumps_of_accepted_tell_heaps,

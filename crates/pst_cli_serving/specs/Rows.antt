@@ -1,13 +1,13 @@
 -- The table of statuses: what was read of the input, what was written, and what is held in the end.
 use Rattle.std.specs.Prelude.{◌≡◌, ℕ, ◌+◌, ◌<◌, ◌≤◌, ◌⊎◌, min, List, [], ◌++◌, length, take, drop, Option, Some, None, IfSome, IsSome, String}
 use Rattle.std.specs.declared.alloc.Global.{Global}
-use Rattle.pst_io.specs.declared.room.TheConstants.{MOST_INPUT, MOST_READ}
+use Rattle.pst_io.specs.declared.room.TheConstants.{MOST_INPUT, MOST_SERVED, MOST_READ}
 use Rattle.pst_io.specs.Causes.{Rose}
 use Rattle.pst_io.specs.Text.{whole_lines}
 use Rattle.pst_cli_words.specs.declared.job.Job.{Job}
 use Rattle.pst_cli_words.specs.declared.job.Job.TheVariants.{Run, Replay, Line, Check, Code}
 use Rattle.pst_cli_words.specs.declared.job.Task.{Task}
-use Rattle.pst_cli_words.specs.declared.job.Task.TheVariants.{Input, Bench, Ask, Pack, Resume, Repack}
+use Rattle.pst_cli_words.specs.declared.job.Task.TheVariants.{Input, Bench, Ask, Pack, Resume, Serve, Repack}
 use Rattle.pst_cli_words.specs.Jobs.{OnJob}
 use Rattle.pst_front.specs.declared.page.Page.{Page}
 use Rattle.pst_front.specs.declared.page.Page.TheVariants.{Canonical, Listing}
@@ -35,11 +35,15 @@ IsWithin Line input = length input ≤ MOST_INPUT
 IsWithin Check input = IsReadable input
 IsWithin Code input = IsReadable input
 
--- The first bytes of the input were read, so many and no more, and this is left.
-pub record HasRead (count : ℕ) (input : List ℕ) (left : Option (List ℕ)) : Type 0 where
-  pub most : count ≤ MOST_INPUT
+-- The first bytes of the input were read, so many and no more, which are within this limit, and this is left.
+pub record HasReadOf (limit count : ℕ) (input : List ℕ) (left : Option (List ℕ)) : Type 0 where
+  pub most : count ≤ limit
   pub within : count ≤ length input
   pub rest : left ≡ Some (drop count input)
+
+-- so they were, within the limit of 67,108,864 bytes
+abbrev pub HasRead : (count : ℕ) (input : List ℕ) (left : Option (List ℕ)) → Type 0
+HasRead count input left = HasReadOf MOST_INPUT count input left
 
 -- These first lines of the script were read, up to the end of the last one or of the input, and less than one read of
 -- `MOST_READ` bytes beyond. Where they are none, that is the end of the separator line.
@@ -149,8 +153,8 @@ IsComplete WriteFault = ⊥
 IsComplete Usage = ⊥
 IsComplete TooLong = ⊥
 
--- What the words ask for needs no more of the input than may be read: the bench needs nothing, a question and an image need what
--- `run` does, and so does a script behind an image. They ask for something.
+-- What the words ask for needs no more of the input than may be read: the bench needs nothing, a question and an image need what `run`
+-- does, and so does a script behind an image for `resume`; `serve` and `repack` have the limit of 2^62 bytes. They ask for something.
 abbrev pub IsServable : Option Task → List ℕ → Type 0
 IsServable None input = ⊥
 IsServable (Some (Input job)) input = IsWithin job input
@@ -158,7 +162,8 @@ IsServable (Some (Bench number)) input = Unit {0}
 IsServable (Some (Ask question)) input = IsWithin Run input
 IsServable (Some Pack) input = IsWithin Run input
 IsServable (Some Resume) input = length input ≤ MOST_INPUT
-IsServable (Some Repack) input = length input ≤ MOST_INPUT
+IsServable (Some Serve) input = length input ≤ MOST_SERVED
+IsServable (Some Repack) input = length input ≤ MOST_SERVED
 
 -- where the source tells its bytes, a call that needs no more of them than may be read is complete, unless the source or the sink failed
 abbrev pub Completes : {S K : Type 0} → (left : S → Option (List ℕ)) → (of_source : S → ℕ) → (source source' : S) → (of_sink : K → ℕ) → (sink sink' : K) → Option Task → Status → Type 0

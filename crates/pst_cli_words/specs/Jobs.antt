@@ -11,7 +11,7 @@ use Rattle.pst_cli_words.specs.declared.job.Job.TheVariants.{Run, Replay, Line, 
 use Rattle.pst_cli_words.specs.declared.job.Question.{Question}
 use Rattle.pst_cli_words.specs.declared.job.Question.TheVariants.{Dump, Changed}
 use Rattle.pst_cli_words.specs.declared.job.Task.{Task}
-use Rattle.pst_cli_words.specs.declared.job.Task.TheVariants.{Input, Bench, Ask, Pack, Resume, Repack}
+use Rattle.pst_cli_words.specs.declared.job.Task.TheVariants.{Input, Bench, Ask, Pack, Resume, Serve, Repack}
 use Rattle.pst_cli_words.specs.declared.status.Status.{Status}
 use Rattle.pst_cli_words.specs.declared.status.Status.TheVariants as status
 
@@ -35,14 +35,15 @@ long_number word = passing fits_64_bits (written_number word)
 abbrev pub version_number : List ℕ → Option VersionNo
 version_number word = option_map (λ n. record { 0 = n }) (passing fits_32_bits (written_number word))
 
--- one word, which names a job or is `pack`, `resume` or `repack`; or `bench` and its number; or `dump` and a version; or `changed`, a version and a path
+-- one word, which names a job or is `pack`, `resume`, `serve` or `repack`; or `bench` and its number; or `dump` and a version; or `changed`, a version and a path
 abbrev pub task_of : List (List ℕ) → Option Task
 task_of [] = None
 task_of (word ∷ []) =
     if bytes_eq word (codes "pack") then Some Pack
     else (if bytes_eq word (codes "resume") then Some Resume
+    else (if bytes_eq word (codes "serve") then Some Serve
     else (if bytes_eq word (codes "repack") then Some Repack
-    else option_map Input (job_named word)))
+    else option_map Input (job_named word))))
 task_of (word ∷ number ∷ []) =
     if bytes_eq word (codes "bench") then option_map Bench (long_number number)
     else (if bytes_eq word (codes "dump") then option_map (λ v. Ask (Dump v)) (version_number number)
@@ -78,6 +79,10 @@ OnPack words Holds = task_in words ≡ Some Pack → Holds
 -- where they ask to go on from an image, this holds
 abbrev pub OnResume : List (String Global) → Type 0 → Type 0
 OnResume words Holds = task_in words ≡ Some Resume → Holds
+
+-- where they ask to be answered behind an image line by line, this holds
+abbrev pub OnServe : List (String Global) → Type 0 → Type 0
+OnServe words Holds = task_in words ≡ Some Serve → Holds
 
 -- where they ask for the image of the store that is left behind an image, this holds
 abbrev pub OnRepack : List (String Global) → Type 0 → Type 0

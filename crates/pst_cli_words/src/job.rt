@@ -44,6 +44,8 @@ pub enum Task {
     Pack,
     /// To answer the script behind an image, with the image as the opening. The input is that image and the script.
     Resume,
+    /// The same, where each line is answered before the next one is waited for, and may be a question about the versions.
+    Serve,
     /// To carry the script behind an image out, and to write the image of the store that it leaves in place of its replies.
     Repack,
 }
@@ -85,8 +87,8 @@ fn version_number(word: &str) -> Option<VersionNo>
     Some(VersionNo(u32::try_from(number).ok()?))
 }
 
-/// What the words ask for: one word that names a job, `pack`, `resume`, `repack`, `bench` and a number, `dump` and a version, or `changed`,
-/// a version and a path. None where they are no such words: a number has at most 64 bits and no zero before another digit, a version at most 32
+/// What the words ask for: one word that names a job, `pack`, `resume`, `serve`, `repack`, `bench` and a number, `dump` and a version, or
+/// `changed`, a version and a path. None where they are no such words: a number has at most 64 bits and no zero before another digit, a version at most 32
 /// bits, and a path the form of names joined by dots.
 pub fn task_of(words: &[String]) -> Option<Task>
     ensures { result ≡ task_of (map string_bytes words.now) }
@@ -94,6 +96,7 @@ pub fn task_of(words: &[String]) -> Option<Task>
     match words {
         [word] if word.as_bytes() == b"pack".as_slice() => Some(Task::Pack),
         [word] if word.as_bytes() == b"resume".as_slice() => Some(Task::Resume),
+        [word] if word.as_bytes() == b"serve".as_slice() => Some(Task::Serve),
         [word] if word.as_bytes() == b"repack".as_slice() => Some(Task::Repack),
         [word] => Some(Task::Input(job_named(word.as_bytes())?)),
         [word, number] if word.as_bytes() == b"bench".as_slice() => {

@@ -1,0 +1,6 @@
+//! Front.
+#![tactic(auto)]
+
+mod front;
+
+pub use front::read_front;
