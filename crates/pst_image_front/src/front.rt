@@ -1,52 +1,93 @@
-//! The bytes of an image at the front of a source: its sizes tell where it ends.
+//! Reading as many bytes as the sizes at the front of an input promise.
+
+ghost use Rattle.std.specs.Prelude.{◌≡◌, ◌≤◌, ◌*◌, ℕ, [], None, Ok, Err, IfErr, OnOk, OnErr, length, true, false};
+ghost use Rattle.std.specs.Str.{bytes_eq};
+ghost use Rattle.pst_io.specs.Causes.{Rose};
+ghost use Rattle.pst_io.specs.Input.{IsOver};
+ghost use Rattle.pst_image_form.specs.Bytes.{magic};
+ghost use Rattle.pst_image_front.specs.Front.{Promise, IsReady, HandsOn, Told, ToldNumber, IsFront, IsTooFew, body, counted, node, nodes, nothing, then_behind};
 
 use pst_io::{Lines, LinesFault, Source};
 
-/// How many bytes a number takes, and what stands before the number of its slots in a node.
-const NUMBER: usize = 8;
-const HEAD: usize = 48;
+/// How many bytes a number takes, and six numbers: the head of a node, and what stands between the text and the versions.
+const NUMBER: u64 = 8;
+const SIX_NUMBERS: u64 = 48;
 
-/// No part of an image has as many bytes as this.
-const MOST_PART: u64 = 1_099_511_627_776;
+/// How many bytes a byte of the text takes, a version, a base and a stamped value.
+const BYTE: u64 = 1;
+const VERSION: u64 = 32;
+const BASE: u64 = 8;
+const STAMP: u64 = 24;
 
-/// So many parts of so many bytes each. False where the input ends before, or no image has so many.
+/// What each image begins with.
+const MAGIC: &[u8] = b"PSTIMG01";
+
+/// So many parts of so many bytes each. False where the input ends before. A reader ends before more bytes than a number can tell.
 fn hand_parts<S: Source>(
     lines: &mut Lines,
     source: &mut S,
     count: u64,
     size: u64,
     bytes: &mut Vec<u8>,
-) -> Result<bool, LinesFault> {
-    if count > MOST_PART {
-        return Ok(false);
+) -> Result<bool, LinesFault>
+    requires ready { IsReady lines.old (S.left source.old) }
+    ensures on { HandsOn result lines.old (S.left source.old) lines.new (S.left source.new) bytes.old.items bytes.new.items }
+    ensures told { (behind : Promise) → Told result (then_behind (count * size) behind) behind bytes.old.items bytes.new.items }
+    ensures over { result ≡ Ok false → IsOver lines.new.input }
+    ensures later { S.faults source.old ≤ S.faults source.new }
+    ensures fault { result ≡ Err LinesFault.Failed → Rose (S.faults source.old) (S.faults source.new) }
+{
+    let total = count.saturating_mul(size);
+    if total == 0 {
+        return Ok(true);
     }
-    Ok(lines.hand(source, (count * size) as usize, bytes)?)
+    lines.hand(source, total as usize, bytes)
 }
 
-/// A number.
+/// A number. None where the input ends before.
 fn hand_number<S: Source>(
     lines: &mut Lines,
     source: &mut S,
     bytes: &mut Vec<u8>,
-) -> Result<Option<u64>, LinesFault> {
+) -> Result<Option<u64>, LinesFault>
+    requires ready { IsReady lines.old (S.left source.old) }
+    ensures on { HandsOn result lines.old (S.left source.old) lines.new (S.left source.new) bytes.old.items bytes.new.items }
+    ensures told { (still : ℕ → Promise) → ToldNumber result still bytes.old.items bytes.new.items }
+    ensures over { result ≡ Ok None → IsOver lines.new.input }
+    ensures later { S.faults source.old ≤ S.faults source.new }
+    ensures fault { result ≡ Err LinesFault.Failed → Rose (S.faults source.old) (S.faults source.new) }
+{
     let at = bytes.len();
-    if !lines.hand(source, NUMBER, bytes)? {
-        return Ok(None);
+    match hand_parts(lines, source, 1, NUMBER, bytes) {
+        Ok(true) => {
+            let n = &bytes[at..];
+            Ok(Some(u64::from_be_bytes([
+                n[0], n[1], n[2], n[3], n[4], n[5], n[6], n[7],
+            ])))
+        }
+        Ok(false) => Ok(None),
+        Err(fault) => Err(fault),
     }
-    let n = &bytes[at..];
-    Ok(Some(u64::from_be_bytes([n[0], n[1], n[2], n[3], n[4], n[5], n[6], n[7]])))
 }
 
-/// So many parts as a number before them says.
+/// As many parts of a size as a number before them says.
 fn hand_counted<S: Source>(
     lines: &mut Lines,
     source: &mut S,
     size: u64,
     bytes: &mut Vec<u8>,
-) -> Result<bool, LinesFault> {
-    match hand_number(lines, source, bytes)? {
-        None => Ok(false),
-        Some(count) => hand_parts(lines, source, count, size, bytes),
+) -> Result<bool, LinesFault>
+    requires ready { IsReady lines.old (S.left source.old) }
+    ensures on { HandsOn result lines.old (S.left source.old) lines.new (S.left source.new) bytes.old.items bytes.new.items }
+    ensures told { (behind : Promise) → Told result (counted size behind) behind bytes.old.items bytes.new.items }
+    ensures over { result ≡ Ok false → IsOver lines.new.input }
+    ensures later { S.faults source.old ≤ S.faults source.new }
+    ensures fault { result ≡ Err LinesFault.Failed → Rose (S.faults source.old) (S.faults source.new) }
+{
+    match hand_number(lines, source, bytes) {
+        Ok(Some(count)) => hand_parts(lines, source, count, size, bytes),
+        Ok(None) => Ok(false),
+        Err(fault) => Err(fault),
     }
 }
 
@@ -55,36 +96,117 @@ fn hand_node<S: Source>(
     lines: &mut Lines,
     source: &mut S,
     bytes: &mut Vec<u8>,
-) -> Result<bool, LinesFault> {
-    Ok(lines.hand(source, HEAD, bytes)?
-        && hand_counted(lines, source, 8, bytes)?
-        && hand_counted(lines, source, 24, bytes)?)
+) -> Result<bool, LinesFault>
+    requires ready { IsReady lines.old (S.left source.old) }
+    ensures on { HandsOn result lines.old (S.left source.old) lines.new (S.left source.new) bytes.old.items bytes.new.items }
+    ensures told { (behind : Promise) → Told result (node behind) behind bytes.old.items bytes.new.items }
+    ensures over { result ≡ Ok false → IsOver lines.new.input }
+    ensures later { S.faults source.old ≤ S.faults source.new }
+    ensures fault { result ≡ Err LinesFault.Failed → Rose (S.faults source.old) (S.faults source.new) }
+{
+    match hand_parts(lines, source, 1, SIX_NUMBERS, bytes) {
+        Ok(true) => {}
+        stopped => return stopped,
+    }
+    match hand_counted(lines, source, BASE, bytes) {
+        Ok(true) => {}
+        stopped => return stopped,
+    }
+    hand_counted(lines, source, STAMP, bytes)
 }
 
-/// The bytes of the image, and no more; or, where the input does not begin with one, as many as show that.
+/// So many nodes.
+fn hand_nodes<S: Source>(
+    lines: &mut Lines,
+    source: &mut S,
+    count: u64,
+    bytes: &mut Vec<u8>,
+) -> Result<bool, LinesFault>
+    requires ready { IsReady lines.old (S.left source.old) }
+    ensures on { HandsOn result lines.old (S.left source.old) lines.new (S.left source.new) bytes.old.items bytes.new.items }
+    ensures told { Told result (nodes count) nothing bytes.old.items bytes.new.items }
+    ensures over { result ≡ Ok false → IsOver lines.new.input }
+    ensures later { S.faults source.old ≤ S.faults source.new }
+    ensures fault { result ≡ Err LinesFault.Failed → Rose (S.faults source.old) (S.faults source.new) }
+{
+    let mut left = count;
+    'handing: while left > 0 {
+        match hand_node(lines, source, bytes) {
+            Ok(true) => {}
+            stopped => return stopped,
+        }
+        left -= 1;
+    }
+    Ok(true)
+}
+
+/// What stands behind the bytes that each image begins with: the text, six numbers, the versions and the nodes.
+fn hand_body<S: Source>(
+    lines: &mut Lines,
+    source: &mut S,
+    bytes: &mut Vec<u8>,
+) -> Result<bool, LinesFault>
+    requires ready { IsReady lines.old (S.left source.old) }
+    ensures on { HandsOn result lines.old (S.left source.old) lines.new (S.left source.new) bytes.old.items bytes.new.items }
+    ensures told { Told result body nothing bytes.old.items bytes.new.items }
+    ensures over { result ≡ Ok false → IsOver lines.new.input }
+    ensures later { S.faults source.old ≤ S.faults source.new }
+    ensures fault { result ≡ Err LinesFault.Failed → Rose (S.faults source.old) (S.faults source.new) }
+{
+    match hand_counted(lines, source, BYTE, bytes) {
+        Ok(true) => {}
+        stopped => return stopped,
+    }
+    match hand_parts(lines, source, 1, SIX_NUMBERS, bytes) {
+        Ok(true) => {}
+        stopped => return stopped,
+    }
+    match hand_counted(lines, source, VERSION, bytes) {
+        Ok(true) => {}
+        stopped => return stopped,
+    }
+    match hand_number(lines, source, bytes) {
+        Ok(Some(count)) => hand_nodes(lines, source, count, bytes),
+        Ok(None) => Ok(false),
+        Err(fault) => Err(fault),
+    }
+}
+
+/// Whether bytes are those that each image begins with.
+fn is_magic(bytes: &[u8]) -> bool
+    ensures { result ≡ bytes_eq bytes.now magic }
+{
+    bytes == MAGIC
+}
+
+/// Reads the image at the front of an input to the end of an empty text: as many bytes as its sizes promise, and less than one read
+/// beyond. Where the input ends before, that is all of it; where it does not begin as each image does, that is eight bytes.
+///
+/// # Errors
+/// Where a read failed, more came than may be read, or there was no memory: what was handed out is less than its sizes promise.
 pub fn read_front<S: Source>(
     lines: &mut Lines,
     source: &mut S,
     bytes: &mut Vec<u8>,
-) -> Result<(), LinesFault> {
-    let magic: &[u8] = b"PSTIMG01";
-    if !lines.hand(source, NUMBER, bytes)? || bytes.as_slice() != magic {
+) -> Result<(), LinesFault>
+    requires ready { IsReady lines.old (S.left source.old) }
+    requires empty { bytes.old.items ≡ [] }
+    ensures on { HandsOn result lines.old (S.left source.old) lines.new (S.left source.new) bytes.old.items bytes.new.items }
+    ensures front { OnOk result (IsFront (IsOver lines.new.input) bytes.new.items) }
+    ensures few { OnErr result (IsTooFew bytes.new.items) }
+    ensures later { S.faults source.old ≤ S.faults source.new }
+    ensures fault { result ≡ Err LinesFault.Failed → Rose (S.faults source.old) (S.faults source.new) }
+{
+    match hand_parts(lines, source, 1, NUMBER, bytes) {
+        Ok(true) => {}
+        Ok(false) => return Ok(()),
+        Err(fault) => return Err(fault),
+    }
+    if !is_magic(bytes.as_slice()) {
         return Ok(());
     }
-    // The text; the budget, the next run, three counts and the places; the versions.
-    if !hand_counted(lines, source, 1, bytes)?
-        || !lines.hand(source, HEAD, bytes)?
-        || !hand_counted(lines, source, 32, bytes)?
-    {
-        return Ok(());
+    match hand_body(lines, source, bytes) {
+        Ok(_) => Ok(()),
+        Err(fault) => Err(fault),
     }
-    let Some(nodes) = hand_number(lines, source, bytes)? else {
-        return Ok(());
-    };
-    for _ in 0..nodes {
-        if !hand_node(lines, source, bytes)? {
-            return Ok(());
-        }
-    }
-    Ok(())
 }

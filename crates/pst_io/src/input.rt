@@ -172,6 +172,7 @@ impl Input {
         ensures whole { result ≡ Ok true → length text.new.items ≡ length text.old.items + count }
         ensures end { result ≡ Ok false → (length text.new.items < length text.old.items + count) × IsOver self.new }
         ensures near { OnOk result (length self.new.held ≤ max (length self.old.held) (MOST_READ - 1)) }
+        ensures few { 0 < count → OnErr result (length text.new.items < length text.old.items + count) }
         ensures piece { length self.new.held ≤ max (length self.old.held) MOST_READ }
         ensures rest { IfErr result (λ fault. (fault ≡ LinesFault.Memory → ⊥) → self.new.held ≡ []) }
         ensures no_read { count ≤ length self.old.held → source.new ≡ source.old }

@@ -173,6 +173,7 @@ impl Lines {
         ensures whole { result ≡ Ok true → length text.new.items ≡ length text.old.items + count }
         ensures end { result ≡ Ok false → (length text.new.items < length text.old.items + count) × IsOver self.new.input }
         ensures near { OnOk result (length self.new.input.held ≤ max (length self.old.input.held) (MOST_READ - 1)) }
+        ensures few { 0 < count → OnErr result (length text.new.items < length text.old.items + count) }
         ensures piece { length self.new.input.held ≤ max (length self.old.input.held) MOST_READ }
         ensures rest { IfErr result (λ fault. (fault ≡ LinesFault.Memory → ⊥) → self.new.input.held ≡ []) }
         ensures no_read { count ≤ length self.old.input.held → source.new ≡ source.old }

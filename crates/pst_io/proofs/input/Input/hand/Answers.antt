@@ -7,6 +7,7 @@ handing-init g c = record {
   hands = record { given = []; hands = hands_none _ _; text = sym (append-nil c.args.text.now.items) };
   amount = refl;
   near = inl (omega arith);
+  some = λ some. some;
   due = inl (refl, refl, refl);
   seen = c.requires;
   later = grind arith;
@@ -30,6 +31,7 @@ handing-preserved g c =
         elim e.all [ inl q ↦ absurd (c.if-left-eq0.false (omega (arith, q))) | inr q ↦ omega (arith, q, r.piece, held, length-drop few c.handing.self.held) ],
         pos_of_ne-zero c.if-left-eq0.false,
       );
+      some = λ some. pos_of_ne-zero c.if-left-eq0.false;
       due = inr (elim p.due [
         | inl q ↦ elim e.all [
           | inl all ↦ absurd (c.if-left-eq0.false (omega (arith, all)))
@@ -52,3 +54,8 @@ returns-in-Err-read_more-clause-hands g c = λ other.
     let old = c.args.text.now.items in
     let text = c.hand_held.new.text.items in
     rw r.kept (hands_on c.args.self.now _ c.handing.self _ b b _ old c.handing.text.items text c.in-Ok.few p.hands e.few.1 e.skips e.text none)
+
+pub returns-in-Err-clause-few : goal.returns-in-Err-clause-few
+returns-in-Err-clause-few g c = λ some.
+    let p = c.handing.invariant in
+    omega (arith, p.amount, p.some some, ap length (c.in-Err.ensures.kept).1)

@@ -9,6 +9,7 @@ invariant-handing g l = record {
   hands : HandsTo l.fn.self (g.S.Source.left l.fn.source) l.self (g.S.Source.left l.source) l.fn.text.items l.text.items;
   amount : length l.text.items + l.left ≡ length l.fn.text.items + l.fn.count;
   near : (length l.self.held ≤ length l.fn.self.held) ⊎ ((length l.self.held ≤ MOST_READ) × (0 < l.left));
+  some : 0 < l.fn.count → 0 < l.left;
   due : ((l.self ≡ l.fn.self) × (l.left ≡ l.fn.count) × (l.source ≡ l.fn.source)) ⊎ (length l.fn.self.held < l.fn.count);
   seen : EndsWhereSeen l.self (g.S.Source.left l.source);
   later : g.S.Source.faults l.fn.source ≤ g.S.Source.faults l.source;
