@@ -84,6 +84,7 @@ IsTooFew bytes = (more : List ℕ) → length bytes < promised (bytes ++ more)
 pub record IsReady (s : LinesState) (left : Option (List ℕ)) : Type 0 where
   pub opened : IsOpen s left
   pub near : length s.input.held < MOST_READ
+  pub within : bytes_read s.input ≤ s.input.most
   pub served : s.input.most ≤ MOST_SERVED
 
 -- Bytes were handed out to the end of a text, whatever is answered: where more came than may be read, that was one byte. After a fault

@@ -1,6 +1,7 @@
 //! Reading as many bytes as the sizes at the front of an input promise.
 
-ghost use Rattle.std.specs.Prelude.{◌≡◌, ◌≤◌, ◌*◌, ℕ, [], None, Ok, Err, IfErr, OnOk, OnErr, length, true, false};
+ghost use Rattle.std.specs.Prelude.{◌≡◌, ◌≤◌, ◌<◌, ◌+◌, ◌-◌, ◌*◌, drop, ℕ, [], None, Ok, Err, IfErr, OnOk, OnErr, length, true, false};
+ghost use Rattle.std.specs.Int.{w64, from_be_bytes};
 ghost use Rattle.std.specs.Str.{bytes_eq};
 ghost use Rattle.pst_io.specs.Causes.{Rose};
 ghost use Rattle.pst_io.specs.Input.{IsOver};
@@ -11,12 +12,16 @@ use pst_io::{Lines, LinesFault, Source};
 
 /// How many bytes a number takes, and six numbers: the head of a node, and what stands between the text and the versions.
 const NUMBER: u64 = 8;
+
 const SIX_NUMBERS: u64 = 48;
 
 /// How many bytes a byte of the text takes, a version, a base and a stamped value.
 const BYTE: u64 = 1;
+
 const VERSION: u64 = 32;
+
 const BASE: u64 = 8;
+
 const STAMP: u64 = 24;
 
 /// What each image begins with.
@@ -33,6 +38,8 @@ fn hand_parts<S: Source>(
     requires ready { IsReady lines.old (S.left source.old) }
     ensures on { HandsOn result lines.old (S.left source.old) lines.new (S.left source.new) bytes.old.items bytes.new.items }
     ensures told { (behind : Promise) → Told result (then_behind (count * size) behind) behind bytes.old.items bytes.new.items }
+    ensures whole { result ≡ Ok true → length bytes.new.items ≡ length bytes.old.items + count * size }
+    ensures few { (result ≡ Ok true → ⊥) → length bytes.new.items < length bytes.old.items + count * size }
     ensures over { result ≡ Ok false → IsOver lines.new.input }
     ensures later { S.faults source.old ≤ S.faults source.new }
     ensures fault { result ≡ Err LinesFault.Failed → Rose (S.faults source.old) (S.faults source.new) }
@@ -42,6 +49,15 @@ fn hand_parts<S: Source>(
         return Ok(true);
     }
     lines.hand(source, total as usize, bytes)
+}
+
+/// The number of the last eight bytes.
+fn last_number(bytes: &[u8]) -> u64
+    requires { 8 ≤ length bytes.now }
+    ensures { result ≡ from_be_bytes w64 (drop (length bytes.now - 8) bytes.now) }
+{
+    let (_, n) = bytes.split_at(bytes.len() - 8);
+    u64::from_be_bytes([n[0], n[1], n[2], n[3], n[4], n[5], n[6], n[7]])
 }
 
 /// A number. None where the input ends before.
@@ -57,14 +73,8 @@ fn hand_number<S: Source>(
     ensures later { S.faults source.old ≤ S.faults source.new }
     ensures fault { result ≡ Err LinesFault.Failed → Rose (S.faults source.old) (S.faults source.new) }
 {
-    let at = bytes.len();
     match hand_parts(lines, source, 1, NUMBER, bytes) {
-        Ok(true) => {
-            let n = &bytes[at..];
-            Ok(Some(u64::from_be_bytes([
-                n[0], n[1], n[2], n[3], n[4], n[5], n[6], n[7],
-            ])))
-        }
+        Ok(true) => Ok(Some(last_number(bytes.as_slice()))),
         Ok(false) => Ok(None),
         Err(fault) => Err(fault),
     }
@@ -106,11 +116,13 @@ fn hand_node<S: Source>(
 {
     match hand_parts(lines, source, 1, SIX_NUMBERS, bytes) {
         Ok(true) => {}
-        stopped => return stopped,
+        Ok(false) => return Ok(false),
+        Err(fault) => return Err(fault),
     }
     match hand_counted(lines, source, BASE, bytes) {
         Ok(true) => {}
-        stopped => return stopped,
+        Ok(false) => return Ok(false),
+        Err(fault) => return Err(fault),
     }
     hand_counted(lines, source, STAMP, bytes)
 }
@@ -133,11 +145,32 @@ fn hand_nodes<S: Source>(
     'handing: while left > 0 {
         match hand_node(lines, source, bytes) {
             Ok(true) => {}
-            stopped => return stopped,
+            Ok(false) => return Ok(false),
+            Err(fault) => return Err(fault),
         }
         left -= 1;
     }
     Ok(true)
+}
+
+/// The text, and six numbers.
+fn hand_head<S: Source>(
+    lines: &mut Lines,
+    source: &mut S,
+    bytes: &mut Vec<u8>,
+) -> Result<bool, LinesFault>
+    requires ready { IsReady lines.old (S.left source.old) }
+    ensures on { HandsOn result lines.old (S.left source.old) lines.new (S.left source.new) bytes.old.items bytes.new.items }
+    ensures told { (behind : Promise) → Told result (counted 1 (then_behind 48 behind)) behind bytes.old.items bytes.new.items }
+    ensures over { result ≡ Ok false → IsOver lines.new.input }
+    ensures later { S.faults source.old ≤ S.faults source.new }
+    ensures fault { result ≡ Err LinesFault.Failed → Rose (S.faults source.old) (S.faults source.new) }
+{
+    match hand_counted(lines, source, BYTE, bytes) {
+        Ok(true) => hand_parts(lines, source, 1, SIX_NUMBERS, bytes),
+        Ok(false) => Ok(false),
+        Err(fault) => Err(fault),
+    }
 }
 
 /// What stands behind the bytes that each image begins with: the text, six numbers, the versions and the nodes.
@@ -153,17 +186,15 @@ fn hand_body<S: Source>(
     ensures later { S.faults source.old ≤ S.faults source.new }
     ensures fault { result ≡ Err LinesFault.Failed → Rose (S.faults source.old) (S.faults source.new) }
 {
-    match hand_counted(lines, source, BYTE, bytes) {
+    match hand_head(lines, source, bytes) {
         Ok(true) => {}
-        stopped => return stopped,
-    }
-    match hand_parts(lines, source, 1, SIX_NUMBERS, bytes) {
-        Ok(true) => {}
-        stopped => return stopped,
+        Ok(false) => return Ok(false),
+        Err(fault) => return Err(fault),
     }
     match hand_counted(lines, source, VERSION, bytes) {
         Ok(true) => {}
-        stopped => return stopped,
+        Ok(false) => return Ok(false),
+        Err(fault) => return Err(fault),
     }
     match hand_number(lines, source, bytes) {
         Ok(Some(count)) => hand_nodes(lines, source, count, bytes),
@@ -206,7 +237,8 @@ pub fn read_front<S: Source>(
         return Ok(());
     }
     match hand_body(lines, source, bytes) {
-        Ok(_) => Ok(()),
+        Ok(true) => Ok(()),
+        Ok(false) => Ok(()),
         Err(fault) => Err(fault),
     }
 }
