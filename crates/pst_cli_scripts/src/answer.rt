@@ -81,6 +81,7 @@ fn put_piece<X: Session>(
     text: &mut Vec<u8>,
 ) -> Result<bool, NoMemory>
     requires { StandForSome X.stands session.old held.old }
+    ensures about { X.about session.new ≡ X.about session.old }
     ensures piece { IfOk result (λ there. OnEachHistory X.stands session.old held.old (λ m h. made_piece there text.new.items ≡ line_reply X.rules line.now m h)) }
     ensures stands { OnOk result (OnEachHistory X.stands session.old held.old (λ m h. X.stands session.new held.new m (after_line X.rules line.now m h))) }
     ensures breaks { OnErr result (OnEachHistory X.stands session.old held.old (BreaksBetween X.breaks held.new (after_line X.rules line.now))) }
@@ -103,6 +104,7 @@ pub fn answer_line<X: Session, K: Sink>(
     text: &mut Vec<u8>,
 ) -> Result<(), Stop>
     requires { StandForSome X.stands session.old held.old }
+    ensures about { X.about session.new ≡ X.about session.old }
     ensures answered { OnEachHistory X.stands session.old held.old (λ m h. HasTaken K.taken sink.old sink.new (IsSaid result (line_reply X.rules line.now m h))) }
     ensures stands { OnOk result (OnEachHistory X.stands session.old held.old (λ m h. X.stands session.new held.new m (after_line X.rules line.now m h))) }
     ensures held { IfErr result (λ stop. OnEachHistory X.stands session.old held.old (HeldAtLine X.rules X.leaves X.breaks held.new stop line.now)) }
