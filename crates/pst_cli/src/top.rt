@@ -3,11 +3,12 @@
 ghost use Rattle.std.specs.Prelude.{◌≡◌, ◌↔◌, ◌≤◌, Some, None, false};
 ghost use Rattle.pst_io.specs.Causes.{Rose};
 ghost use Rattle.pst_cli_words.specs.declared.job.Job.{Job};
-ghost use Rattle.pst_cli_words.specs.Jobs.{task_in, OnBench, OnQuestion, OnPack, OnResume, OnRepack};
+ghost use Rattle.pst_cli_words.specs.Jobs.{task_in, OnBench, OnQuestion, OnPack, OnResume, OnServe, OnRepack};
 ghost use Rattle.pst_cli_questions.specs.Asking.{AskRow};
 ghost use Rattle.pst_cli_images.specs.Packing.{PackRow};
 ghost use Rattle.pst_cli_images.specs.Resuming.{ResumeRow, resumed_in};
 ghost use Rattle.pst_cli_images.specs.Repacking.{RepackRow};
+ghost use Rattle.pst_cli_serve.specs.Serving.{ServeRow};
 ghost use Rattle.pst_cli_bench.specs.Bench.{BenchRow, bench_lines};
 ghost use Rattle.pst_samples.specs.declared.TheConstants.{RING};
 ghost use Rattle.pst_line.specs.Store.{IsEmpty};
@@ -35,8 +36,8 @@ use std::alloc::Global;
 
 /// Does everything that the program does.
 ///
-/// The words are `run`, `replay`, `line`, `check`, `code`, `pack`, `resume` or `repack`, or `bench` and a number, or `dump` and a version, or
-/// `changed`, a version and a path.
+/// The words are `run`, `replay`, `line`, `check`, `code`, `pack`, `resume`, `serve` or `repack`, or `bench` and a number, or `dump` and a
+/// version, or `changed`, a version and a path.
 ///
 /// For `bench` nothing is read: the script of the bench with that number is carried out for the program of a ring, and a summary of
 /// what came of it is written as one piece.
@@ -46,7 +47,12 @@ use std::alloc::Global;
 /// to 9, and the store stays as it was. Else the store becomes that of the image, and each line of the script is carried out and answered as
 /// for `run`, with the image as the opening.
 ///
-/// For `repack` the input is read and judged as for `resume`, and the script is carried out so, but no reply is written. Then the image of the
+/// For `serve` the input is the same. The image is read as far as its own sizes tell, and less than one read of 65,536 bytes beyond; it is
+/// judged as for `resume`; and then each line of the script is carried out and answered before the next one is waited for. A line may also
+/// be a question, which changes nothing: `dump` and a version, answered by the dump and the line `ok`, or `changed`, a version and a path.
+/// The input may have 2^62 bytes.
+///
+/// For `repack` the input, of at most 2^62 bytes, is read and judged as for `resume`, and the script is carried out so, but no reply is written. Then the image of the
 /// store is written, with the image's text, the number of the next run and the budget that stands. Open runs are not part of it. Where more
 /// was counted than an image can hold, which no script behind an image that the program wrote comes to, the line `refused image 2` is.
 ///
@@ -89,11 +95,14 @@ pub fn persist<S: Source, K: Sink, O: Walked + Drop, N: Listed, L: LineCalls>(
     // What resuming has read and written, and what the store is left in: that of the image, after the script behind it.
     ensures resumed { OnResume words.now (HasRow S.left source.old source.new K.taken sink.old sink.new (ResumeRow result (resumed_in store.old store.new))) }
 
+    // What serving has read and written, and what the store is left in: as resuming, line by line, and the answers to questions.
+    ensures served { OnServe words.now (HasRow S.left source.old source.new K.taken sink.old sink.new (ServeRow result (resumed_in store.old store.new))) }
+
     // What repacking has read and written, and what the store is left in: as resuming, and its image.
     ensures repacked { OnRepack words.now (HasRow S.left source.old source.new K.taken sink.old sink.new (RepackRow result (resumed_in store.old store.new) store.new)) }
 
-    // Only `run`, the bench, the questions, `pack`, `resume` and `repack` work over the store, and only `line` over the line store: every other
-    // word leaves them as they were handed in, whatever the source tells.
+    // Only `run`, the bench, the questions, `pack`, `resume`, `serve` and `repack` work over the store, and only `line` over the line store:
+    // every other word leaves them as they were handed in, whatever the source tells.
     ensures tree { works_over_store (task_in words.now) ≡ false → store.new ≡ store.old }
     ensures line { (task_in words.now ≡ Some (Task.Input Job.Line) → ⊥) → line.new ≡ line.old }
 

@@ -1,6 +1,5 @@
 -- What is left behind an image, and which line of the table it is.
 use Rattle.std.proofs.Common.{◌≡◌, ℕ, inl, inr, List, ◌++◌, drop, sym, ap, ◌∙◌, subst, Option, Some}
-use Rattle.std.specs.Prelude.{◌⊎◌}
 use Rattle.pst_base.specs.declared.shape.TypeShape.{TypeShape}
 use Rattle.pst_io.specs.Text.{lines_of}
 use Rattle.pst_program.specs.declared.program.Program.{Program}

@@ -1,5 +1,5 @@
 -- Images day after day.
-use Rattle.std.proofs.Common.{◌≡◌, ℕ, suc, ◌+◌, List, [], ◌++◌, drop, length, length-append, sym, ap, ◌∙◌, subst, ⊎_elim, arith, Option}
+use Rattle.std.proofs.Common.{◌≡◌, ℕ, suc, ◌+◌, List, [], ◌++◌, drop, length, length-append, sym, ap, ◌∙◌, subst, ⊎_elim, arith, Option, Ok}
 use Rattle.std.specs.Prelude.{◌^◌}
 use Rattle.std.specs.List.{concat}
 use Rattle.std.proofs.Math.Seq.{drop-append_seam}
@@ -38,6 +38,7 @@ use Rattle.pst_cli_images.specs.Packing.{IsImage}
 use Rattle.pst_cli_images.proofs.Starts.{script-start, lines-start}
 use Rattle.pst_cli_images.specs.Opening.{opening_in}
 use Rattle.pst_cli_images.specs.Repacking.{left_behind}
+use Rattle.pst_cli_images.specs.Resuming.{Resumed, AnswersBehind, resumed_in}
 use Rattle.pst_cli_images.specs.Days.{KeepsHistory, PackedKeepsLaw, RepackedKeepsLaw, NeverRefusedAgainLaw, ResumedBehindLaw, NeverRefusedBehindLaw}
 use Rattle.pst_cli_images.proofs.Openings.{is_taken_up, length-heaps}
 use Rattle.pst_cli_images.proofs.Resumes.{meaning, valid, accepted_always}
@@ -184,13 +185,25 @@ never_refused_again_law first named h behind out keeps (was, store, rest, (reads
 
 -- ---- a script behind an image that keeps a history
 
-pub resumed_behind_law : ResumedBehindLaw
-resumed_behind_law first named h behind out keeps (was, now, rest, (reads, a)) =
+-- the lines begin behind the image
+pub kept_rest : (first : List ℕ) (named : NamedProgram) (h : History) (behind : List ℕ) → KeepsHistory first named h → {g : NamedProgram} {q : ImageParts} {len : ℕ} → IsAccepted (first ++ behind) q g len
+    → drop len (first ++ behind) ≡ behind
+kept_rest first named h behind keeps {g} {q} {len} a =
+    let far = (one_form (first ++ behind) keeps.parts q (length first) len (keeps.accepted behind).form a.form).1 in
+    ap (λ (l : ℕ). drop l (first ++ behind)) (sym far) ∙ drop-append_seam first behind
+
+-- whatever was read
+pub answered_behind : (first : List ℕ) (named : NamedProgram) (h : History) (behind out : List ℕ) (kept : Resumed) → KeepsHistory first named h → AnswersBehind kept (Ok tt) (first ++ behind) out
+    → out ≡ concat (replies_on (meaning named) h (lines_of behind))
+answered_behind first named h behind out kept keeps a =
     let m = meaning named in
     let P : NamedProgram → ImageParts → List ℕ → Type 0 = λ g q b. out ≡ concat (pieces_from (script_of by_tree (meaning g)) (begun (opening_in g.shape q)) (lines_of b)) in
     on_this first named h behind keeps P a.accepted a.answered.0
     ∙ ap (λ (o : Opening). concat (replies_on m (begun o) (lines_of behind))) keeps.opening
     ∙ sym (ap concat (replies_behind_law m h h (begun (taken_up m h)) (lines_of behind) keeps.sound keeps.shut (begins_law m h)))
+
+pub resumed_behind_law : ResumedBehindLaw
+resumed_behind_law first named h behind out keeps (was, now, rest, (reads, a)) = answered_behind first named h behind out (resumed_in was now) keeps a
 
 pub never_refused_behind_law : NeverRefusedBehindLaw
 never_refused_behind_law first named h behind out keeps (was, now, rest, (reads, (rule, fails, written, kept))) =

@@ -1,25 +1,22 @@
 -- What an engine leaves, and the image of it.
-use Rattle.std.proofs.Common.{◌≡◌, ℕ, ◌+◌, ◌<◌, ◌≤◌, ◌^◌, List, Option, Some, None, Result, Ok, Err, refl, sym, ap, ◌∙◌, subst, arith, IfSome}
+use Rattle.std.proofs.Common.{◌≡◌, ℕ, List, Option, Some, None, Result, Ok, Err, refl, ap, ◌∙◌, subst, arith}
 use Rattle.std.specs.Prelude.{IfOk, IsSomeAnd}
 use Rattle.pst_base.specs.declared.names.NodeId.{NodeId}
-use Rattle.pst_base.specs.declared.names.Counts.{Counts}
 use Rattle.pst_base.specs.declared.names.RunNo.{RunNo}
 use Rattle.pst_base.specs.declared.shape.TypeShape.{TypeShape}
 use Rattle.pst_code.specs.declared.procedure.Parts.{Parts}
-use Rattle.pst_program.specs.Sound.{CountsWithin}
 use Rattle.pst_history.specs.Meaning.{Meaning}
-use Rattle.pst_history.specs.History.{History, counts_of, next_run}
-use Rattle.pst_engine_runs.specs.Runs.{machine_runs}
+use Rattle.pst_history.specs.History.{History, next_run}
 use Rattle.pst_engine.specs.declared.engine.Engine.{Engine}
 use Rattle.pst_engine.specs.Stands.{EngineStands}
 use Rattle.pst_store_meaning.specs.declared.place.Place.{Place}
 use Rattle.pst_store_meaning.specs.Arena.{Arena, heap_at}
-use Rattle.pst_store_meaning.specs.Store.{Stored, IsStore, arena, begin_of, state_of}
+use Rattle.pst_store_meaning.specs.Store.{Stored, arena, begin_of, state_of}
 use Rattle.pst_store.specs.Whole.{state_in}
 use Rattle.pst_image_form.specs.Bytes.{Fits, image_bytes}
 use Rattle.pst_image_rules.specs.Rules.{IsJudged}
 use Rattle.pst_image_meaning.specs.Parts.{parts_of}
-use Rattle.pst_image_meaning.specs.Left.{IsLeftStore, AreNumbers}
+use Rattle.pst_image_meaning.specs.Left.{AreNumbers}
 use Rattle.pst_program.specs.declared.program.Program.{Program}
 use Rattle.pst_program.specs.View.{routines_of}
 use Rattle.pst_translation.specs.Compiled.{code_of}

@@ -1,5 +1,5 @@
 -- A script behind an image goes on as behind the script that was packed.
-use Rattle.std.proofs.Common.{◌≡◌, ◌⊎◌, inl, inr, ℕ, suc, ◌+◌, ◌<◌, ◌≤◌, arith, length-append, List, [], ◌∷◌, ◌++◌, drop, length, Option, Some, None, Result, Ok, Err, refl, sym, ap, ◌∙◌, subst}
+use Rattle.std.proofs.Common.{◌≡◌, inl, inr, ℕ, suc, ◌<◌, ◌≤◌, arith, length-append, List, [], ◌∷◌, ◌++◌, drop, length, Option, Some, None, Result, Ok, Err, refl, sym, ap, ◌∙◌, subst}
 use Rattle.std.specs.Option.{option_to_list}
 use Rattle.std.specs.List.{concat}
 use Rattle.std.proofs.Math.Seq.{drop-append_seam}
@@ -45,7 +45,7 @@ use Rattle.pst_cli_images.specs.Packing.{IsImage, PacksWhole}
 use Rattle.pst_cli_images.proofs.Starts.{script-start}
 use Rattle.pst_cli_images.specs.Opening.{opening_in}
 use Rattle.pst_cli_images.specs.Resuming.{Resumed, AnswersBehind, resumed_in}
-use Rattle.pst_cli_images.specs.Repack.{IsPacked, HasShortText, Programs, IsFirstPart, IsContinuedInPart, replies_after}
+use Rattle.pst_cli_images.specs.Repack.{IsPacked, IsContinued, HasShortText, Programs, IsFirstPart, IsContinuedInPart, replies_after}
 use Rattle.pst_cli_images.specs.Repack.{PackedIsAcceptedLaw, ResumedLaw, NeverRefusedLaw, GoesOnLaw}
 use Rattle.pst_cli_images.proofs.InPart.{first_part}
 use Rattle.pst_cli_images.proofs.Openings.{is_taken_up}
@@ -246,11 +246,22 @@ module _ (input image behind : List ℕ) (k : Packed input image) where
       let whole = replies_after input behind_programs behind in
       record { programs = behind_programs; replies = (whole, ap (λ (o : List ℕ). o ++ whole) (sym none)) }
 
-pub resumed_law : ResumedLaw
-resumed_law input image behind out w (old, new, left, (reads, a)) =
+-- the lines begin behind the image
+pub packed_rest : (input image behind : List ℕ) → IsPacked input image → {g : NamedProgram} {q : ImageParts} {len : ℕ} → IsAccepted (image ++ behind) q g len → drop len (image ++ behind) ≡ behind
+packed_rest input image behind w {g} {q} {len} a =
+    let k = packed input image w in
+    let far = (one_form (image ++ behind) (parts input image k) q (length image) len (formed input image k behind) a.form).1 in
+    ap (λ (l : ℕ). drop l (image ++ behind)) (sym far) ∙ drop-append_seam image behind
+
+-- whatever was read
+pub answered_packed : (input image behind out : List ℕ) (kept : Resumed) → IsPacked input image → AnswersBehind kept (Ok tt) (image ++ behind) out → IsContinued input behind out
+answered_packed input image behind out kept w a =
     let k = packed input image w in
     let Answers : NamedProgram → ImageParts → List ℕ → Type 0 = λ g q b. out ≡ concat (pieces_from (script_of by_tree (meaning g)) (begun (opening_in g.shape q)) (lines_of b)) in
     record { programs = behind_programs input image behind k; replies = on_packed input image behind k Answers a.accepted a.answered.0 ∙ goes_on input image behind k }
+
+pub resumed_law : ResumedLaw
+resumed_law input image behind out w (old, new, left, (reads, a)) = answered_packed input image behind out (resumed_in old new) w a
 
 pub goes_on_law : GoesOnLaw
 goes_on_law Done input image behind out w most c = resumed_law input image behind out w c

@@ -84,7 +84,7 @@ module _ (Comes : Status → Resumed → (input out : List ℕ) → Type 0) wher
   -- reading stopped
   stopped : (k : Resumed) (s : Stop) (c : InputState) (input : List ℕ) (left : Option (List ℕ)) (lines : List (List ℕ)) → k.untouched
       → (s ≡ stop.Write → ⊥) → GivesUntil s fresh (Some input) c left lines → bytes_read c ≤ MOST_INPUT
-      → WholeRow Comes (status_of s) k input left []
+      → WholeRow MOST_INPUT Comes (status_of s) k input left []
   stopped k stop.Read c input left lines same unwritten g most = ((refl, same), some_read c input left lines g.0 most)
   stopped k stop.TooLong c input left lines same unwritten g most = let long = long_row (λ o. Unit {0}) c input left lines g.0 g.1 tt in ((refl, same), long.0, long.1)
   stopped k stop.Write c input left lines same unwritten g most = absurd (unwritten refl)
@@ -92,18 +92,18 @@ module _ (Comes : Status → Resumed → (input out : List ℕ) → Type 0) wher
 
   pub unread : (k : Resumed) (s : Stop) (status : Status) (a c : InputState) (left left' sink : Option (List ℕ)) (lines : List (List ℕ)) → k.untouched
       → status ≡ status_of s → a ≡ fresh → (s ≡ stop.Write → ⊥) → GivesUntil s a left c left' lines
-      → bytes_read c ≤ MOST_INPUT → IfSome left (λ input. (out : List ℕ) × Appends sink sink out × WholeRow Comes status k input left' out)
+      → bytes_read c ≤ MOST_INPUT → IfSome left (λ input. (out : List ℕ) × Appends sink sink out × WholeRow MOST_INPUT Comes status k input left' out)
   unread k s status a c None left' sink lines same is new unwritten g most = tt
   unread k s status a c (Some input) left' sink lines same is new unwritten g most = (
     [],
     Appends-nil sink,
-    subst (λ v. WholeRow Comes v k input left' []) (sym is) (stopped k s c input left' lines same unwritten (subst (λ v. GivesUntil s v (Some input) c left' lines) new g) most),
+    subst (λ v. WholeRow MOST_INPUT Comes v k input left' []) (sym is) (stopped k s c input left' lines same unwritten (subst (λ v. GivesUntil s v (Some input) c left' lines) new g) most),
   )
 
 -- all of the input was read, and these are its bytes
 record IsWhole (input : List ℕ) (left : Option (List ℕ)) (bytes : List ℕ) : Type 0 where
   same : bytes ≡ input
-  read : ReadsWhole input left
+  read : ReadsWhole MOST_INPUT input left
 
 whole : (b : InputState) (input : List ℕ) (left : Option (List ℕ)) (bytes : List ℕ) → HandsAll fresh (Some input) b left bytes → length bytes ≤ MOST_INPUT → IsWhole input left bytes
 whole b input None bytes (hands, over, end) few = absurd hands.consumed
@@ -119,18 +119,18 @@ whole b input (Some rest) bytes (hands, over, end) few =
     }
 
 module _ (Comes : Status → Resumed → (input out : List ℕ) → Type 0) (o : IsOfWhole Comes) where
-  row : (status : Status) (k : Resumed) (input : List ℕ) (left : Option (List ℕ)) (out : List ℕ) → ReadsWhole input left → Comes status k input out → WholeRow Comes status k input left out
-  row Done k input left out read w = (read, w)
-  row Refused k input left out read w = (read, w)
-  row WriteFault k input left out read w = (read, w)
-  row Memory k input left out read w = inr (read, w)
-  row ReadFault k input left out read w = absurd (o.read k input out w)
-  row TooLong k input left out read w = absurd (o.long k input out w)
-  row Usage k input left out read w = absurd (o.usage k input out w)
+  pub row : (limit : ℕ) (status : Status) (k : Resumed) (input : List ℕ) (left : Option (List ℕ)) (out : List ℕ) → ReadsWhole limit input left → Comes status k input out → WholeRow limit Comes status k input left out
+  row limit Done k input left out read w = (read, w)
+  row limit Refused k input left out read w = (read, w)
+  row limit WriteFault k input left out read w = (read, w)
+  row limit Memory k input left out read w = inr (read, w)
+  row limit ReadFault k input left out read w = absurd (o.read k input out w)
+  row limit TooLong k input left out read w = absurd (o.long k input out w)
+  row limit Usage k input left out read w = absurd (o.usage k input out w)
 
   pub read_whole : (k : Resumed) (status : Status) (a b : InputState) (left left' sink sink' : Option (List ℕ)) (bytes : List ℕ) → a ≡ fresh → HandsAll a left b left' bytes → length bytes ≤ MOST_INPUT
-      → (out : List ℕ) × Appends sink sink' out × Comes status k bytes out → IfSome left (λ input. (out : List ℕ) × Appends sink sink' out × WholeRow Comes status k input left' out)
+      → (out : List ℕ) × Appends sink sink' out × Comes status k bytes out → IfSome left (λ input. (out : List ℕ) × Appends sink sink' out × WholeRow MOST_INPUT Comes status k input left' out)
   read_whole k status a b None left' sink sink' bytes new h few w = tt
   read_whole k status a b (Some input) left' sink sink' bytes new h few (out, written, w) =
       let all = whole b input left' bytes (subst (λ v. HandsAll v (Some input) b left' bytes) new h) few in
-      (out, written, row status k input left' out all.read (subst (λ l. Comes status k l out) all.same w))
+      (out, written, row MOST_INPUT status k input left' out all.read (subst (λ l. Comes status k l out) all.same w))

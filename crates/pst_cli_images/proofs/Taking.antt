@@ -1,5 +1,5 @@
 -- A store that was made of an image is one that an engine takes up, and its opening is that of the image.
-use Rattle.std.proofs.Common.{◌≡◌, ℕ, ◌<◌, List, [], ◌∷◌, drop, refl, sym, ap, ◌∙◌, subst, Option, None, Some, IfSome}
+use Rattle.std.proofs.Common.{◌≡◌, ℕ, List, [], ◌∷◌, drop, refl, sym, ap, ◌∙◌, subst, Option, None, Some, IfSome}
 use Rattle.std.specs.Prelude.{map, IsSomeAnd}
 use Rattle.pst_base.specs.declared.names.RunNo.{RunNo}
 use Rattle.pst_base.specs.declared.names.Counts.{Counts}

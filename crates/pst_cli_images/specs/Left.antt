@@ -1,5 +1,5 @@
 -- What the script behind an image leaves, with the image of the store or without one.
-use Rattle.std.specs.Prelude.{◌≡◌, ℕ, ◌^◌, ◌⊎◌, List, drop, Option}
+use Rattle.std.specs.Prelude.{ℕ, ◌^◌, ◌⊎◌, List, drop, Option}
 use Rattle.pst_program.specs.Sound.{CountsWithin}
 use Rattle.pst_history.specs.Meaning.{Meaning}
 use Rattle.pst_history.specs.History.{History, counts_of}

@@ -9,7 +9,6 @@ use Rattle.pst_history.specs.History.{History, next_run}
 use Rattle.pst_history.specs.Direct.{direct}
 use Rattle.pst_store_meaning.specs.declared.place.Place.{Place}
 use Rattle.pst_store_meaning.specs.Store.{Stored, begin_of, state_of}
-use Rattle.pst_cli_words.specs.declared.job.Job.TheVariants.{Run}
 use Rattle.pst_cli_words.specs.declared.status.Status.{Status}
 use Rattle.pst_cli_scripts.specs.declared.stop.Stop.{Stop}
 use Rattle.pst_cli_scripts.specs.Pieces.{IsPartOf}

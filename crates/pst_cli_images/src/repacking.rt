@@ -201,9 +201,11 @@ pub fn repack_input<S: Source, K: Sink, O: Walked + Drop, N: Listed>(
 {
     let mut lines = Lines::up_to(alloc, MOST_SERVED);
     let mut bytes = Vec::new(alloc);
-    if let Err(fault) = lines.hand(source, usize::MAX, &mut bytes) {
-        return status_of(Stop::from(fault));
+    match lines.hand(source, usize::MAX, &mut bytes) {
+        Err(fault) => status_of(Stop::from(fault)),
+        Ok(_) => {
+            drop(lines);
+            repack_bytes(alloc, bytes.as_slice(), sink, store)
+        }
     }
-    drop(lines);
-    repack_bytes(alloc, bytes.as_slice(), sink, store)
 }

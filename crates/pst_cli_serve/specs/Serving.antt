@@ -1,7 +1,8 @@
 -- An image at the front of an input, and the script behind it, line by line: what was read and written, and what is held in the end.
-use Rattle.std.specs.Prelude.{◌≡◌, ℕ, ◌+◌, ◌<◌, ◌≤◌, ◌⊎◌, min, List, [], ◌++◌, length, take, drop, Option, Some}
+use Rattle.std.specs.Prelude.{◌≡◌, ℕ, ◌+◌, ◌<◌, ◌≤◌, ◌⊎◌, min, List, [], ◌++◌, length, take, drop, Option, Some, Result, Ok, Err}
 use Rattle.pst_io.specs.declared.room.TheConstants.{MOST_SERVED, MOST_READ}
 use Rattle.pst_io.specs.Text.{lines_of, whole_lines}
+use Rattle.pst_io.specs.Input.{InputState}
 use Rattle.pst_program.specs.declared.program.Program.{Program}
 use Rattle.pst_typing.specs.View.{program_of}
 use Rattle.pst_history.specs.Meaning.{Meaning}
@@ -9,16 +10,19 @@ use Rattle.pst_history.specs.History.{History, begun}
 use Rattle.pst_history.specs.Direct.{meaning_of}
 use Rattle.pst_cli_words.specs.declared.status.Status.{Status}
 use Rattle.pst_cli_words.specs.declared.status.Status.TheVariants.{Done, ReadFault, WriteFault, Usage, Refused, TooLong, Memory}
+use Rattle.pst_cli_scripts.specs.declared.stop.Stop.{Stop}
 use Rattle.pst_cli_scripts.specs.Input.{bytes_of}
 use Rattle.pst_cli_scripts.specs.Pieces.{state_after, IsPartOf, BreaksIn}
 use Rattle.pst_cli_scripts.specs.Script.{by_tree, script_of}
 use Rattle.pst_cli_serving.specs.Rows.{HasReadOf}
+use Rattle.pst_cli_serving.specs.Serving.{ReadsNothing, status_of}
+use Rattle.pst_image_rules.specs.declared.rule.Rule.{Rule}
 use Rattle.pst_image_form.specs.declared.parts.ImageParts.{ImageParts}
 use Rattle.pst_image_front.specs.Front.{promised, IsShort}
-use Rattle.pst_image_unpack.specs.Unpacked.{IsAccepted}
+use Rattle.pst_image_unpack.specs.Unpacked.{IsAccepted, FailsFirst}
 use Rattle.pst_cli_images.specs.Opening.{opening_in}
-use Rattle.pst_cli_images.specs.Resuming.{Resumed, IsUntouched, RefusesImage}
-use Rattle.pst_cli_serve.specs.Served.{Says, IsAnswered, StopsInAnswer, StopsBeforeAnswer}
+use Rattle.pst_cli_images.specs.Resuming.{Resumed, IsUntouched, Refuses, RefusesImage}
+use Rattle.pst_cli_serve.specs.Served.{Says, Serves, IsAnswered, StopsInAnswer, StopsBeforeAnswer}
 
 -- ---- what was read
 
@@ -90,3 +94,23 @@ ServeRow Memory k input left out =
     ⊎ (StopsReading k input left out
     ⊎ Behind (λ program m h len. (given : List (List ℕ)) × ReadsBehind len given input left × LacksInLine k program m h given out) input)
 ServeRow Usage k input left out = ⊥
+
+-- ---- what the functions below come to
+
+-- how answering ends, by what stopped it
+abbrev pub ended : {T : Type 0} → Result T Stop → Status
+ended (Ok done) = Done
+ended (Err s) = status_of s
+
+-- what comes of a script behind the image of these bytes: there was no room for a session, and nothing was read; or its lines were answered
+-- so, in the history that begins with the image
+abbrev pub Continues : Status → Resumed → (bytes : List ℕ) → InputState → Option (List ℕ) → InputState → Option (List ℕ) → List ℕ → Type 0
+Continues status k bytes a left b left' out =
+    ((status ≡ Memory) × IsUntouched k out × ReadsNothing a left b left')
+    ⊎ ((result : Result (Unit {0}) Stop) × (status ≡ ended result)
+    × Behind (λ program m h len. Serves (Says program m) (script_of by_tree m) h (k.leaves m) (k.breaks m) result a left b left' out) bytes)
+
+-- what comes of the bytes that were read: a rule fails, and nothing more was read; or as before
+abbrev pub Goes : Status → Resumed → (bytes : List ℕ) → InputState → Option (List ℕ) → InputState → Option (List ℕ) → List ℕ → Type 0
+Goes status k bytes a left b left' out =
+    ((rule : Rule) × FailsFirst bytes rule × Refuses status rule out × k.untouched × ReadsNothing a left b left') ⊎ Continues status k bytes a left b left' out

@@ -1,2 +1,2 @@
 pub mod Numerals
-mod Asking
+pub mod Asking

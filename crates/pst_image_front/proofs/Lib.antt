@@ -1,3 +1,3 @@
-mod Promises
-mod Handing
-mod Sizes
+pub mod Promises
+pub mod Handing
+pub mod Sizes

@@ -1,4 +1,4 @@
-use Rattle.std.proofs.Common.{◌≡◌, ◌^◌, inl, refl, sym, ◌∙◌, subst}
+use Rattle.std.proofs.Common.{◌^◌, inl, refl, sym, subst}
 use Rattle.std.proofs.lemmas.Result.{err_from_is_err_and}
 use Rattle.pst_base.specs.declared.names.Counts.{Counts}
 use Rattle.pst_program.specs.Sound.{CountsWithin}

@@ -1,4 +1,4 @@
-use Rattle.std.proofs.Common.{◌≡◌, ◌∙◌, refl, subst, []}
+use Rattle.std.proofs.Common.{◌∙◌, refl, subst, []}
 use Rattle.std.proofs.KnownBytes.{Appends-nil}
 use Rattle.pst_cli_images.specs.Resuming.{resumed_in}
 use Rattle.pst_cli_images.specs.declared.repacking.Left.{Left}

@@ -1,4 +1,4 @@
-use Rattle.std.proofs.Common.{◌≡◌, ◌^◌, ◌∙◌, subst}
+use Rattle.std.proofs.Common.{◌^◌, subst}
 use Rattle.pst_base.specs.declared.names.Counts.{Counts}
 use Rattle.pst_program.specs.Sound.{CountsWithin}
 use Rattle.pst_cli_images.proofs.repacking.image_left.Goals as goal

@@ -1,0 +1,5 @@
+mod Alike
+mod Commands
+mod Fronts
+mod Replies
+mod Rows
