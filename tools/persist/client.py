@@ -13,6 +13,7 @@ of their own say that the program or the image was refused, that the process end
 This module is tested (tools/tests) and not proved: a reply says what the program wrote. It needs python3.8 and nothing else.
 """
 
+import contextlib
 import os
 import re
 import shutil
@@ -30,7 +31,7 @@ __all__ = [
     'INPUT_LIMIT', 'Answer', 'Budget', 'Changed', 'Commands', 'Content', 'CutOff', 'Done', 'Dropped', 'Dump', 'Ended', 'Field', 'History',
     'ImageRefused', 'Never', 'NoAnswer', 'NoProgram', 'NotCarriedOut', 'Opened', 'Outline', 'PersistError', 'Pointer', 'ProgramRefused',
     'Record', 'Refused', 'Reply', 'Running', 'Session', 'Stats', 'Trapped', 'UnknownReply', 'Version', 'Versions', 'WrongImage', 'WrongText',
-    'answer_to', 'encoded', 'is_last', 'lines_for', 'must', 'program_path', 'read_answer', 'read_dump', 'read_outline', 'read_reply',
+    'answer_to', 'descriptors_of', 'encoded', 'is_last', 'lines_for', 'must', 'program_path', 'read_answer', 'read_dump', 'read_outline', 'read_reply',
     'read_text', 'read_versions', 'split_input', 'take_reply', 'text_of', 'words_of', 'write_text', 'written_by',
 ]
 
@@ -339,17 +340,23 @@ def is_last(words: Sequence[str], line: str) -> bool:
 
 def take_reply(line: str, next_line: Callable[[], str]) -> Reply:
     """The reply to a command that was sent so, from what gives the lines that are written, one at a time."""
-    words, lines = words_of(line), [next_line()]
-    while not is_last(words, lines[-1]):
-        lines.append(next_line())
-    last = lines.pop()
+    words = words_of(line)
     if words == ['versions']:
-        return read_versions(lines)
+        return read_versions(list(iter(next_line, MARKED)))
+    records: List[str] = []
+    printed: List[int] = []
+    last = next_line()
+    while not is_last(words, last):
+        if words[0] == 'dump':
+            records.append(last)
+        else:
+            printed.append(number_in(last, r'\| (-?\d+)'))
+        last = next_line()
     if words[0] == 'dump' and last == 'ok':
-        return read_dump(lines)
-    if words[0] == 'changed' and last != MARKED:
-        return read_answer([*lines, last])
-    return read_reply(words[0], [number_in(it, r'\| (-?\d+)') for it in lines], last)
+        return read_dump(records)
+    if words[0] == 'changed' and last != MARKED and not printed:
+        return read_answer([last])
+    return read_reply(words[0], printed, last)
 
 
 def read_content(word: str) -> Content:
@@ -542,6 +549,15 @@ def answer_to(words: Sequence[str], given: str, path: str) -> str:
     return written.decode('latin-1')
 
 
+def descriptors_of(*streams: Any) -> Tuple[int, ...]:
+    """The descriptors of those streams that are open."""
+    found = []
+    for stream in streams:
+        with contextlib.suppress(ValueError):
+            found.append(stream.fileno())
+    return tuple(found)
+
+
 class Commands:
     """One method a command, over one that sends a line of the script."""
 
@@ -678,6 +694,10 @@ class Session(Commands):
     def pid(self) -> int:
         """The number of the process, which is also that of its group."""
         return self._process.pid
+
+    def descriptors(self) -> Tuple[int, ...]:
+        """What leads to the process, as long as it is not ended."""
+        return descriptors_of(self._process.stdin, self._process.stdout)
 
     # Beginning and end.
 
