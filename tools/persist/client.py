@@ -25,14 +25,14 @@ from typing import Any, Callable, Dict, Iterable, List, NamedTuple, Optional, Pa
 
 from .errors import (
     INPUT_LIMIT, CutOff, Ended, ImageRefused, NoAnswer, NoProgram, PersistError, ProgramRefused, UnknownReply, WrongImage, WrongText)
-from .image import Image, read_bytes
+from .image import Image, is_image, read_bytes, split_image
 
 __all__ = [
     'INPUT_LIMIT', 'Answer', 'Budget', 'Changed', 'Commands', 'Content', 'CutOff', 'Done', 'Dropped', 'Dump', 'Ended', 'Field', 'History',
     'ImageRefused', 'Never', 'NoAnswer', 'NoProgram', 'NotCarriedOut', 'Opened', 'Outline', 'PersistError', 'Pointer', 'ProgramRefused',
     'Record', 'Refused', 'Reply', 'Running', 'Session', 'Stats', 'Trapped', 'UnknownReply', 'Version', 'Versions', 'WrongImage', 'WrongText',
     'answer_to', 'descriptors_of', 'encoded', 'is_last', 'lines_for', 'must', 'program_path', 'read_answer', 'read_dump', 'read_outline', 'read_reply',
-    'read_text', 'read_versions', 'split_input', 'take_reply', 'text_of', 'words_of', 'write_text', 'written_by',
+    'read_text', 'read_versions', 'session_on', 'split_input', 'take_reply', 'text_of', 'words_of', 'write_text', 'written_by',
 ]
 
 # A line of no form. Its reply shows the end of what was written before it.
@@ -863,3 +863,16 @@ class Session(Commands):
         if self._outline is None:
             self._outline = read_outline(self.canonical())
         return self._outline
+
+
+def session_on(given: bytes, path: Optional[str] = None) -> Tuple[Session, List[str]]:
+    """A session on what an input begins with, a program or an image, and the lines of its script, which were not sent."""
+    if is_image(given):
+        try:
+            image, script = split_image(given)
+        except WrongImage:
+            # The program tells why.
+            image, script = given, []
+        return Session(path=path, image=image), script
+    program, script = split_input(given.decode('utf-8', 'surrogateescape'))
+    return Session(program, path), script

@@ -23,7 +23,7 @@ from concurrent.futures import ThreadPoolExecutor
 from typing import Any, Callable, Deque, Dict, List, Optional, Sequence, Set, Tuple, TypeVar, Union
 
 from .client import (
-    MARK, MARKED, Changed, Dump, Ended, History, Never, Outline, PersistError, Refused, Reply, UnknownReply, Version, encoded, is_last,
+    MARK, MARKED, Changed, Ended, History, Never, Outline, PersistError, Refused, Reply, UnknownReply, Version, encoded, is_last,
     lines_for, program_path, read_outline, take_reply, words_of, written_by)
 from .history import Note, Notes, Past, Records
 from .image import Image
@@ -162,12 +162,7 @@ TOO_MANY = 'the replies so far have more printed numbers than are sent together;
 
 def printed_in(outcomes: Sequence[Outcome]) -> int:
     """How many numbers were printed."""
-    return sum(numbers_in(it) for it in outcomes if isinstance(it, Reply))
-
-
-def numbers_in(reply: Reply) -> int:
-    """How many numbers a reply tells."""
-    return sum(1 + len(it.contents) for it in reply.records) if isinstance(reply, Dump) else len(reply.printed)
+    return sum(len(it.printed) for it in outcomes if isinstance(it, Reply))
 
 
 class Reader:
@@ -455,6 +450,8 @@ class Store:
         """What came of each line, in their order. Changes and the lines between them that change nothing go to different processes, each
         when what stands before it has come to its end."""
         found: List[Outcome] = []
+        # What is held and what changed is asked by requests of their own; as commands they are none.
+        lines = [MARK if words_of(line)[:1] in (['dump'], ['changed']) else line for line in lines]
         at = 0
         while at < len(lines):
             begin, kind = at, kind_of(lines[at])

@@ -121,8 +121,7 @@ def reply_json(line: str, reply: Reply, source: List[str]) -> Dict[str, Any]:
     told: Dict[str, Any] = {'line': line, 'reply': type(reply).__name__.lower(), 'text': text_of(reply), 'printed': [str(it) for it in reply.printed]}
     for field in dataclasses.fields(reply):
         if field.name != 'printed':
-            value = getattr(reply, field.name)
-            told['at' if field.name == 'line' else field.name] = [str(it) for it in value] if isinstance(reply, client.Dump) else value
+            told['at' if field.name == 'line' else field.name] = getattr(reply, field.name)
     if isinstance(reply, client.Trapped) and 0 < reply.line <= len(source):
         told['source'] = source[reply.line - 1].strip()
     if isinstance(reply, (client.Trapped, client.Refused)):
