@@ -230,6 +230,7 @@ def must(reply: Any) -> Any:
 # Texts.
 
 SEPARATOR = re.compile(r'^%%[ \t\r]*$', re.MULTILINE)
+WORD = re.compile(r'[^ \t\r]+')
 
 
 def read_text(path: str) -> str:
@@ -263,7 +264,7 @@ def split_input(text: str) -> Tuple[str, List[str]]:
 
 def words_of(line: str) -> List[str]:
     """The words of a script line; none where the line has no reply."""
-    words = [word for word in line.replace('\t', ' ').replace('\r', ' ').split(' ') if word]
+    words = WORD.findall(line)
     return [] if words and words[0].startswith('#') else words
 
 
@@ -328,7 +329,7 @@ def read_versions(lines: Sequence[str]) -> Versions:
 
 def lines_for(line: str) -> str:
     """What is sent for a command. A list of versions has no last line of its own, so a mark is sent behind it."""
-    return f'{line}\n{MARK}\n' if words_of(line) == ['versions'] else f'{line}\n'
+    return f'{line}\n{MARK}\n' if 'versions' in line and words_of(line) == ['versions'] else f'{line}\n'
 
 
 def is_last(words: Sequence[str], line: str) -> bool:
