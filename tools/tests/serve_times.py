@@ -35,7 +35,7 @@ def written(word, given, result):
     begin = time.monotonic()
     child = subprocess.Popen([program_path(), word], stdin=given, stdout=result)
     _, status, used = os.wait4(child.pid, 0)
-    child.returncode = os.waitstatus_to_exitcode(status)
+    child.returncode = os.WEXITSTATUS(status) if os.WIFEXITED(status) else -os.WTERMSIG(status)
     assert child.returncode == 0, f'{word} ends with {child.returncode}'
     return time.monotonic() - begin, used.ru_utime + used.ru_stime, used.ru_maxrss / 1024
 
