@@ -22,14 +22,22 @@ export interface Budget { readonly reply: 'budget'; readonly charges: number }
 export interface Versions { readonly reply: 'versions'; readonly parents: readonly (number | null)[] }
 /** How many records were made and pointers and values written by all runs, and the bound on the store (`stats`). */
 export interface Stats { readonly reply: 'stats'; readonly records: number; readonly pointers: number; readonly values: number; readonly bound: number }
+/** A record of a dump: its numbers as bigints, and then its pointers. Record 0 is that of the roots. */
+export interface Record { readonly number: number; readonly type: string; readonly contents: readonly (bigint | null | { readonly record: number })[] }
+/** The records of a version that its roots lead to (`dump`). */
+export interface Dump { readonly reply: 'dump'; readonly records: readonly Record[] }
+/** The version that changed what a path reads, and null where none did (`changed`). */
+export interface Changed { readonly reply: 'changed'; readonly version: number | null }
 
-export type Reply = Version | Answer | Trapped | Refused | Opened | Running | Done | Dropped | Budget | Versions | Stats;
+export type Reply = Version | Answer | Trapped | Refused | Opened | Running | Done | Dropped | Budget | Versions | Stats | Dump | Changed;
 /** An argument: a bigint, or a number that is whole and exact. */
 export type Argument = number | bigint;
 
 export class PersistError extends Error {}
 /** The program has a fault: its kind, its line from 1, and what stands in that line. */
 export class ProgramRefused extends PersistError { readonly kind: string; readonly line: number; readonly text: string }
+/** The program refuses an image: the number of the first rule that it breaks. */
+export class ImageRefused extends PersistError { readonly rule: number }
 /** The process ended before it replied: its status, or the name of the signal that ended it. */
 export class Ended extends PersistError { readonly status: number | string }
 /** A text that is no reply to what was sent. */
@@ -59,6 +67,8 @@ export interface Options {
 export class Session {
   private constructor();
   static start(program: string, options?: Options): Promise<Session>;
+  /** On an image: the path of its file, or its bytes. */
+  static behind(image: string | Uint8Array, options?: Options): Promise<Session>;
   /** The number of the process. */
   readonly pid: number | undefined;
   run(version: number, procedure: string, ...args: Argument[]): Promise<Version | Trapped | Refused>;
@@ -72,6 +82,9 @@ export class Session {
   budget(charges: number): Promise<Budget | Refused>;
   versions(): Promise<Versions>;
   stats(): Promise<Stats>;
+  /** Behind an image alone, as `changed`. */
+  dump(version: number): Promise<Dump | Refused>;
+  changed(version: number, path: string): Promise<Changed | Refused>;
   /** Sends a line of the script; null for a line that has no reply, which is not sent. */
   command(line: string): Promise<Reply | null>;
   /** Waits for the replies that are still to come and for the end; the status, or the name of a signal. */

@@ -8,6 +8,7 @@
  *     await session.end();
  */
 import { spawn } from 'node:child_process';
+import { readFile } from 'node:fs/promises';
 
 /** A line of no form. Its reply shows the end of what was written before it. */
 const MARK = '.';
@@ -29,6 +30,14 @@ export class ProgramRefused extends PersistError {
   constructor(kind, line, text) {
     super(`refused ${kind} at ${line}${text && `: ${text}`}`);
     Object.assign(this, { kind, line, text });
+  }
+}
+
+/** The program refuses an image: the number of the first rule that it breaks. */
+export class ImageRefused extends PersistError {
+  constructor(rule) {
+    super(`refused image ${rule}`);
+    this.rule = rule;
   }
 }
 
@@ -100,8 +109,15 @@ function lastLine(it) {
     case 'budget': return `budget ${it.charges}`;
     case 'versions': return it.parents.map((parent, version) => (parent === null ? '0' : `${version} from ${parent}`)).join('\n');
     case 'stats': return `records ${it.records} pointers ${it.pointers} values ${it.values} bound ${it.bound}`;
+    case 'dump': return [...it.records.map(recordText), 'ok'].join('\n');
+    case 'changed': return it.version === null ? 'never' : `changed ${it.version}`;
     default: throw new TypeError(`${it.reply} is no reply`);
   }
+}
+
+function recordText({ number, type, contents }) {
+  const words = contents.map((it) => (it === null ? 'null' : typeof it === 'bigint' ? String(it) : `@${it.record}`));
+  return [`${number} ${type}:`, ...words].join(' ');
 }
 
 // The last lines of replies, the commands that they may answer, and what they make of their parts.
@@ -110,6 +126,8 @@ const FORMS = [
   [/^ok$/, ['query'], (_, printed) => ({ reply: 'answer', printed })],
   [/^trap ([a-z]+) at (\d+)$/, ['run', 'query', 'close'], ([kind, line], printed) => ({ reply: 'trapped', kind, line: +line, printed })],
   [/^refused ([a-z]+)$/, null, ([kind]) => ({ reply: 'refused', kind })],
+  [/^changed (\d+)$/, ['changed'], ([version]) => ({ reply: 'changed', version: +version })],
+  [/^never$/, ['changed'], () => ({ reply: 'changed', version: null })],
   [/^run (\d+)$/, ['open'], ([run]) => ({ reply: 'opened', run: +run })],
   [/^run (\d+) running$/, ['call', 'step'], ([run]) => ({ reply: 'running', run: +run })],
   [/^run (\d+) done$/, ['call', 'step'], ([run]) => ({ reply: 'done', run: +run })],
@@ -141,6 +159,33 @@ function readVersions(lines) {
   return { reply: 'versions', parents };
 }
 
+function readRecord(line) {
+  const found = /^(\d+) (\w+):((?: (?:-?\d+|null|@\d+))*)$/.exec(line);
+  if (!found) throw new UnknownReply(line);
+  const held = (word) => (word === 'null' ? null : word.startsWith('@') ? { record: +word.slice(1) } : BigInt(word));
+  return { number: +found[1], type: found[2], contents: found[3].split(' ').slice(1).map(held) };
+}
+
+/** How many bytes an image has by its sizes; null where they promise more than there is. */
+function imageLength(data) {
+  const number = (at) => Number(data.readBigUInt64BE(at));
+  try {
+    // Behind the text six numbers, four of each version, and of each node its slots and stamped values.
+    let at = 64 + number(8);
+    at += 8 + 32 * number(at);
+    const nodes = number(at);
+    at += 8;
+    for (let node = 0; node < nodes; node++) {
+      at += 56 + 8 * number(at + 48);
+      at += 8 + 24 * number(at);
+    }
+    return at <= data.length ? at : null;
+  } catch (error) {
+    if (error instanceof RangeError) return null;
+    throw error;
+  }
+}
+
 /** A command that was sent, and the lines of its reply that have come. */
 class Sent {
   constructor(words, resolve, reject) {
@@ -152,6 +197,12 @@ class Sent {
     if (this.many) {
       if (line === MARKED) return readVersions(this.lines);
       this.lines.push(line);
+      return undefined;
+    }
+    if (this.command === 'dump') {
+      if (line === 'ok') return { reply: 'dump', records: this.lines };
+      if (!/^\d/.test(line)) return readReply(this.command, this.lines, line);
+      this.lines.push(readRecord(line));
       return undefined;
     }
     if (!line.startsWith('| ')) return readReply(this.command, this.printed, line);
@@ -172,10 +223,12 @@ export class Session {
   #rest = '';
   #fault = null;
   #ended;
+  #word;
 
-  constructor(path, patience) {
+  constructor(path, patience, word) {
     this.#patience = patience;
-    this.#child = spawn(path, ['run'], { stdio: ['pipe', 'pipe', 'inherit'] });
+    this.#word = word;
+    this.#child = spawn(path, [word], { stdio: ['pipe', 'pipe', 'inherit'] });
     this.#child.stdout.setEncoding('latin1');
     this.#child.stdout.on('data', (data) => this.#take(data));
     // What is written to a process that has ended is lost; its end is told to those who wait.
@@ -196,21 +249,42 @@ export class Session {
    * Starts a process on a program text. `path` is the program: else what PERSIST names, or `persist` on the PATH. `patience` is how many
    * milliseconds `end` waits before it ends the process by a signal.
    */
-  static async start(program, { path = process.env.PERSIST || 'persist', patience = 10_000 } = {}) {
+  static async start(program, options) {
     if (SEPARATOR.test(program)) throw new WrongText('the program has a separator line, which splitInput takes out');
-    const session = new Session(path, patience);
     const end = program === '' || program.endsWith('\n') ? '' : '\n';
+    return Session.#started('run', `${program}${end}%%\n`, true, (line) => {
+      const found = /^refused ([a-z-]+) at (\d+)$/.exec(line);
+      return found && new ProgramRefused(found[1], +found[2], (program.split('\n')[found[2] - 1] ?? '').trim());
+    }, options);
+  }
+
+  /** Starts a process on an image, given as the path of its file or as bytes. Such a session also has `dump` and `changed`. */
+  static async behind(image, options) {
+    const data = typeof image === 'string' ? await readFile(image) : Buffer.from(image.buffer, image.byteOffset, image.byteLength);
+    const length = imageLength(data);
+    const session = await Session.#started('serve', data.subarray(0, length ?? data.length), length !== null, (line) => {
+      const found = /^refused image (\d)$/.exec(line);
+      return found && new ImageRefused(+found[1]);
+    }, options);
+    if (length === data.length) return session;
+    await session.end();
+    throw new WrongText(`${data.length - length} bytes stand behind the image`);
+  }
+
+  /** Starts a process and gives it what comes first. Where that is cut off nothing may follow: it would be taken for the rest. */
+  static async #started(word, front, isWhole, faultIn, { path = process.env.PERSIST || 'persist', patience = 10_000 } = {}) {
+    const session = new Session(path, patience, word);
     try {
-      // An accepted program writes nothing, so the reply to a line of no form tells that it was accepted.
+      // What is accepted is answered by nothing, so the reply to a line of no form tells that it was accepted.
       await new Promise((resolve, reject) => {
         const first = new Sent([MARK], resolve, reject);
         first.take = (line) => {
           if (line === MARKED) return true;
-          const found = /^refused ([a-z-]+) at (\d+)$/.exec(line);
-          if (!found) throw new UnknownReply(line);
-          throw new ProgramRefused(found[1], +found[2], (program.split('\n')[found[2] - 1] ?? '').trim());
+          throw faultIn(line) ?? new UnknownReply(line);
         };
-        session.#send(first, `${program}${end}%%\n${MARK}\n`);
+        session.#send(first, front);
+        if (isWhole) session.#child.stdin.write(`${MARK}\n`);
+        else session.#child.stdin.end();
       });
     } catch (error) {
       await session.end();
@@ -362,6 +436,21 @@ export class Session {
   /** What all runs made and wrote: `stats`. */
   stats() {
     return this.command('stats');
+  }
+
+  /** The records of a version that its roots lead to: `dump` or `refused`. Behind an image alone. */
+  dump(version) {
+    return this.#behindImage('dump', undefined, version);
+  }
+
+  /** The version, on the way from this one to version 0, that changed what a path reads: `changed` or `refused`. Behind an image alone. */
+  changed(version, path) {
+    return this.#behindImage('changed', String(path), version);
+  }
+
+  async #behindImage(command, name, version) {
+    if (this.#word !== 'serve') throw new WrongText(`${command} is answered behind an image alone: Session.behind begins with one`);
+    return this.#words(command, name, [version]);
   }
 }
 

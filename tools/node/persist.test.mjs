@@ -1,10 +1,11 @@
 // The client over the built program, which PERSIST names, and over programs that behave badly. Where there is none they are skipped.
 import assert from 'node:assert/strict';
+import { spawnSync } from 'node:child_process';
 import { chmodSync, mkdtempSync, rmSync, writeFileSync } from 'node:fs';
 import { tmpdir } from 'node:os';
 import { join } from 'node:path';
 import { test } from 'node:test';
-import { Ended, NotCarriedOut, ProgramRefused, Session, UnknownReply, WrongText, must, splitInput, textOf, wordsOf } from './persist.mjs';
+import { Ended, ImageRefused, NotCarriedOut, ProgramRefused, Session, UnknownReply, WrongText, must, splitInput, textOf, wordsOf } from './persist.mjs';
 
 const LIST = `record Node 2 { val key: int; ptr next: Node; }
 root first: Node;
@@ -151,3 +152,36 @@ test('an input is split, and its lines have words', () => {
   assert.deepEqual(splitInput('%%x\n'), { program: '%%x\n', script: [] });
   assert.deepEqual(['run\t0 add', '# run', '', ' \r'].map(wordsOf), [['run', '0', 'add'], [], [], []]);
 });
+
+test('an image is gone on from', built, async () => {
+  const image = spawnSync(process.env.PERSIST, ['pack'], { input: `${LIST}%%\nrun 0 add 5\nrun 1 add 7\n` }).stdout;
+  const folder = mkdtempSync(join(tmpdir(), 'persist-'));
+  try {
+    writeFileSync(join(folder, 'image'), image);
+    for (const given of [image, new Uint8Array(image), join(folder, 'image')]) {
+      const session = await Session.behind(given);
+      assert.deepEqual(await session.dump(2), { reply: 'dump', records: [
+        { number: 0, type: 'root', contents: [{ record: 1 }] },
+        { number: 1, type: 'Node', contents: [7n, { record: 2 }] },
+        { number: 2, type: 'Node', contents: [5n, null] }] });
+      assert.equal(textOf(await session.dump(1)), '0 root: @1\n1 Node: 5 null\nok\n');
+      assert.deepEqual(await session.changed(2, 'first.next'), { reply: 'changed', version: 2 });
+      assert.deepEqual(await session.changed(0, 'first'), { reply: 'changed', version: null });
+      assert.deepEqual([await session.dump(9), await session.changed(2, 'last')],
+        [{ reply: 'refused', kind: 'version' }, { reply: 'refused', kind: 'path' }]);
+      assert.deepEqual(await session.run(2, 'add', 9), { reply: 'version', number: 3, printed: [] });
+      assert.equal(await session.end(), 0);
+    }
+    for (const length of [0, 7, 12, 100, image.length - 1]) {
+      await assert.rejects(Session.behind(image.subarray(0, length)), (error) => error instanceof ImageRefused && error.rule === 0);
+    }
+    await assert.rejects(Session.behind(Buffer.concat([image, Buffer.from('stats\n')])), WrongText);
+  } finally {
+    rmSync(folder, { recursive: true });
+  }
+});
+
+test('a session on a program says that it tells of no image', built, () => withList(async (session) => {
+  await assert.rejects(session.dump(0), (error) => error instanceof WrongText && /behind an image/.test(error.message));
+  await assert.rejects(session.changed(0, 'first'), WrongText);
+}));

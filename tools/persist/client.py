@@ -6,13 +6,14 @@
         session.query(typed.number, 'text')         # Answer(printed=(104,))
         session.dump(typed.number).records          # what version 1 holds, record by record
 
-A session is given a program text without a separator line. Each of its commands sends one line of a script and returns the reply
-to it. Traps and refusals are replies too; `must` makes errors of them. Errors of their own say that the program was refused, that
-the process ended, and that something was written that is no reply.
+A session is given a program text without a separator line, or an image: `Session(image='monday.image')` goes on from there. Each of its
+commands sends one line of a script and returns the reply to it. Traps and refusals are replies too; `must` makes errors of them. Errors
+of their own say that the program or the image was refused, that the process ended, and that something was written that is no reply.
 
 This module is tested (tools/tests) and not proved: a reply says what the program wrote. It needs python3.8 and nothing else.
 """
 
+import contextlib
 import os
 import re
 import shutil
@@ -20,35 +21,27 @@ import signal
 import subprocess
 import threading
 from dataclasses import dataclass
-from typing import Any, Callable, Dict, Iterable, List, Optional, Pattern, Sequence, Tuple, Union
+from typing import Any, Callable, Dict, Iterable, List, NamedTuple, Optional, Pattern, Sequence, Tuple, Union
+
+from .errors import (
+    INPUT_LIMIT, CutOff, Ended, ImageRefused, NoAnswer, NoProgram, PersistError, ProgramRefused, UnknownReply, WrongImage, WrongText)
+from .image import Image, is_image, read_bytes, split_image
 
 __all__ = [
-    'Answer', 'Budget', 'Changed', 'Commands', 'Content', 'CutOff', 'Done', 'Dropped', 'Dump', 'Ended', 'Field', 'History', 'Never',
-    'NoAnswer', 'NoProgram', 'NotCarriedOut', 'Opened', 'Outline', 'PersistError', 'Pointer', 'ProgramRefused', 'Record', 'Refused', 'Reply',
-    'Running', 'Session', 'Stats', 'Trapped', 'UnknownReply', 'Version', 'Versions', 'WrongText', 'answer_to', 'encoded', 'lines_for', 'must',
-    'program_path', 'read_answer', 'read_dump', 'read_outline', 'read_reply', 'read_text', 'read_versions', 'split_input',
-    'take_reply', 'text_of', 'words_of', 'write_text', 'written_by',
+    'INPUT_LIMIT', 'Answer', 'Budget', 'Changed', 'Commands', 'Content', 'CutOff', 'Done', 'Dropped', 'Dump', 'Ended', 'Field', 'History',
+    'ImageRefused', 'Never', 'NoAnswer', 'NoProgram', 'NotCarriedOut', 'Opened', 'Outline', 'PersistError', 'Pointer', 'ProgramRefused',
+    'Record', 'Refused', 'Reply', 'Running', 'Session', 'Stats', 'Trapped', 'UnknownReply', 'Version', 'Versions', 'WrongImage', 'WrongText',
+    'answer_to', 'descriptors_of', 'encoded', 'is_last', 'lines_for', 'must', 'program_path', 'read_answer', 'read_dump', 'read_outline', 'read_reply',
+    'read_text', 'read_versions', 'session_on', 'split_input', 'take_reply', 'text_of', 'words_of', 'write_text', 'written_by',
 ]
 
-# The most bytes of an input that the program reads.
-INPUT_LIMIT = 67_108_864
 # A line of no form. Its reply shows the end of what was written before it.
 MARK = '.'
 MARKED = 'refused line'
 # Seconds that a process is given to end when its input is closed or it is told to.
 PATIENCE = 10
-
-STATUSES = {
-    0: 'the input was read to its end',
-    1: 'a read failed',
-    2: 'a write failed',
-    3: 'the words are none that the program knows',
-    4: 'the program has a fault',
-    5: f'the input has more than {INPUT_LIMIT:,} bytes',
-    6: 'there was no memory',
-    7: 'the system did not give the words',
-    125: 'the program could not be built',
-}
+# The most bytes of an input whose first part is an image: more than any memory holds.
+SERVED_LIMIT = 1 << 62
 
 
 # The replies.
@@ -192,7 +185,7 @@ class Record:
 
 
 @dataclass(frozen=True)
-class Dump:
+class Dump(Reply):
     """The records of a version that its roots lead to; `records[n]` has number n, and 0 is the root record."""
     records: Tuple[Record, ...]
 
@@ -201,7 +194,7 @@ class Dump:
 
 
 @dataclass(frozen=True)
-class Changed:
+class Changed(Reply):
     """The nearest version, on the way to version 0, that changed what the path reads."""
     version: int
 
@@ -210,62 +203,14 @@ class Changed:
 
 
 @dataclass(frozen=True)
-class Never:
+class Never(Reply):
     """No version on the way to version 0 changed what the path reads."""
 
     def __str__(self) -> str:
         return 'never'
 
 
-# What goes wrong.
-
-class PersistError(Exception):
-    """What every error of this module is."""
-
-
-class NoProgram(PersistError):
-    """The program to run is not found."""
-
-
-class ProgramRefused(PersistError):
-    """The program has a fault: its kind, its line from 1, and what stands in that line."""
-
-    def __init__(self, kind: str, line: int, text: str) -> None:
-        super().__init__(f'refused {kind} at {line}' + (f': {text.strip()}' if text.strip() else ''))
-        self.kind, self.line, self.text = kind, line, text
-
-
-class Ended(PersistError):
-    """The process ended before it replied. The status is negative where a signal ended it."""
-
-    def __init__(self, status: int) -> None:
-        super().__init__(f'the program ended with status {status}, {meaning_of(status)}')
-        self.status = status
-
-
-class NoAnswer(PersistError):
-    """A question about the history was not answered: the words that were asked, and the status of their process."""
-
-    def __init__(self, words: Sequence[str], status: int) -> None:
-        super().__init__(f'`{" ".join(words)}` ended with status {status}, {meaning_of(status)}')
-        self.words, self.status = tuple(words), status
-
-
-class UnknownReply(PersistError):
-    """A text that is no reply to what was sent."""
-
-    def __init__(self, text: str) -> None:
-        super().__init__(f'{text[:200]!r} is no reply to what was sent')
-        self.text = text
-
-
-class CutOff(PersistError):
-    """An earlier command was interrupted before its reply was read; only `restart` and `end` go on from here."""
-
-
-class WrongText(PersistError, ValueError):
-    """A command of several lines, or a program that contains a separator line."""
-
+# Traps and refusals as errors.
 
 class NotCarriedOut(PersistError):
     """`must` was handed a trap or a refusal."""
@@ -273,13 +218,6 @@ class NotCarriedOut(PersistError):
     def __init__(self, reply: Reply) -> None:
         super().__init__(str(reply))
         self.reply = reply
-
-
-def meaning_of(status: int) -> str:
-    """What a status says, in words."""
-    if status < 0:
-        return f'by signal {-status}'
-    return STATUSES.get(status, 'which is none of its own')
 
 
 def must(reply: Any) -> Any:
@@ -292,6 +230,7 @@ def must(reply: Any) -> Any:
 # Texts.
 
 SEPARATOR = re.compile(r'^%%[ \t\r]*$', re.MULTILINE)
+WORD = re.compile(r'[^ \t\r]+')
 
 
 def read_text(path: str) -> str:
@@ -325,13 +264,15 @@ def split_input(text: str) -> Tuple[str, List[str]]:
 
 def words_of(line: str) -> List[str]:
     """The words of a script line; none where the line has no reply."""
-    words = [word for word in line.replace('\t', ' ').replace('\r', ' ').split(' ') if word]
+    words = WORD.findall(line)
     return [] if words and words[0].startswith('#') else words
 
 
 def text_of(reply: Optional[Reply]) -> str:
     """A reply as the program writes it; None, of a line without one, is nothing."""
-    return '' if reply is None else ''.join(f'| {number}\n' for number in reply.printed) + f'{reply}\n'
+    if reply is None:
+        return ''
+    return ''.join(f'| {number}\n' for number in reply.printed) + f'{reply}\n' + ('ok\n' if isinstance(reply, Dump) else '')
 
 
 def number_in(text: str, pattern: str) -> int:
@@ -388,7 +329,14 @@ def read_versions(lines: Sequence[str]) -> Versions:
 
 def lines_for(line: str) -> str:
     """What is sent for a command. A list of versions has no last line of its own, so a mark is sent behind it."""
-    return f'{line}\n{MARK}\n' if words_of(line) == ['versions'] else f'{line}\n'
+    return f'{line}\n{MARK}\n' if 'versions' in line and words_of(line) == ['versions'] else f'{line}\n'
+
+
+def is_last(words: Sequence[str], line: str) -> bool:
+    """Whether a line is the last one of the reply to a command with these words, or of the mark behind it."""
+    if words[0] == 'dump':
+        return not line[:1].isdigit()
+    return line == MARKED if words == ['versions'] else not line.startswith('| ')
 
 
 def take_reply(line: str, next_line: Callable[[], str]) -> Reply:
@@ -396,11 +344,19 @@ def take_reply(line: str, next_line: Callable[[], str]) -> Reply:
     words = words_of(line)
     if words == ['versions']:
         return read_versions(list(iter(next_line, MARKED)))
+    records: List[str] = []
     printed: List[int] = []
     last = next_line()
-    while last.startswith('| '):
-        printed.append(number_in(last, r'\| (-?\d+)'))
+    while not is_last(words, last):
+        if words[0] == 'dump':
+            records.append(last)
+        else:
+            printed.append(number_in(last, r'\| (-?\d+)'))
         last = next_line()
+    if words[0] == 'dump' and last == 'ok':
+        return read_dump(records)
+    if words[0] == 'changed' and last != MARKED and not printed:
+        return read_answer([last])
     return read_reply(words[0], printed, last)
 
 
@@ -497,12 +453,13 @@ def read_outline(canonical: str) -> Outline:
 class History:
     """What commands and their replies made: the version tree, what made each version, and the lines that make it again."""
 
-    def __init__(self) -> None:
+    def __init__(self, parents: Sequence[Optional[int]] = (None,)) -> None:
+        """Begins with version 0, or with the versions of an image, of which is not known what made them."""
         # All lines that were carried out and may have changed something, in order.
         self.lines: List[str] = []
-        self.parents: List[Optional[int]] = [None]
+        self.parents: List[Optional[int]] = list(parents)
         # The calls of the run that made each version, as the script has them.
-        self.calls: List[Tuple[str, ...]] = [()]
+        self.calls: List[Tuple[str, ...]] = [()] * len(parents)
         # The open runs by number, each with its version and its calls so far.
         self.open_runs: Dict[int, Tuple[int, List[str]]] = {}
 
@@ -518,7 +475,7 @@ class History:
 
     def note(self, line: str, reply: Optional[Reply]) -> None:
         """Adds a line that was answered by this reply."""
-        if reply is None or isinstance(reply, (Answer, Refused, Stats, Versions)):
+        if reply is None or isinstance(reply, (Answer, Changed, Dump, Never, Refused, Stats, Versions)):
             return
         words = words_of(line)
         if words[0] == 'query':
@@ -593,6 +550,15 @@ def answer_to(words: Sequence[str], given: str, path: str) -> str:
     return written.decode('latin-1')
 
 
+def descriptors_of(*streams: Any) -> Tuple[int, ...]:
+    """The descriptors of those streams that are open."""
+    found = []
+    for stream in streams:
+        with contextlib.suppress(ValueError):
+            found.append(stream.fileno())
+    return tuple(found)
+
+
 class Commands:
     """One method a command, over one that sends a line of the script."""
 
@@ -645,6 +611,48 @@ class Commands:
         """What all runs made and wrote: `Stats`."""
         return self._command('stats')
 
+    def dump(self, version: int) -> Union[Dump, Refused]:
+        """The records of a version that its roots lead to."""
+        reply = self._command('dump', version)
+        assert isinstance(reply, (Dump, Refused))
+        return reply
+
+    def changed(self, version: int, path: str) -> Union[Changed, Never, Refused]:
+        """Which version, on the way from this one to version 0, changed what a path such as `first.next.key` reads."""
+        reply = self._command('changed', version, path)
+        assert isinstance(reply, (Changed, Never, Refused))
+        return reply
+
+
+class Front(NamedTuple):
+    """What a process is given first, the word that it is started by, and what it holds then."""
+    word: str
+    data: bytes
+    program: str
+    parents: Sequence[Optional[int]] = (None,)
+    # Whether a script may follow: an image that is cut off would take it for the rest.
+    is_whole: bool = True
+    # How many bytes stand behind the image.
+    behind: int = 0
+
+
+def front_of_program(program: str, word: str) -> Front:
+    """That of a program's text."""
+    if SEPARATOR.search(program):
+        raise WrongText('the program has a separator line, which split_input takes out')
+    program = program if program.endswith('\n') or not program else program + '\n'
+    return Front(word, encoded(f'{program}%%\n'), program)
+
+
+def front_of_image(given: Union[str, 'os.PathLike[str]', bytes]) -> Front:
+    """That of an image, which the program judges."""
+    data = given if isinstance(given, bytes) else read_bytes(os.fspath(given))
+    try:
+        image = Image(data)
+    except WrongImage:
+        return Front('serve', data, '', is_whole=False)
+    return Front('serve', data[:image.length], image.text, image.parents, behind=len(data) - image.length)
+
 
 class Session(Commands):
     """A program that runs, with what it was given so far. Several threads may send commands; each waits for its own reply.
@@ -653,14 +661,16 @@ class Session(Commands):
     the session is then cut off until `restart` has carried the history out again.
     """
 
-    def __init__(self, program: str, path: Optional[str] = None, word: str = 'run') -> None:
-        """Starts a process on a program text, which ends with a line feed or is given one. `word` may be `line` or `replay`."""
-        if SEPARATOR.search(program):
-            raise WrongText('the program has a separator line, which split_input takes out')
-        self.program = program if program.endswith('\n') or not program else program + '\n'
+    def __init__(self, program: Optional[str] = None, path: Optional[str] = None, word: str = 'run',
+                 image: Union[str, 'os.PathLike[str]', bytes, None] = None) -> None:
+        """Starts a process on a program text, which ends with a line feed or is given one; `word` may be `line` or `replay`. Or on an image,
+        given by the path of its file or as bytes; then the program is the text in it."""
+        if (program is None) is (image is None):
+            raise TypeError('a session is given either a program or an image')
         self.path = path or program_path()
-        self.word = word
-        self.history = History()
+        self._front = front_of_program(program or '', word) if image is None else front_of_image(image)
+        # The program's text, whose lines the traps name.
+        self.program = self._front.program
         self._outline: Optional[Outline] = None
         self._lock = threading.RLock()
         self._start()
@@ -677,32 +687,50 @@ class Session(Commands):
         return self.history.newest
 
     @property
+    def is_served(self) -> bool:
+        """Whether it began with an image."""
+        return self._front.word == 'serve'
+
+    @property
     def pid(self) -> int:
         """The number of the process, which is also that of its group."""
         return self._process.pid
 
+    def descriptors(self) -> Tuple[int, ...]:
+        """What leads to the process, as long as it is not ended."""
+        return descriptors_of(self._process.stdin, self._process.stdout)
+
     # Beginning and end.
 
     def _start(self) -> None:
+        self.history = History(self._front.parents)
         self._process = subprocess.Popen(
-            [self.path, self.word], stdin=subprocess.PIPE, stdout=subprocess.PIPE, start_new_session=True)
+            [self.path, self._front.word], stdin=subprocess.PIPE, stdout=subprocess.PIPE, start_new_session=True)
         # How many bytes may still be sent before the program ends with status 5.
-        self.room = INPUT_LIMIT
+        self.room = SERVED_LIMIT if self.is_served else INPUT_LIMIT
         self._status: Optional[int] = None
         # Whether a reply is still unread.
         self._cut_off = True
         try:
-            # An accepted program writes nothing, so the reply to a line of no form tells that it was accepted.
-            self._send(encoded(f'{self.program}%%\n{MARK}\n'))
+            # What is accepted is answered by nothing, so the reply to a line of no form tells that it was accepted.
+            self._send(self._front.data)
+            if self._front.is_whole:
+                self._send(encoded(f'{MARK}\n'))
+            else:
+                self._close_input()
             first = self._line()
             if first != MARKED:
                 raise self._fault(first)
+            if self._front.behind:
+                raise WrongText(f'{self._front.behind:,} bytes stand behind the image, which split_image takes out')
         except BaseException:
             self.end()
             raise
         self._cut_off = False
 
     def _fault(self, first: str) -> PersistError:
+        if self.is_served:
+            return ImageRefused(number_in(first, r'refused image (\d)'))
         found = re.fullmatch(r'refused ([a-z-]+) at (\d+)', first, re.ASCII)
         if not found:
             return UnknownReply(first)
@@ -719,15 +747,19 @@ class Session(Commands):
 
     def _wait(self) -> int:
         """Closes the input and waits for the end."""
-        assert self._process.stdin and self._process.stdout
-        try:
-            self._process.stdin.close()
-        except BrokenPipeError:
-            pass
+        assert self._process.stdout
+        self._close_input()
         try:
             return wait_for(self._process)
         finally:
             self._process.stdout.close()
+
+    def _close_input(self) -> None:
+        assert self._process.stdin
+        try:
+            self._process.stdin.close()
+        except BrokenPipeError:
+            pass
 
     def restart(self) -> None:
         """Ends the process, also in the middle of a command, and carries the history out again in a new one.
@@ -740,7 +772,6 @@ class Session(Commands):
             self.end()
             before = self.history
             try:
-                self.history = History()
                 self._start()
                 for line in before.lines:
                     self.command(line)
@@ -792,19 +823,36 @@ class Session(Commands):
             self._cut_off = False
             return replies
 
-    # Questions that the program answers at the end of an input, so each carries the history out in a process of its own.
+    # What the history is, and questions about it.
+
+    def _given(self) -> bytes:
+        with self._lock:
+            return self._front.data + encoded(''.join(f'{line}\n' for line in self.history.lines))
 
     def input(self) -> str:
-        """The history as an input: the program, the separator line, and the lines that make the versions and open runs again."""
-        with self._lock:
-            return ''.join([self.program, '%%\n', *(f'{line}\n' for line in self.history.lines)])
+        """The history as an input: the program, the separator line, and the lines that make the versions and open runs again. Behind an
+        image it is that image in the place of the program and the separator line, as `write_text` writes it byte by byte."""
+        return self._given().decode('utf-8', 'surrogateescape')
+
+    def packed(self) -> bytes:
+        """An image of the history, by a process of its own. Open runs are not in it."""
+        word = 'repack' if self.is_served else 'pack'
+        status, image = written_by([word], self._given(), self.path)
+        if status != 0:
+            raise NoAnswer([word], status)
+        return image
 
     def dump(self, version: int) -> Union[Dump, Refused]:
-        """The records of a version that its roots lead to."""
+        """The records of a version that its roots lead to. Behind an image the process itself is asked; else one of its own, which is given
+        the history so far."""
+        if self.is_served:
+            return super().dump(version)
         return read_dump(answer_to(['dump', str(version)], self.input(), self.path).splitlines())
 
     def changed(self, version: int, path: str) -> Union[Changed, Never, Refused]:
-        """Which version, on the way from this one to version 0, changed what a path such as `first.next.key` reads."""
+        """Which version, on the way from this one to version 0, changed what a path such as `first.next.key` reads. It is asked as `dump`."""
+        if self.is_served:
+            return super().changed(version, path)
         return read_answer(answer_to(['changed', str(version), path], self.input(), self.path).splitlines())
 
     def canonical(self) -> str:
@@ -816,3 +864,16 @@ class Session(Commands):
         if self._outline is None:
             self._outline = read_outline(self.canonical())
         return self._outline
+
+
+def session_on(given: bytes, path: Optional[str] = None) -> Tuple[Session, List[str]]:
+    """A session on what an input begins with, a program or an image, and the lines of its script, which were not sent."""
+    if is_image(given):
+        try:
+            image, script = split_image(given)
+        except WrongImage:
+            # The program tells why.
+            image, script = given, []
+        return Session(path=path, image=image), script
+    program, script = split_input(given.decode('utf-8', 'surrogateescape'))
+    return Session(program, path), script

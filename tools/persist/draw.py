@@ -6,7 +6,8 @@
     python3 tools/persist_draw.py records V     < INPUT > records.svg    the records of version V, with the names of their fields
     python3 tools/persist_draw.py records V dot < INPUT > records.dot    the same for Graphviz
 
-INPUT is what `persist run` takes; PERSIST names another build of the program. The status is 0, 1 where there is nothing to draw, and
+INPUT is what `persist run` takes, or what `persist serve` does: an image, with a script behind it or none. PERSIST names another build of
+the program. The status is 0, 1 where there is nothing to draw, and
 2 for other words. A history of more versions than can be looked at is folded: a fold stands for versions that hang together, and
 says how many they are. No SVG is larger than 200 KB, and none needs another program. Tested (tools/tests), not proved.
 """
@@ -19,7 +20,7 @@ from html import escape
 from typing import Callable, Dict, Iterable, List, Optional, Sequence, Set, TextIO, Tuple, Union
 
 from .client import (
-    Content, Dump, History, Outline, PersistError, Pointer, Record, Refused, Session, Versions, split_input)
+    Content, Dump, History, Outline, PersistError, Pointer, Record, Refused, Session, Versions, session_on)
 
 Parents = Sequence[Optional[int]]
 Label = Callable[[int], str]
@@ -484,10 +485,9 @@ def records_svg(dump: Dump, outline: Outline, most: int = RECORDS_SHOWN) -> str:
 
 # The words.
 
-def carried_out(text: str) -> Tuple[History, Session]:
+def carried_out(given: bytes) -> Tuple[History, Session]:
     """A session to which a whole input was given. The one who asks ends it."""
-    program, script = split_input(text)
-    session = Session(program)
+    session, script = session_on(given)
     try:
         for line in script:
             session.command(line)
@@ -497,9 +497,9 @@ def carried_out(text: str) -> Tuple[History, Session]:
     return session.history, session
 
 
-def draw_tree(text: str, form: str) -> str:
+def draw_tree(given: bytes, form: str) -> str:
     """The version tree of an input as `text`, `svg` or `dot`."""
-    history, session = carried_out(text)
+    history, session = carried_out(given)
     with session:
         tree = session.versions()
         assert isinstance(tree, Versions)
@@ -513,9 +513,9 @@ def short(history: History) -> Label:
     return lambda version: history.label(version, 40)
 
 
-def draw_records(text: str, version: int, form: str) -> Union[str, Refused]:
+def draw_records(given: bytes, version: int, form: str) -> Union[str, Refused]:
     """The records of a version of an input as `svg` or `dot`."""
-    _, session = carried_out(text)
+    _, session = carried_out(given)
     with session:
         dump = session.dump(version)
         if isinstance(dump, Refused):
@@ -538,11 +538,11 @@ def main(words: Sequence[str]) -> int:
         print(__doc__, file=sys.stderr)
         return 2
     try:
-        text = sys.stdin.buffer.read().decode('utf-8', 'surrogateescape')
+        given = sys.stdin.buffer.read()
         if asked[0] == 'records':
-            drawing = draw_records(text, int(asked[1]), form)
+            drawing = draw_records(given, int(asked[1]), form)
         else:
-            drawing = draw_tree(text, 'text' if asked == ['text'] else form)
+            drawing = draw_tree(given, 'text' if asked == ['text'] else form)
     except (PersistError, OSError) as fault:
         print(f'persist_draw: {fault}', file=sys.stderr)
         return 1

@@ -16,13 +16,12 @@ import bisect
 import contextlib
 import json
 import os
-import sys
 import time
-from array import array
 from dataclasses import dataclass
 from typing import Any, Dict, Iterator, List, NamedTuple, Optional, Sequence, Tuple, Union
 
-from .client import History, Outline, PersistError
+from .client import History, Outline
+from .image import Image
 
 __all__ = ['Difference', 'Names', 'Note', 'Notes', 'Past', 'Record', 'Records', 'Value', 'difference', 'difference_text', 'field_names',
            'is_name', 'log_text', 'moment', 'names_text', 'show_text']
@@ -66,47 +65,22 @@ def field_names(outline: Outline, type_name: Optional[str]) -> List[Tuple[str, b
     return found
 
 
-class WrongImage(PersistError):
-    """Bytes that are no image."""
-
-
 class Past:
     """All versions of a store, from its image. The image is taken as the program writes it; a damaged one is an error or gives nonsense."""
 
     def __init__(self, image: bytes, outline: Outline) -> None:
-        if image[:8] != b'PSTIMG01' or len(image) < 16:
-            raise WrongImage('the bytes do not begin as an image does')
-        end = 16 + int.from_bytes(image[8:16], 'big')
-        self.text = image[16:end].decode('latin-1')
-        self._numbers = array('q')
-        self._numbers.frombytes(image[end:])
-        if sys.byteorder == 'little':
-            self._numbers.byteswap()
+        it = Image(image)
+        self.text, self.parents, self._numbers, self._nodes = it.text, it.parents, it.numbers, it.nodes
+        first, end = it.versions.start, it.versions.stop
+        self._begins = self._numbers[first + 2:end:4]
+        self._made_by = {run: version for version, run in enumerate(self._numbers[first + 1:end:4])}
         self._slots = [field_names(outline, None)] + [field_names(outline, name) for name in outline.records]
         self._types = ['root', *outline.records]
-        # Behind the budget, the next run, three counts and the number of places.
-        after = self._read_versions(6)
-        self._read_nodes(after)
+        self._read_root()
 
-    def _read_versions(self, at: int) -> int:
-        """The versions, each of four numbers; gives where they end."""
+    def _read_root(self) -> None:
+        """The nodes of the root record, with the places from which on they live."""
         numbers = self._numbers
-        count, at = numbers[at], at + 1
-        end = at + 4 * count
-        self.parents: List[Optional[int]] = [None, *numbers[at + 4:end:4]]
-        self._begins = numbers[at + 2:end:4]
-        self._made_by = {run: version for version, run in enumerate(numbers[at + 1:end:4])}
-        return end
-
-    def _read_nodes(self, at: int) -> None:
-        """Where each node begins, and the nodes of the root record with the places from which on they live."""
-        numbers = self._numbers
-        count, at = numbers[at], at + 1
-        self._nodes = array('q')
-        for _ in range(count):
-            self._nodes.append(at)
-            at += 7 + numbers[at + 6]
-            at += 1 + 3 * numbers[at]
         self._root_nodes, self._root_begins = [0], [numbers[self._nodes[0] + 3]]
         while numbers[self._nodes[self._root_nodes[-1]] + 5]:
             self._root_nodes.append(numbers[self._nodes[self._root_nodes[-1]] + 5] - 1)

@@ -11,40 +11,41 @@ What it promises, whenever the process or the machine stops, in the midst of a c
 4. Behind a write or an fsync that failed no command is answered any more; opening the folder again tells what stands.
 5. A checkpoint stands whole or not at all. Where it fails, the image and the log before it stand.
 6. An image that breaks a rule, a log of another image, and one with damage in its midst are refused, and nothing is changed.
-7. No two processes have one folder, and all threads of a process may send commands at once.
+7. No two processes have one folder, also where its lock is removed, and all threads of a process may send commands at once. In a process
+   that was forked from the one that opened it a journal answers nothing, and does nothing.
 It promises nothing of a disk that says of bytes that they are kept and loses them, or that changes the last group of a log.
 
 This module is tested (tools/tests) and not proved. It needs python3.8 and nothing else, and a system with `flock`.
 
 A folder holds `program`, its text in the canonical form, and `log.0`; from the first checkpoint on `image.N` and `log.N` in their place; and
 `lock`. A log is a script: its first line says which image it follows, the commands come in groups as they were written, and behind each
-group stands a comment with a sum of all commands so far. So `cat image.3 log.3 | persist resume` carries it out.
+group stands a comment with a sum of all commands so far. So `cat image.3 log.3 | persist serve` carries it out. Whatever stands there, the
+journal's process is `serve`: before the first checkpoint behind an image that `pack` makes of the program.
 """
 
 import contextlib
 import enum
+import errno
 import fcntl
 import os
 import re
 import sys
 import threading
+import weakref
 import zlib
-from typing import Any, Callable, Iterator, List, NamedTuple, Optional, Sequence, Union
+from typing import Any, Callable, Dict, Iterator, List, NamedTuple, Optional, Sequence, Tuple, Union
 
 from .client import (
-    INPUT_LIMIT, MARK, MARKED, Commands, Ended, Opened, PersistError, Refused, Reply, Session, UnknownReply, WrongText, answer_to,
-    encoded, lines_for, program_path, read_text, split_input, take_reply, text_of, words_of, written_by)
+    Commands, Ended, ImageRefused, Opened, PersistError, Refused, Reply, Session, WrongText, answer_to, descriptors_of, encoded, program_path,
+    read_text, split_input, text_of, words_of, written_by)
+from .image import read_bytes
 
-__all__ = ['Broken', 'CheckpointFailed', 'Damaged', 'Disk', 'Full', 'Journal', 'JournalError', 'Locked', 'NoStore', 'RunsAreOpen']
+__all__ = ['Broken', 'CheckpointFailed', 'Damaged', 'Disk', 'Journal', 'JournalError', 'Locked', 'NoStore', 'RunsAreOpen']
 
 # The commands that change a history, and stand in the log where they were not refused.
 CHANGES = ('run', 'open', 'call', 'step', 'close', 'drop', 'budget')
 # The most bytes of a command, which needs a few hundred, and the most commands that are carried out together.
 LONGEST, MOST_TOGETHER = 1024, 32
-# Bytes that are left free behind image and log, so that a group of commands always fits in an input of the program.
-ROOM = 2 * LONGEST * MOST_TOGETHER
-# How many bytes image and log may have together before only queries are taken: one more group of changes fits behind them.
-FULL = INPUT_LIMIT - 2 * ROOM
 
 
 class JournalError(PersistError):
@@ -65,10 +66,6 @@ class Damaged(JournalError):
     def __init__(self, text: str, rule: Optional[int] = None) -> None:
         super().__init__(text)
         self.rule = rule
-
-
-class Full(JournalError):
-    """Image and log have no room for more changes, or an image would have none; queries are still answered."""
 
 
 class RunsAreOpen(JournalError):
@@ -139,12 +136,6 @@ def put(disk: Disk, path: str, data: bytes) -> Any:
     return file
 
 
-def read_bytes(path: str) -> bytes:
-    """The bytes of a file."""
-    with open(path, 'rb') as file:
-        return file.read()
-
-
 # The log.
 
 class Groups(NamedTuple):
@@ -157,6 +148,16 @@ class Groups(NamedTuple):
 def first_line(number: int, base: bytes) -> bytes:
     """The first line of the log behind an image, or behind the program's text, which is number 0."""
     return b'# log %d behind %08x\n' % (number, zlib.crc32(base))
+
+
+def hides_group(data: bytes, at: int, total: int) -> bool:
+    """Whether the end of a log, from this byte on, holds a group that was whole: its sum stands there with something behind it, and the line
+    feed before it, that behind it, or the sign between is damaged."""
+    for begin in range(at + 1, len(data) - 9):
+        if data[begin + 1:begin + 9] == b'%08x' % total:
+            return True
+        total = zlib.crc32(data[begin - 1:begin], total)
+    return False
 
 
 def read_groups(data: bytes, begin: bytes, name: str) -> Groups:
@@ -178,6 +179,8 @@ def read_groups(data: bytes, begin: bytes, name: str) -> Groups:
             break
         lines += [line.decode('utf-8', 'surrogateescape') for line in group]
         length, total, group = at, total_here, []
+    if hides_group(data, length, total):
+        raise Damaged(f'{name} has a damaged group behind byte {length}')
     return Groups(lines, length, total)
 
 
@@ -198,6 +201,10 @@ class Log:
         self._disk.sync(self._file)
         self.size += len(data)
 
+    def descriptors(self) -> Tuple[int, ...]:
+        """What leads to the file, where it is open."""
+        return descriptors_of(self._file)
+
     def close(self) -> None:
         """Closes the file."""
         self._file.close()
@@ -210,72 +217,45 @@ def is_kept(line: str, reply: Optional[Reply]) -> bool:
     return words_of(line)[0] in CHANGES and not isinstance(reply, Refused)
 
 
-def one_by_one(text: str) -> Callable[[], str]:
-    """What gives the lines of a text, one at a time."""
-    lines = iter(text.split('\n'))
+def canonical(program: str, path: str) -> bytes:
+    """A program's text in its canonical form, whose lines the traps name."""
+    # Where it is refused, a session says why.
+    Session(program, path).end()
+    return encoded(answer_to(['check'], program, path))
 
-    def next_line() -> str:
-        for line in lines:
-            return line
-        raise UnknownReply('')
-    return next_line
+
+def image_of(text: bytes, path: str) -> bytes:
+    """The image of a program of which nothing was carried out yet."""
+    status, image = written_by(['pack'], text, path)
+    if status == 4:
+        raise Damaged(f'the program is refused: {image.decode("latin-1").strip()}')
+    if status != 0:
+        raise Ended(status)
+    return image
 
 
 class Live:
-    """A store whose process goes on: that of `run`, which was given the program's text."""
+    """A store as a process has it: that of `serve`, behind its image."""
 
-    def __init__(self, program: bytes, path: str) -> None:
-        self._session = Session(program.decode(), path)
-
-    @property
-    def room(self) -> int:
-        """How many bytes the process still takes."""
-        return self._session.room
+    def __init__(self, image: bytes, path: str) -> None:
+        try:
+            self._session = Session(path=path, image=image)
+        except ImageRefused as error:
+            raise Damaged(str(error), error.rule) from None
+        self.program = self._session.program
 
     def carry_out(self, lines: List[str]) -> List[Reply]:
         """The replies to some commands, each of which has one."""
         groups = (lines[at:at + MOST_TOGETHER] for at in range(0, len(lines), MOST_TOGETHER))
         return [reply for group in groups for reply in self._session.commands(group)]
 
-    def moved_behind(self, image: bytes) -> 'Live':
-        """The same store behind a checkpoint: the process holds all that its image does."""
-        return self
+    def descriptors(self) -> Tuple[int, ...]:
+        """What leads to the process."""
+        return self._session.descriptors()
 
     def end(self) -> None:
         """Ends the process."""
         self._session.end()
-
-
-class Behind:
-    """A store behind an image. `resume` answers when its input ends, so each group of commands has a process of its own, which is given
-    image and log once more."""
-
-    room = INPUT_LIMIT
-
-    def __init__(self, image: bytes, path: str) -> None:
-        self._input, self._path = image, path
-
-    def carry_out(self, lines: List[str]) -> List[Reply]:
-        """The replies to some commands, each of which has one."""
-        # No line of the log is refused, so the first one that is shows where the replies to the new lines begin.
-        asked = encoded(f'{MARK}\n' + ''.join(map(lines_for, lines)))
-        status, written = written_by(['resume'], self._input + asked, self._path)
-        if status == 4:
-            text = written.decode('latin-1').strip()
-            raise Damaged(text, int(text.split()[-1]))
-        if status != 0:
-            raise Ended(status)
-        told = one_by_one(written.decode('latin-1').partition(f'{MARKED}\n')[2])
-        replies = [take_reply(line, told) for line in lines]
-        self._input += encoded(''.join(f'{line}\n' for line, reply in zip(lines, replies) if is_kept(line, reply)))
-        return replies
-
-    def moved_behind(self, image: bytes) -> 'Behind':
-        """The same store behind a checkpoint."""
-        return Behind(image, self._path)
-
-    def end(self) -> None:
-        """There is no process to end."""
 
 
 # The journal.
@@ -301,6 +281,21 @@ class Asked:
         return self.reply
 
 
+# The journals of this process that were not ended.
+OPENED: 'weakref.WeakSet[Journal]' = weakref.WeakSet()
+
+
+def let_go_of_all() -> None:
+    """In a process that was forked: lets go of the journals of the one before."""
+    nowhere = os.open(os.devnull, os.O_RDWR)
+    for journal in list(OPENED):
+        journal.let_go(nowhere)
+    OPENED.clear()
+    os.close(nowhere)
+
+
+os.register_at_fork(after_in_child=let_go_of_all)
+
 # What is told of a line of the log, and its reply.
 Heard = Callable[[str, Reply], None]
 
@@ -313,26 +308,70 @@ class Held(enum.Enum):
 
 
 # The files of a journal but its lock, also those that are not in place yet.
-OURS = re.compile(r'(?:program|image\.(\d+)|log\.\d+)(\.new)?')
+OURS = re.compile(r'(?:program|image\.(?P<image>\d+)|log\.(?P<log>\d+))(?P<new>\.new)?')
+
+
+def files_in(folder: str, kind: str) -> Dict[int, str]:
+    """The images or logs of a folder that are in place, by number. The image of number 0 is the program's text."""
+    names = os.listdir(folder) if os.path.isdir(folder) else []
+    found = [it for it in map(OURS.fullmatch, names) if it and not it['new'] and (it['log'] is None) is (kind == 'image')]
+    return {int(it[kind] or 0): os.path.join(folder, it[0]) for it in found}
 
 
 def newest_in(folder: str) -> Optional[int]:
     """The number of the image that stands in a folder, 0 where it is the program's text, and None where there is neither."""
-    names = os.listdir(folder) if os.path.isdir(folder) else []
-    numbers = [int(found[1] or 0) for found in map(OURS.fullmatch, names)
-               if found and not found[2] and not found[0].startswith('log')]
-    return max(numbers, default=None)
+    return max(files_in(folder, 'image'), default=None)
 
 
-def locked(folder: str) -> Any:
-    """The lock of a folder, which the system takes back when the process ends. Its file is never removed."""
-    file = open(os.path.join(folder, 'lock'), 'ab')
-    try:
-        fcntl.flock(file, fcntl.LOCK_EX | fcntl.LOCK_NB)
-    except OSError:
-        file.close()
-        raise Locked(f'{folder} is kept by another process') from None
-    return file
+def standing_in(folder: str) -> Optional[int]:
+    """The same; where the image of a log is lost, the folder is `Damaged`. What is not lost is a log without commands behind the newest one:
+    that of a checkpoint, or of a new folder, that did not come to its end."""
+    newest = newest_in(folder)
+    next_one = 0 if newest is None else newest + 1
+    for number, path in sorted(files_in(folder, 'log').items()):
+        if number > next_one or (number == next_one and holds_commands(path)):
+            raise Damaged(f'{path} is there, and its {"image" if number else "program"} is missing')
+    return newest
+
+
+def holds_commands(log: str) -> bool:
+    """Whether something stands behind the first line of a log."""
+    with open(log, 'rb') as file:
+        file.readline()
+        return bool(file.read(1))
+
+
+class Lock:
+    """The lock of a folder, which the system takes back when the process ends. It is that of the folder itself and that of a file in it, which is
+    never removed; where the file is removed all the same, or the system gives folders no lock, the other one holds."""
+
+    def __init__(self, folder: str) -> None:
+        self.descriptors: List[int] = []
+        try:
+            for path, flags in ((folder, os.O_RDONLY), (os.path.join(folder, 'lock'), os.O_WRONLY | os.O_CREAT | os.O_APPEND)):
+                self.descriptors.append(os.open(path, flags | os.O_CLOEXEC, 0o666))
+                self._take(self.descriptors[-1], folder, path == folder)
+        except BaseException:
+            self.close()
+            raise
+
+    def _take(self, descriptor: int, folder: str, may_fail: bool) -> None:
+        try:
+            fcntl.flock(descriptor, fcntl.LOCK_EX | fcntl.LOCK_NB)
+        except OSError as error:
+            if error.errno in (errno.EWOULDBLOCK, errno.EACCES) or not may_fail:
+                raise Locked(f'{folder} is kept by another process') from None
+
+    def __enter__(self) -> 'Lock':
+        return self
+
+    def __exit__(self, *_: object) -> None:
+        self.close()
+
+    def close(self) -> None:
+        """Lets the folder go."""
+        while self.descriptors:
+            os.close(self.descriptors.pop())
 
 
 class Journal(Commands):
@@ -348,32 +387,31 @@ class Journal(Commands):
         self.folder, self.path, self.disk = os.path.abspath(folder), path or program_path(), disk or Disk()
         self._moved = threading.Condition()
         self._waiting: List[Asked] = []
-        self._at_work = self._ended = False
+        self._at_work = self._ended = self._forked = False
         self._held = Held.NOTHING
         self._broken: Optional[BaseException] = None
         self.open_runs: List[int] = []
         self._heard = heard
-        if newest_in(self.folder) is None:
+        if standing_in(self.folder) is None:
             raise NoStore(f'{folder} holds no store')
-        self._lock = locked(self.folder)
+        self._lock = Lock(self.folder)
         try:
             self._begin()
         except BaseException:
             self._lock.close()
             raise
+        OPENED.add(self)
 
     @classmethod
     def create(cls, folder: str, program: str, path: Optional[str] = None, disk: Optional[Disk] = None) -> 'Journal':
-        """Makes a folder, where there is none, and in it a store of this program's version 0. The text is kept in its canonical form, whose
-        lines the traps name."""
+        """Makes a folder, where there is none, and in it a store of this program's version 0. The text is kept in its canonical form."""
         path, disk, folder = path or program_path(), disk or Disk(), os.path.abspath(folder)
-        Session(program, path).end()
-        text = encoded(answer_to(['check'], program, path))
+        text = canonical(program, path)
         if not os.path.isdir(folder):
             os.mkdir(folder)
             disk.sync_folder(os.path.dirname(folder))
-        with locked(folder):
-            if newest_in(folder) is not None:
+        with Lock(folder):
+            if standing_in(folder) is not None:
                 raise NoStore(f'{folder} holds a store already')
             begin = first_line(0, text)
             Log(disk, os.path.join(folder, 'log.0'), begin, zlib.crc32(begin)).close()
@@ -393,10 +431,9 @@ class Journal(Commands):
 
     def _begin(self) -> None:
         """Carries the folder's log out behind its image, and then makes sure that all of it is on disk."""
-        number = newest_in(self.folder)
+        number = standing_in(self.folder)
         assert number is not None
         self._number = number
-        self._base_size = os.path.getsize(self._name('image', number))
         groups = self._start()
         data = read_bytes(self._name('log', number))
         # How many bytes of a group that was never answered stood at the end of the log.
@@ -415,11 +452,10 @@ class Journal(Commands):
         if not os.path.exists(name):
             raise Damaged(f'{name} is missing')
         data, begin = read_bytes(name), first_line(self._number, base)
-        process: Union[Live, Behind] = Behind(base, self.path) if self._number else Live(base, self.path)
+        # An image with damage is refused here by its rule, which tells more than the sum in the log.
+        process = Live(base if self._number else image_of(base, self.path), self.path)
         try:
             if not data.startswith(begin):
-                # The image may have damage; then its rule tells more.
-                process.carry_out([])
                 raise Damaged(f'{name} is the log of another image')
             groups = read_groups(data, begin, name)
             self.open_runs = []
@@ -445,17 +481,29 @@ class Journal(Commands):
     def end(self) -> None:
         """Waits for the commands or the checkpoint that are being carried out, ends the process, and lets go of the folder."""
         with self._moved:
-            self._moved.wait_for(lambda: self._held is Held.NOTHING or self._ended)
-            self._hold_all()
-            if self._ended:
+            self._await_hold()
+            if self._ended or self._forked:
                 return
-            self._ended = True
-            self._process.end()
-            self._log.close()
-            self._lock.close()
-            self._moved.notify_all()
+            with self._holding():
+                self._ended = True
+                OPENED.discard(self)
+                self._process.end()
+                self._log.close()
+                self._lock.close()
+
+    def let_go(self, nowhere: int) -> None:
+        """In a process that was forked: leads all that is shared with the process before to this other file, so that the folder and the program
+        stay with that one alone. Another thread may have been at work there, so nothing is waited for."""
+        self._forked, self._moved = True, threading.Condition()
+        for descriptor in (*self._lock.descriptors, *self._log.descriptors(), *self._process.descriptors()):
+            os.dup2(nowhere, descriptor, inheritable=False)
 
     # What stands on disk, for those who read beside it.
+
+    @property
+    def program(self) -> str:
+        """The program's text in its canonical form, whose lines the traps name."""
+        return self._process.program
 
     @property
     def number(self) -> int:
@@ -466,6 +514,11 @@ class Journal(Commands):
     def base(self) -> str:
         """The path of that image, or of the program's text."""
         return self._name('image', self._number)
+
+    def image(self) -> bytes:
+        """The image that the log follows: that of the folder, or that of its program."""
+        base = read_bytes(self.base)
+        return base if self._number else image_of(base, self.path)
 
     @property
     def log(self) -> str:
@@ -525,24 +578,27 @@ class Journal(Commands):
 
     def _next_group(self) -> List[Asked]:
         """The commands that are carried out next."""
-        group = [asked for asked in self._waiting if not self._has_to_wait(asked)][:MOST_TOGETHER]
-        if self._base_size + self._log.size > FULL:
-            for asked in group:
-                if asked.changes:
-                    asked.answer(Full('image and log have no room for another change; a checkpoint may make some'))
-        return [asked for asked in group if not asked.answered]
+        return [asked for asked in self._waiting if not self._has_to_wait(asked)][:MOST_TOGETHER]
 
     def _has_to_wait(self, asked: Asked) -> bool:
         return self._at_work or self._held is Held.ALL or (self._held is Held.CHANGES and asked.changes)
 
     @contextlib.contextmanager
-    def _working(self) -> Iterator[None]:
-        """Is at work, and has the lock not meanwhile but before and behind. What goes wrong breaks the journal, but for a checkpoint that
-        left all as it was."""
-        self._at_work = True
+    def _unlocked(self) -> Iterator[None]:
+        """Has the lock before and behind, and not meanwhile."""
         self._moved.release()
         try:
             yield
+        finally:
+            self._moved.acquire()
+
+    @contextlib.contextmanager
+    def _working(self) -> Iterator[None]:
+        """Is at work, without the lock. What goes wrong breaks the journal, but for a checkpoint that left all as it was."""
+        self._at_work = True
+        try:
+            with self._unlocked():
+                yield
         except CheckpointFailed:
             raise
         except BaseException as error:
@@ -551,9 +607,22 @@ class Journal(Commands):
                 self._fail_if_broken()
             raise
         finally:
-            self._moved.acquire()
             self._at_work = False
             self._moved.notify_all()
+
+    @contextlib.contextmanager
+    def _holding(self) -> Iterator[None]:
+        """Lets no other command begin, and waits until none is carried out any more. At the end they go on, whatever comes."""
+        try:
+            self._hold_all()
+            yield
+        finally:
+            self._held = Held.NOTHING
+            self._moved.notify_all()
+
+    def _await_hold(self) -> None:
+        """Waits until nobody holds commands back."""
+        self._moved.wait_for(lambda: self._held is Held.NOTHING or self._ended)
 
     def _hold_all(self) -> None:
         """Lets no command begin, and waits until none is carried out any more."""
@@ -561,6 +630,8 @@ class Journal(Commands):
         self._moved.wait_for(lambda: not self._at_work)
 
     def _fail_if_broken(self) -> None:
+        if self._forked:
+            raise JournalError(f'the journal of {self.folder} is that of the process from which this one was forked')
         if self._ended:
             raise JournalError(f'the journal of {self.folder} was ended')
         if self._broken:
@@ -568,9 +639,6 @@ class Journal(Commands):
 
     def _answer(self, group: List[Asked]) -> None:
         """Carries commands out, writes those that changed something as one group, and answers all of them."""
-        if self._process.room < ROOM:
-            self._process.end()
-            self._start()
         replies = self._process.carry_out([asked.line for asked in group]) if group else []
         kept = [asked.line for asked, reply in zip(group, replies) if is_kept(asked.line, reply)]
         if kept:
@@ -595,44 +663,37 @@ class Journal(Commands):
         """Packs the store into a new image, and begins a new log. While it is packed queries are answered, and changes wait. Refused while
         runs are open; or they are dropped first, and stay dropped where it fails."""
         with self._moved:
-            self._moved.wait_for(lambda: self._held is Held.NOTHING or self._ended)
+            self._await_hold()
             self._fail_if_broken()
-            self._hold_all()
-        try:
-            self._drop_open_runs(drop_open_runs)
-            image = self._packed()
-            with self._moved:
+            with self._holding():
+                self._drop_open_runs(drop_open_runs)
+                with self._unlocked():
+                    image = self._packed()
                 self._hold_all()
                 self._fail_if_broken()
                 with self._working():
                     self._switch(image)
-        finally:
-            with self._moved:
-                self._held = Held.NOTHING
-                self._moved.notify_all()
 
     def _drop_open_runs(self, asked_to: bool) -> None:
         """Drops the open runs, and lets queries go on."""
-        with self._moved:
-            self._fail_if_broken()
-            if self.open_runs and not asked_to:
-                raise RunsAreOpen(f'a checkpoint would drop the open runs {", ".join(map(str, self.open_runs))}')
-            drops = [Asked(f'drop {run}') for run in self.open_runs]
-            with self._working():
-                self._answer(drops)
-            self._held = Held.CHANGES
-            self._moved.notify_all()
+        self._fail_if_broken()
+        if self.open_runs and not asked_to:
+            raise RunsAreOpen(f'a checkpoint would drop the open runs {", ".join(map(str, self.open_runs))}')
+        drops = [Asked(f'drop {run}') for run in self.open_runs]
+        with self._working():
+            self._answer(drops)
+        self._held = Held.CHANGES
+        self._moved.notify_all()
 
     def _packed(self) -> bytes:
         """The image of the store that the folder holds, by a process of its own."""
-        base, log = read_bytes(self._name('image', self._number)), read_bytes(self._name('log', self._number))
-        word, given = ('repack', base + log) if self._number else ('pack', base + b'%%\n' + log)
-        status, image = written_by([word], given, self.path)
+        try:
+            status, image = written_by(['repack'], self.image() + read_bytes(self.log), self.path)
+        except (OSError, JournalError, Ended) as error:
+            raise CheckpointFailed(f'the folder can not be packed: {error}') from error
         if status != 0:
             told = image.decode('latin-1').strip() if status == 4 else str(Ended(status))
-            raise CheckpointFailed(f'`{word}` gives no image: {told}')
-        if len(image) > FULL:
-            raise Full(f'the image would have {len(image):,} bytes, and no more than {FULL:,} can be gone on from')
+            raise CheckpointFailed(f'`repack` gives no image: {told}')
         return image
 
     def _switch(self, image: bytes) -> None:
@@ -653,8 +714,8 @@ class Journal(Commands):
                 self.disk.remove(f'{names[0]}.new')
             raise CheckpointFailed(f'the image could not be written: {error}') from error
         self._log.close()
-        self._number, self._base_size, self._log = number, len(image), log
-        self._process = self._process.moved_behind(image)
+        # The process holds all that the new image does, and goes on.
+        self._number, self._log = number, log
         # What is left of these is removed when the folder is opened again.
         with contextlib.suppress(OSError):
             for name in old:
@@ -671,6 +732,24 @@ def serve(journal: Journal) -> None:
         sys.stdout.flush()
 
 
+def opened(folder: str, path: Optional[str]) -> Journal:
+    """The journal of a folder. Where a program is named a folder without a store is given one, and one that stands there has to be of the same
+    program."""
+    if path is None:
+        return Journal(folder)
+    program = split_input(read_text(path))[0]
+    if standing_in(folder) is None:
+        return Journal.create(folder, program)
+    journal = Journal(folder)
+    try:
+        if encoded(journal.program) != canonical(program, journal.path):
+            raise JournalError(f'{folder} holds a store of another program than {path}')
+        return journal
+    except BaseException:
+        journal.end()
+        raise
+
+
 def main(words: List[str]) -> int:
     """Serves a folder, which is made where a program is named and it holds no store, or makes a checkpoint of it."""
     try:
@@ -681,8 +760,7 @@ def main(words: List[str]) -> int:
         if len(words) not in (1, 2) or words[0].startswith('-'):
             print('usage: persist_journal.py FOLDER [PROGRAM.persist], or persist_journal.py --checkpoint FOLDER', file=sys.stderr)
             return 2
-        is_new = len(words) == 2 and newest_in(words[0]) is None
-        with Journal.create(words[0], split_input(read_text(words[1]))[0]) if is_new else Journal(words[0]) as journal:
+        with opened(words[0], words[1] if len(words) == 2 else None) as journal:
             if journal.cut:
                 print(f'persist_journal: {journal.cut} bytes of commands that were never answered are cut off', file=sys.stderr)
             serve(journal)

@@ -1,8 +1,8 @@
 """A store as the server has it: who keeps it, the processes that answer queries beside it, and what is told of its versions.
 
 `Kept` is all that a server asks of what keeps a store: it is owned from when it is opened until `end`; `append` carries commands out and
-answers when they are on disk; `read` gives what stands in the log from a place on; `size` says where the log ends. Today it is a journal
-(`KeptByJournal`); another log, on this machine or on several, has the same four calls.
+answers when they are on disk; `base` is the image that the log follows, `read` gives what stands in the log from a place on, and `size` says
+where it ends. Today it is a journal (`KeptByJournal`); another log, on this machine or on several, has the same calls.
 
 Commands that change the history go to that one process in the order in which they came, many of several clients together. Queries do not:
 a version never changes, so any process that was given the log up to it gives the same reply. Each store has a few such readers, begun when
@@ -14,6 +14,7 @@ Tested (tools/tests), not proved. It needs python3.8 and nothing else.
 import asyncio
 import contextlib
 import os
+import re
 import signal
 import subprocess
 import time
@@ -22,10 +23,11 @@ from concurrent.futures import ThreadPoolExecutor
 from typing import Any, Callable, Deque, Dict, List, Optional, Sequence, Set, Tuple, TypeVar, Union
 
 from .client import (
-    MARK, MARKED, Changed, Ended, History, Never, Outline, PersistError, Refused, Reply, Version, lines_for, program_path, read_answer,
-    read_outline, take_reply, words_of, written_by)
+    MARK, MARKED, Changed, Ended, History, Never, Outline, PersistError, Refused, Reply, UnknownReply, Version, encoded, is_last,
+    lines_for, program_path, read_outline, take_reply, words_of, written_by)
 from .history import Note, Notes, Past, Records
-from .journal import CHANGES, Behind, Broken, Damaged, Heard, Journal, is_kept, read_bytes
+from .image import Image
+from .journal import CHANGES, Broken, Damaged, Heard, Journal, is_kept
 
 __all__ = ['Busy', 'Kept', 'KeptByJournal', 'Limits', 'Outcome', 'Store', 'TooLarge', 'Who', 'Workers']
 
@@ -87,13 +89,16 @@ class Workers:
 class Kept:
     """What keeps a store. Its calls may wait, and are made from a thread."""
 
-    # The program in its canonical form, and the image that the log follows, where there is one.
+    # The program in its canonical form.
     program: str
-    image: Optional[str]
 
     @property
     def size(self) -> int:
         """Where the log ends: all before it is on disk."""
+        raise NotImplementedError
+
+    def base(self) -> bytes:
+        """The image that the log follows."""
         raise NotImplementedError
 
     def append(self, lines: Sequence[str]) -> List[Outcome]:
@@ -115,15 +120,17 @@ class KeptByJournal(Kept):
     def __init__(self, folder: str, path: str, heard: Heard) -> None:
         """Opens the folder. `heard` is told each line of the log with its reply."""
         self._journal = Journal(folder, path, heard=heard)
-        base = read_bytes(self._journal.base)
-        self.image = self._journal.base if self._journal.number else None
-        self.program = (base[16:16 + int.from_bytes(base[8:16], 'big')] if self.image else base).decode('latin-1')
+        self.program = self._journal.program
         self._log, self._size = self._journal.log, self._journal.kept
 
     @property
     def size(self) -> int:
         """Where the log ends."""
         return self._size
+
+    def base(self) -> bytes:
+        """The image of the folder, or that of its program."""
+        return self._journal.image()
 
     def append(self, lines: Sequence[str]) -> List[Outcome]:
         """Carries commands out, as one group or several."""
@@ -158,16 +165,8 @@ def printed_in(outcomes: Sequence[Outcome]) -> int:
     return sum(len(it.printed) for it in outcomes if isinstance(it, Reply))
 
 
-def given_by(kept: Kept) -> Tuple[bytes, bytes]:
-    """What stands before the log in an input, and the log, as commands."""
-    lines, _ = kept.read(0)
-    log = ''.join(f'{line}\n' for line in lines).encode('utf-8', 'surrogateescape')
-    return (read_bytes(kept.image) if kept.image else f'{kept.program}%%\n'.encode('latin-1')), log
-
-
 class Reader:
-    """A process of its own that was given a store's program and its log so far, and answers queries. Behind an image, for which the program
-    answers at the end of its input alone, each group of queries has a process."""
+    """A process of its own that was given a store's image and its log so far, and answers queries."""
 
     # How many bytes of lines are sent before their replies are read.
     PIECE = 16_384
@@ -177,7 +176,7 @@ class Reader:
         self._process: Optional['subprocess.Popen[bytes]'] = None
         self._lines: Deque[bytes] = deque()
         self._rest = b''
-        # How far in the log it is, and how many versions stand there.
+        # How far in the log it is, and how many versions the log has made there.
         self.place = self.versions = 0
         self.sent = 0
         self.used = time.monotonic()
@@ -189,18 +188,22 @@ class Reader:
 
     async def _start(self) -> None:
         loop = asyncio.get_running_loop()
-        self._process = subprocess.Popen([self._path, 'run'], stdin=subprocess.PIPE, stdout=subprocess.PIPE, start_new_session=True)
+        self._process = subprocess.Popen([self._path, 'serve'], stdin=subprocess.PIPE, stdout=subprocess.PIPE, start_new_session=True)
         self._source = asyncio.StreamReader()
         self._reading, _ = await loop.connect_read_pipe(lambda: asyncio.StreamReaderProtocol(self._source), self._process.stdout)
         way, protocol = await loop.connect_write_pipe(asyncio.streams.FlowControlMixin, self._process.stdin)
         self._sink = asyncio.StreamWriter(way, protocol, None, loop)
-        await self._send(f'{self.kept.program}%%\n{MARK}\n')
+        await self._put(await self._workers.write(self.kept.base))
+        await self._send(f'{MARK}\n')
         if await self._line() != MARKED.encode():
             raise Ended(self._process.poll() or 0)
 
     async def _send(self, text: str) -> None:
         data = text.encode('utf-8', 'surrogateescape')
         self.sent += len(data)
+        await self._put(data)
+
+    async def _put(self, data: bytes) -> None:
         try:
             self._sink.write(data)
             await self._sink.drain()
@@ -226,8 +229,6 @@ class Reader:
 
     async def follow(self) -> None:
         """Is given what stands in the log by now."""
-        if self.kept.image:
-            return
         if self._process is None:
             await self._start()
         lines, place = await self._workers.write(self.kept.read, self.place)
@@ -247,26 +248,20 @@ class Reader:
 
     async def ask(self, lines: Sequence[str], most: int) -> List[Outcome]:
         """The replies to lines that change nothing, as long as they have no more printed numbers than that together."""
-        if self.kept.image:
-            return await self._workers.heavy(self._behind, lines)
         found: List[Outcome] = []
         for at in range(0, len(lines), 8):
             piece = lines[at:at + 8]
             await self._send(''.join(map(lines_for, piece)))
             for line in piece:
                 told: List[str] = []
-                many = words_of(line) == ['versions']
-                while not told or (told[-1] != MARKED if many else told[-1].startswith('| ')):
+                words = words_of(line)
+                while not told or not is_last(words, told[-1]):
                     told.append((await self._line()).decode('latin-1'))
                 found.append(take_reply(line, iter(told).__next__))
             most -= printed_in(found[at:])
             if most < 0 and at + 8 < len(lines):
                 return found + [TooLarge(TOO_MANY)]
         return found
-
-    def _behind(self, lines: Sequence[str]) -> List[Outcome]:
-        base, log = given_by(self.kept)
-        return list(Behind(base + log, self._path).carry_out(list(lines)))
 
     def end(self) -> None:
         """Ends the process at once."""
@@ -435,11 +430,9 @@ class Store:
             raise
 
     def _read_image(self) -> None:
-        """The versions that an image has. Which calls made them is known from the notes."""
-        assert self.kept.image
-        past = Past(read_bytes(self.kept.image), self.outline)
-        self.history.parents = list(past.parents)
-        self.history.calls = [(self.notes.of(version).call,) for version in range(len(past))]
+        """The versions that the image has. Which calls made them is known from the notes."""
+        self.history.parents = Image(self.kept.base()).parents
+        self.history.calls = [(self.notes.of(version).call,) for version in range(len(self.history.parents))]
 
     async def end(self) -> None:
         """Waits for what is at work, and lets go of the folder."""
@@ -457,6 +450,8 @@ class Store:
         """What came of each line, in their order. Changes and the lines between them that change nothing go to different processes, each
         when what stands before it has come to its end."""
         found: List[Outcome] = []
+        # What is held and what changed is asked by requests of their own; as commands they are none.
+        lines = [MARK if words_of(line)[:1] in (['dump'], ['changed']) else line for line in lines]
         at = 0
         while at < len(lines):
             begin, kind = at, kind_of(lines[at])
@@ -515,8 +510,7 @@ class Store:
     def _hear(self, heard: List[Tuple[str, Reply]]) -> None:
         """Makes the history from what the log tells."""
         self.history = History()
-        if self.kept.image:
-            self._read_image()
+        self._read_image()
         for line, reply in heard:
             self.history.note(line, reply)
         self.notes.complete(self.history)
@@ -618,8 +612,8 @@ class Store:
 
     def packed(self) -> bytes:
         """An image of the store as it stands."""
-        base, log = given_by(self.kept)
-        status, image = written_by(['repack' if self.kept.image else 'pack'], base + log, self.path)
+        lines, _ = self.kept.read(0)
+        status, image = written_by(['repack'], self.kept.base() + encoded(''.join(f'{line}\n' for line in lines)), self.path)
         if status == 4:
             raise Damaged(image.decode('latin-1').strip())
         if status != 0:
@@ -628,18 +622,12 @@ class Store:
 
     async def changed(self, version: int, path: str) -> Union[Changed, Never, Refused]:
         """Which version, on the way from this one to version 0, changed what a path reads."""
-        return await self.workers.heavy(self._changed, version, path)
-
-    def _changed(self, version: int, path: str) -> Union[Changed, Never, Refused]:
-        if self.kept.image:
-            raise TooLarge('the store was packed into an image, and the program tells of no image what changed')
-        base, log = given_by(self.kept)
-        status, told = written_by(['changed', str(version), path], base + log, self.path)
-        if status == 3:
+        if not re.fullmatch(r'\w+(\.\w+)*', path, re.ASCII):
             return Refused('path')
-        if status != 0:
-            raise Ended(status)
-        return read_answer(told.decode('latin-1').splitlines())
+        found = (await self._ask([f'changed {version} {path}']))[0]
+        if isinstance(found, (Changed, Never, Refused)):
+            return found
+        raise found if isinstance(found, PersistError) else UnknownReply(str(found))
 
 
 def broken_by(error: BaseException) -> Broken:

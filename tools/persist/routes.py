@@ -70,7 +70,6 @@ BROKEN = 'the process or the disk of the store failed; it is opened again with t
 IN_DOUBT = 'whether the command that was not answered was carried out is told by the versions: GET /stores/NAME'
 STATUSES: List[Tuple[type, int, str]] = [
     (Busy, 429, ''), (TooLarge, 413, ''), (TooMany, 507, ''), (Exists, 409, ''), (journal.NoStore, 404, ''), (journal.Locked, 503, '; end that one'),
-    (journal.Full, 507, '; persist_journal.py --checkpoint packs it while no server has it'),
     (journal.Damaged, 500, '; put a backup in its place'), (journal.Broken, 503, IN_DOUBT), (client.WrongText, 400, ''),
     (client.Ended, 503, '; ask again'), (client.UnknownReply, 500, ''), (PersistError, 500, '')]
 
@@ -427,8 +426,6 @@ class Site:
         """A backup."""
         async with self.stores.use(at['name']) as store:
             image = await self.stores.workers.heavy(store.packed)
-            if len(image) > client.INPUT_LIMIT:
-                raise Problem(507, f'the image has {len(image):,} bytes, and no word reads more than {client.INPUT_LIMIT:,}: copy the folder')
             name = {'Content-Disposition': f'attachment; filename="{store.name}.image"'}
             return await self.answer.send(request, 200, image, 'application/octet-stream', name)
 

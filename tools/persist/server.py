@@ -25,7 +25,8 @@ import time
 from typing import Any, AsyncIterator, Dict, List, Optional, Sequence, Set, Tuple
 
 from .client import PersistError, answer_to, program_path
-from .journal import Journal, JournalError, NoStore, newest_in, read_bytes
+from .image import Image, read_bytes
+from .journal import Journal, JournalError, NoStore, newest_in
 from .kept import Busy, Limits, Store, Workers
 
 __all__ = ['Exists', 'Stores', 'is_store_name', 'main']
@@ -129,7 +130,7 @@ class Stores:
         """Whether a store was made of this program, whose canonical form it has."""
         number = newest_in(folder)
         base = read_bytes(os.path.join(folder, f'image.{number}' if number else 'program'))
-        kept = base[16:16 + int.from_bytes(base[8:16], 'big')] if number else base
+        kept = Image(base).text.encode('latin-1') if number else base
         return answer_to(['check'], program, self.path).encode('latin-1') == kept
 
     async def look_after(self) -> None:

@@ -1,6 +1,6 @@
 r"""A prompt for `persist`: line editing, kept history, completion, the version tree and what versions hold.
 
-    python3 tools/persist_shell.py [FILE]       loads an input, and carries out its script where it has one
+    python3 tools/persist_shell.py [FILE]       loads an input, and carries out its script where it has one; or an image, with a script or none
 
 A line of the script may be typed as it is, and `.` stands in it for the current version, which is the one that the last run made.
 Shorter, a procedure or query is named first:
@@ -23,10 +23,11 @@ import tempfile
 from typing import Callable, Dict, List, Optional, Sequence, TextIO, Tuple
 
 from .client import (
-    Changed, Ended, Field, NoAnswer, Outline, PersistError, ProgramRefused, Refused, Reply, Session, Trapped, Version, read_text,
-    split_input, text_of, words_of, write_text, written_by)
+    Changed, Ended, Field, Outline, PersistError, ProgramRefused, Refused, Reply, Session, Trapped, Version, read_text, session_on,
+    split_input, text_of, words_of, write_text)
 from .draw import held_text, let_go, records_dot, records_svg, short, tree_dot, tree_svg, tree_text
 from .history import Notes, Past, at_version, difference, difference_text, is_name, log_text, names_text, show_text
+from .image import read_bytes
 
 # What traps mean, as docs/NOTATION.md has them.
 TRAPS = {
@@ -82,9 +83,9 @@ WORDS: Dict[str, Tuple[str, str]] = {
     'dump': ('[V]', 'tells the records of a version'),
     'changed': ('[V] PATH', 'tells which version, from V on the way to 0, changed what PATH reads'),
     'list': ('[N]', 'shows the program, or the lines round line N'),
-    'load': ('[FILE]', 'begins anew with an input; without a name, with the last one'),
+    'load': ('[FILE]', 'begins anew with an input or an image; without a name, with the last one'),
     'do': ('FILE', 'carries out the script lines of a file'),
-    'save': ('FILE', 'writes the program, the history and the names as an input'),
+    'save': ('FILE', 'writes the program or image, the history and the names as an input'),
     'draw': ('FILE [V]', 'draws the tree, or the records of version V, as .svg, .dot or .txt by the name of the file'),
     'restart': ('', 'starts the program again, and carries the history out again'),
     'help': ('', 'lists these words'),
@@ -109,11 +110,11 @@ class GivenUp(Exception):
     """A line was interrupted, or the process ended in it; what was to follow from a file is left out."""
 
 
-def begun(program: str) -> Tuple[Session, Outline]:
-    """A session on a program, and what the program declares."""
-    session = Session(program)
+def begun(given: bytes) -> Tuple[Session, Outline, List[str]]:
+    """A session on the program or the image of an input, what the program declares, and the lines of the script."""
+    session, script = session_on(given)
     try:
-        return session, session.outline()
+        return session, session.outline(), script
     except BaseException:
         session.end()
         raise
@@ -128,7 +129,7 @@ class Shell:
         self.current = 0
         # Whether replies are shown; those of a long file are not.
         self.is_quiet = False
-        self.session, self.outline = begun('')
+        self.session, self.outline, _ = begun(b'')
         self.folder = tempfile.TemporaryDirectory(prefix='persist-')
         self.notes = self.no_notes()
         self.past: Optional[Past] = None
@@ -316,11 +317,7 @@ class Shell:
     def image(self, version: int) -> Past:
         """What the versions hold, up to this one at least. All are read at once from an image, which is made when it is asked for."""
         if self.past is None or len(self.past) <= version:
-            given = self.session.input().encode('utf-8', 'surrogateescape')
-            status, image = written_by(['pack'], given, self.session.path)
-            if status != 0:
-                raise NoAnswer(['pack'], status)
-            self.past = Past(image, self.outline)
+            self.past = Past(self.session.packed(), self.outline)
         return self.past
 
     def do_log(self, version: Optional[str] = None) -> None:
@@ -403,21 +400,24 @@ class Shell:
             raise Wrong('nothing was loaded yet: \\load FILE')
         if os.path.isdir(path):
             raise Wrong(f'{path} is a folder; a store in it is opened by persist-journal, or looked at by persist-server')
-        program, script = split_input(read_text(path))
+        given = read_bytes(path)
         try:
-            session, outline = begun(program)
+            session, outline, script = begun(given)
         except ProgramRefused as fault:
             self.say(f'refused {fault.kind} at {fault.line}', f'  {FAULTS.get(fault.kind, "a fault that this shell does not know")}')
-            self.show(program, fault.line)
+            self.show(split_input(given.decode('utf-8', 'surrogateescape'))[0], fault.line)
             return
         self.session.end()
-        self.session, self.outline, self.file, self.current = session, outline, path, 0
+        self.session, self.outline, self.file, self.current = session, outline, path, session.newest
         self.notes.end()
         self.notes, self.past = self.no_notes(), None
         named = [f'{what} {", ".join(names) or "none"}' for what, names in (
             ('procedures', self.outline.procedures), ('queries', self.outline.queries))]
         self.say(f'{path}: {"; ".join(named)}')
-        self.lines_of(path, script, program.count('\n') + 2)
+        if session.is_served:
+            self.say(f'an image, whose newest version is {session.newest}')
+        # The lines of a script have numbers: behind a program those of the file, and behind an image from 1.
+        self.lines_of(path, script, 1 if session.is_served else session.program.count('\n') + 2)
 
     def do_do(self, path: str) -> None:
         """Carries out the script lines of a file."""

@@ -1,7 +1,7 @@
 """Measures the journal: python3 tools/tests/journal_times.py [COMMANDS [FOLDER]]
 
 Commands a second by one caller and by eight, beside an fsync of a line alone in the same folder and beside the bare client; in a folder
-without a checkpoint, and in one that was opened behind an image of so many versions, where each group of commands has a process of its own.
+without a checkpoint, and in one that was opened behind an image of so many versions, with what share of the fresh folder's rate that is.
 Then how long it takes to open a folder with so many commands, without a checkpoint and with one. Beside the rates stand what does not
 depend on who else uses the machine: processor time of this process and of those that have ended, and how often the disk was waited for.
 PERSIST names the program.
@@ -97,6 +97,7 @@ class Table:
         disk.waits = 0
         measured = a_second(callers, command)
         self.row(name, measured, f'{disk.waits / measured[1]:.2f}')
+        return measured[0]
 
 
 def main(commands, above):
@@ -111,8 +112,7 @@ def main(commands, above):
         return journal.run(0, 'set', 5)
 
     with Journal.create(small, CELL, disk=disk) as journal:
-        for callers in (1, 8):
-            table.of(f'runs by {callers}', callers, run, disk)
+        fresh = {callers: table.of(f'runs by {callers}', callers, run, disk) for callers in (1, 8)}
         table.of('queries by 1', 1, journal.stats, disk)
         journal.checkpoint()
         table.of('runs by 1, behind a checkpoint of the same process', 1, run, disk)
@@ -127,7 +127,8 @@ def main(commands, above):
     journal.end()
     behind, journal = seconds_to(lambda: Journal(great, disk=disk))
     for callers in (1, 8):
-        table.of(f'runs by {callers}, opened behind an image of {commands:,} versions', callers, run, disk)
+        rate = table.of(f'runs by {callers}, opened behind an image of {commands:,} versions', callers, run, disk)
+        print(f'| that is, to the fresh folder | {rate / fresh[callers]:.2f} times (wanted: at least 0.3) | | | | |')
     journal.end()
     print(f'\n| {commands:,} commands | by the clock | processor | to an fsync of a line |\n|---|---|---|---|')
     for name, (seconds, used) in (('carried out and logged, without waiting for the disk', made), ('opened without a checkpoint', plain),

@@ -1,15 +1,19 @@
 """The client: all forms of replies, errors, questions, and the same replies as by standard input."""
 import glob
 import os
+import pathlib
 import signal
+import tempfile
 import threading
 import unittest
 
 from persist import client as the_module
 from persist.client import (
-    Answer, Budget, Changed, CutOff, Done, Dropped, Dump, Ended, Field, Never, NoAnswer, NotCarriedOut, Opened, Pointer,
-    ProgramRefused, Record, Refused, Running, Session, Stats, Trapped, UnknownReply, Version, Versions, WrongText, answer_to, must,
-    read_answer, read_dump, read_outline, read_reply, read_text, read_versions, split_input, text_of, words_of)
+    Answer, Budget, Changed, CutOff, Done, Dropped, Dump, Ended, Field, ImageRefused, Never, NoAnswer, NotCarriedOut, Opened, Pointer,
+    ProgramRefused, Record, Refused, Running, Session, Stats, Trapped, UnknownReply, Version, Versions, WrongImage, WrongText, answer_to,
+    must, read_answer, read_dump, read_outline, read_reply, read_text, read_versions, session_on, split_input, text_of, words_of)
+from persist.errors import RULES
+from persist.image import split_image
 from tests.samples import LIST, TOP, a_program, made_up_script, written
 
 
@@ -250,6 +254,81 @@ class SameReplies(unittest.TestCase):
             for thread in threads:
                 thread.join()
             self.assertEqual(sorted(got), list(range(1, 801)))
+
+
+class Images(unittest.TestCase):
+    """Sessions that begin with an image."""
+
+    def setUp(self):
+        with Session(LIST) as session:
+            session.run(0, 'add', 5)
+            session.run(1, 'add', 7)
+            session.open(2)
+            self.image = session.packed()
+
+    def test_a_session_on_bytes_and_on_a_file(self):
+        with tempfile.TemporaryDirectory() as folder:
+            path = os.path.join(folder, 'image')
+            with open(path, 'wb') as file:
+                file.write(self.image)
+            for given in (self.image, path, pathlib.Path(path)):
+                with Session(image=given) as session:
+                    self.assertEqual((session.newest, session.history.parents, session.program.count('proc')), (2, [None, 0, 1], 1))
+                    self.assertEqual(session.query(2, 'sum'), Answer((12,)))
+                    self.assertEqual(session.query(0, 'top'), Trapped('null', 22, (1,)))
+                    self.assertEqual((session.run(2, 'add', 1), session.versions().parents), (Version(3), (None, 0, 1, 2)))
+
+    def test_it_tells_what_versions_hold(self):
+        with Session(image=self.image) as session:
+            self.assertEqual(session.dump(2), Dump((
+                Record(0, 'root', (Pointer(1),)), Record(1, 'Node', (7, Pointer(2))), Record(2, 'Node', (5, None)))))
+            self.assertEqual(text_of(session.command('dump 1')), '0 root: @1\n1 Node: 5 null\nok\n')
+            self.assertEqual((session.changed(2, 'first.next'), session.changed(0, 'first')), (Changed(2), Never()))
+            self.assertEqual((session.dump(9), session.changed(9, 'first'), session.changed(2, 'last')),
+                             (Refused('version'), Refused('version'), Refused('path')))
+            self.assertEqual((session.command('dump'), session.command('changed 1')), (Refused('line'), Refused('line')))
+            self.assertEqual(session.commands(['dump 9', 'stats', 'changed 2 first'])[::2], [Refused('version'), Changed(2)])
+        with Session(LIST) as session:
+            self.assertEqual((session.command('dump 0'), session.command('changed 0 first')), (Refused('line'), Refused('line')))
+
+    def test_it_is_started_again_and_packed_again(self):
+        with Session(image=self.image) as session:
+            session.run(2, 'add', 1)
+            session.open(3, 'add', 9)
+            before = session.versions(), session.stats(), session.dump(3)
+            session.restart()
+            self.assertEqual((session.versions(), session.stats(), session.dump(3)), before)
+            self.assertEqual(session.close(5), Version(4))
+            self.assertEqual(session.input().encode('utf-8', 'surrogateescape')[:len(self.image)], self.image)
+            again = session.packed()
+        with Session(image=again) as session:
+            self.assertEqual((session.newest, session.query(4, 'sum'), session.open(4)), (4, Answer((22,)), Opened(6)))
+
+    def test_an_image_with_damage_is_refused_by_its_rule(self):
+        text = 16 + int.from_bytes(self.image[8:16], 'big')
+        cut = [(self.image[:length], 0) for length in (0, 1, 8, 15, 16, text - 1, text, text + 60, len(self.image) - 8, len(self.image) - 1)]
+        for data, rule in cut + [(b'X' + self.image[1:], 0), (self.image[:20] + b'#' + self.image[21:], 1),
+                                 (self.image[:text] + bytes(8) + self.image[text + 8:], 2), (self.image[:text + 48] + b'\xff' * 8, 0)]:
+            with self.assertRaises(ImageRefused) as caught:
+                Session(image=data)
+            self.assertEqual(caught.exception.rule, rule)
+            self.assertRegex(str(caught.exception), rf'^refused image {rule}: [a-z ,]+')
+        self.assertEqual(len(RULES), 10)
+
+    def test_what_stands_behind_an_image_is_its_script(self):
+        given = self.image + b'run 2 add 1\n# \xff\nquery 3 sum'
+        self.assertRaises(WrongText, Session, image=given)
+        self.assertEqual(split_image(given), (self.image, ['run 2 add 1', '# \udcff', 'query 3 sum']))
+        session, script = session_on(given)
+        with session:
+            self.assertEqual([session.command(line) for line in script], [Version(3), None, Answer((13,))])
+        session, script = session_on(LIST.encode() + b'%%\nstats\n')
+        with session:
+            self.assertEqual((session.is_served, script), (False, ['stats']))
+        self.assertRaises(ImageRefused, session_on, given[:400])
+        self.assertRaises(WrongImage, split_image, given[:400])
+        self.assertRaises(TypeError, Session)
+        self.assertRaises(TypeError, Session, LIST, image=self.image)
 
 
 class BadPrograms(unittest.TestCase):

@@ -11,7 +11,7 @@ import xml.dom.minidom
 from persist.client import Dump, Field, History, Outline, Pointer, Record, Session, read_outline, split_input
 from persist.draw import (
     LIMIT, SHOWN, folded, in_order, records_dot, records_svg, rows_of, tree_dot, tree_svg, tree_text)
-from tests.samples import LIST, SCRIPT, TOOLS, TREE
+from tests.samples import LIST, SCRIPT, TOOLS, TREE, written
 
 PARENTS = (None, 0, 1, 2, 1, 1)
 
@@ -228,7 +228,8 @@ class Records(Pictures):
 class Words(unittest.TestCase):
     def draw(self, *words, given=LIST + SCRIPT):
         """What the script writes, and its status."""
-        done = subprocess.run([sys.executable, '-W', 'error', os.path.join(TOOLS, 'persist_draw.py'), *words], input=given.encode(),
+        given = given if isinstance(given, bytes) else given.encode()
+        done = subprocess.run([sys.executable, '-W', 'error', os.path.join(TOOLS, 'persist_draw.py'), *words], input=given,
                               stdout=subprocess.PIPE, stderr=subprocess.PIPE)
         return done.returncode, done.stdout.decode(), done.stderr.decode()
 
@@ -239,6 +240,16 @@ class Words(unittest.TestCase):
             self.assertEqual((status, text[:len(begin)]), (0, begin))
             if begin == '<svg':
                 look(text)
+
+    def test_of_an_image(self):
+        image = written('pack', LIST + SCRIPT)
+        bare = re.sub('  add.*', '', TREE)
+        self.assertEqual(self.draw('text', given=image), (0, bare, ''))
+        self.assertEqual(self.draw('text', given=image + b'run 5 add 6\n'), (0, '0\n1\n+- 2\n|  3\n+- 4\n|\n5\n6  add 6\n', ''))
+        self.assertEqual(self.draw('records', '3', 'dot', given=image), self.draw('records', '3', 'dot'))
+        self.assertEqual(self.draw('records', '9', given=image), (1, '', 'persist_draw: there is no version 9\n'))
+        status, text, said = self.draw('text', given=image[:500])
+        self.assertEqual((status, text, said[:31]), (1, '', 'persist_draw: refused image 0: '))
 
     def test_what_can_t_be_drawn(self):
         self.assertEqual(self.draw('records', '9'), (1, '', 'persist_draw: there is no version 9\n'))

@@ -1,18 +1,23 @@
 """The journal: what it keeps when it is killed, when the disk fails, and when what the folder holds is damaged."""
+import errno
 import os
 import shutil
 import signal
+import stat
 import subprocess
 import sys
 import tempfile
 import threading
+import time
 import unittest
+import warnings
+from fcntl import flock
 from unittest import mock
 
 from persist import journal as the_module
 from persist.client import (
-    Answer, Budget, Dropped, Opened, ProgramRefused, Refused, Session, Trapped, Version, Versions, WrongText, read_text, text_of)
-from persist.journal import Broken, CheckpointFailed, Damaged, Disk, Full, Journal, JournalError, Locked, NoStore, RunsAreOpen
+    Answer, Budget, Changed, Dropped, Never, Opened, ProgramRefused, Refused, Session, Trapped, Version, Versions, WrongText, read_text, text_of)
+from persist.journal import Broken, CheckpointFailed, Damaged, Disk, Journal, JournalError, Locked, NoStore, RunsAreOpen
 from tests.journal_kills import kill
 from tests.samples import LIST, TOOLS, TOP, made_up_script
 
@@ -119,13 +124,22 @@ class Kept(Folder):
             journal.checkpoint()
         journal.end()
 
-    def test_a_process_that_has_taken_nearly_all_it_may_is_begun_again(self):
+    def test_there_is_room_beyond_64_mib(self):
         with self.two_versions() as journal:
-            before = journal._process
-            before._session.room = 10
+            for _ in range(70):
+                self.assertEqual(journal._process.carry_out(['x' * (1 << 20)]), [Refused('line')])
             self.assertEqual(journal.run(2, 'add', 4), Version(3))
-            self.assertIsNot(journal._process, before)
-            self.assertEqual(journal.query(3, 'sum'), Answer((7,)))
+            journal.checkpoint()
+            self.assertEqual(journal.run(3, 'add', 5), Version(4))
+        self.assertEqual(self.sums(), [1, 3, 7, 12])
+
+    def test_it_tells_what_versions_hold(self):
+        with self.two_versions() as journal:
+            for _ in range(2):
+                self.assertEqual(str(journal.dump(2)), '0 root: @1\n1 Node: 2 @2\n2 Node: 1 null')
+                self.assertEqual((journal.changed(2, 'first.next'), journal.changed(0, 'first')), (Changed(2), Never()))
+                self.assertEqual((journal.dump(9), journal.changed(2, 'last')), (Refused('version'), Refused('path')))
+                journal.checkpoint()
 
 
 class Killed(Folder):
@@ -249,6 +263,103 @@ class Callers(Folder):
             self.assertEqual(done.returncode, 1)
             self.assertIn(b'kept by another process', done.stderr)
         self.assertEqual(self.sums(), [1, 3])
+
+
+    def test_where_the_lock_is_removed_the_folder_is_kept_all_the_same(self):
+        with self.two_versions() as journal:
+            os.remove(self.name('lock'))
+            self.assertRaises(Locked, Journal, self.folder)
+            self.assertEqual(journal.run(2, 'add', 4), Version(3))
+        self.assertEqual(self.sums(), [1, 3, 7])
+
+    def test_where_folders_have_no_lock_the_file_has_one(self):
+        with mock.patch.object(the_module.fcntl, 'flock', flock_of_files):
+            with self.two_versions():
+                self.assertRaises(Locked, Journal, self.folder)
+        self.assertEqual(self.sums(), [1, 3])
+
+    def in_a_child(self, work):
+        """Does something in a process that is forked; gives what it says, or its error."""
+        with tempfile.TemporaryFile() as told:
+            with warnings.catch_warnings():
+                warnings.simplefilter('ignore', DeprecationWarning)
+                child = os.fork()
+            if child == 0:
+                try:
+                    said = str(work())
+                except BaseException as error:
+                    said = repr(error)
+                os.pwrite(told.fileno(), said.encode(), 0)
+                os._exit(0)
+            os.waitpid(child, 0)
+            return os.pread(told.fileno(), 10000, 0).decode()
+
+    def test_a_process_that_was_forked_does_nothing(self):
+        for packed in (False, True):
+            journal = Journal(self.folder) if packed else self.two_versions()
+            for work in (lambda: journal.run(2, 'add', 9), lambda: journal.query(2, 'sum'), journal.checkpoint):
+                self.assertIn('from which this one was forked', self.in_a_child(work))
+            self.assertIn('Locked', self.in_a_child(lambda: Journal(self.folder)))
+            self.assertEqual(self.in_a_child(journal.end), 'None')
+            self.assertEqual(journal.query(2, 'sum'), Answer((3,)))
+            journal.checkpoint()
+            journal.end()
+        self.assertEqual(self.sums(), [1, 3])
+
+    def test_a_process_that_was_forked_keeps_neither_the_folder_nor_the_program(self):
+        with self.two_versions() as journal:
+            go_on, begun = os.pipe(), os.pipe()
+            with warnings.catch_warnings():
+                warnings.simplefilter('ignore', DeprecationWarning)
+                child = os.fork()
+            if child == 0:
+                os.write(begun[1], b'x')
+                os.close(go_on[1])
+                os.read(go_on[0], 1)
+                os._exit(0)
+            os.read(begun[0], 1)
+            before = time.monotonic()
+            self.assertEqual(journal.run(2, 'add', 4), Version(3))
+            journal.end()
+            self.assertLess(time.monotonic() - before, 5)
+            self.assertEqual(self.sums(), [1, 3, 7])
+            for descriptor in (*go_on, *begun):
+                os.close(descriptor)
+            os.waitpid(child, 0)
+
+    def test_ctrl_c_while_a_checkpoint_or_the_end_waits(self):
+        with self.two_versions() as journal:
+            for work in (journal.checkpoint, journal.end):
+                slow, go_on = threading.Event(), threading.Event()
+                original = journal._process.carry_out
+
+                def carry_out(lines):
+                    journal._process.carry_out = original
+                    slow.set()
+                    self.assertTrue(go_on.wait(60))
+                    return original(lines)
+
+                journal._process.carry_out = carry_out
+                caller = threading.Thread(target=journal.query, args=(2, 'sum'))
+                caller.start()
+                self.assertTrue(slow.wait(60))
+                timer = threading.Timer(0.3, os.kill, (os.getpid(), signal.SIGINT))
+                timer.start()
+                self.assertRaises(KeyboardInterrupt, work)
+                timer.join()
+                go_on.set()
+                caller.join(60)
+                self.assertEqual(journal.query(2, 'sum'), Answer((3,)))
+            journal.checkpoint()
+            self.assertEqual(journal.run(2, 'add', 4), Version(3))
+        self.assertEqual(self.sums(), [1, 3, 7])
+
+
+def flock_of_files(file, how):
+    """A lock as on a system that gives folders none."""
+    if stat.S_ISDIR(os.fstat(file).st_mode):
+        raise OSError(errno.EBADF, 'no lock')
+    flock(file, how)
 
 
 class Stopped(BaseException):
@@ -505,6 +616,52 @@ class Damage(Folder):
             self.put('log.0', log.replace(old, new, 1))
             self.refused('damaged group')
 
+    def test_a_byte_of_the_last_sum_but_one_ends_no_group_silently(self):
+        with self.two_versions() as journal:
+            journal.run(2, 'add', 4)
+        log = self.bytes_of('log.0')
+        # The sum behind the second group, with the line feeds on both sides of it, and that of the third.
+        seconds = [at for at in range(len(log)) if log[at:at + 2] == b'\n#']
+        for begin in seconds[-2:]:
+            for at in (*range(begin, begin + 11),)[:11 if begin == seconds[-2] else 2]:
+                self.put('log.0', log[:at] + bytes([log[at] ^ 1]) + log[at + 1:])
+                self.refused('damaged group')
+        self.put('log.0', log)
+        self.assertEqual(self.sums(), [1, 3, 7])
+
+    def test_a_log_whose_image_is_missing(self):
+        self.packed()
+        os.rename(self.name('image.1'), self.name('kept'))
+        self.refused('image is missing')
+        before = self.files()
+        self.assertRaises(Damaged, Journal.create, self.folder, LIST)
+        example = os.path.join(TOP, 'examples', 'monday.persist')
+        for words in ([self.folder], [self.folder, example]):
+            done = subprocess.run([sys.executable, os.path.join(TOOLS, 'persist_journal.py'), *words], stdin=subprocess.DEVNULL, stderr=subprocess.PIPE)
+            self.assertEqual(done.returncode, 1)
+            self.assertIn(b'image is missing', done.stderr)
+        self.assertEqual(self.files(), before)
+        # The image before it, put back from somewhere, is not the one that the log follows.
+        self.put('image.0', self.bytes_of('kept'))
+        self.refused('image is missing')
+
+    def test_a_log_whose_program_is_missing_and_a_folder_that_was_not_made_to_its_end(self):
+        self.two_versions().end()
+        os.remove(self.name('program'))
+        self.refused('program is missing')
+        begin = self.bytes_of('log.0').split(b'\n')[0] + b'\n'
+        self.put('log.0', begin)
+        self.assertRaises(NoStore, Journal, self.folder)
+        self.two_versions().end()
+        self.assertEqual(self.sums(), [1, 3])
+
+    def test_a_damaged_program(self):
+        self.two_versions().end()
+        text = self.bytes_of('program')
+        for data in (text[:-3], b'\xff' + text, b'', text.replace(b'first', b'fir5t', 1), text.replace(b'Node 2', b'Node 3')):
+            self.put('program', data)
+            self.refused('')
+
     def test_what_a_checkpoint_left_that_did_not_come_to_its_end(self):
         self.packed()
         for name in ('program', 'image.0', 'image.2.new', 'log.0', 'log.2', 'log.1.new', 'program.new'):
@@ -515,27 +672,27 @@ class Damage(Folder):
 
 
 class Great(Folder):
-    def test_no_room_for_changes_or_for_an_image(self):
+    def test_no_memory_for_an_image(self):
         with self.two_versions() as journal:
-            for most in (0, 400):
-                with mock.patch.object(the_module, 'FULL', most):
-                    if most == 0:
-                        with self.assertRaisesRegex(Full, 'no room'):
-                            journal.run(2, 'add', 4)
-                        self.assertEqual(journal.query(2, 'sum'), Answer((3,)))
-                    before = self.files()
-                    with self.assertRaisesRegex(Full, 'the image would have'):
-                        journal.checkpoint()
-                    self.assertEqual(self.files(), before)
+            for packed in (False, True):
+                before = self.files()
+                for status, written, told in ((4, b'refused image 2\n', 'refused image 2'), (6, b'', 'no memory')):
+                    with mock.patch.object(the_module, 'written_by', lambda *_: (status, written)):
+                        with self.assertRaisesRegex(CheckpointFailed, told):
+                            journal.checkpoint()
+                self.assertEqual(self.files(), before)
+                journal.checkpoint()
             self.assertEqual(journal.run(2, 'add', 4), Version(3))
-            with mock.patch.object(the_module, 'written_by', lambda *_: (4, b'refused image 2\n')):
-                with self.assertRaisesRegex(CheckpointFailed, 'refused image 2'):
-                    journal.checkpoint()
-            with mock.patch.object(the_module, 'written_by', lambda *_: (6, b'')):
-                with self.assertRaisesRegex(CheckpointFailed, 'no memory'):
-                    journal.checkpoint()
-            journal.checkpoint()
         self.assertEqual(self.sums(), [1, 3, 7])
+
+    def test_the_folder_is_gone(self):
+        with self.two_versions() as journal:
+            os.rename(self.folder, self.folder + '.moved')
+            self.assertRaises(CheckpointFailed, journal.checkpoint)
+            self.assertEqual(journal.query(2, 'sum'), Answer((3,)))
+            os.rename(self.folder + '.moved', self.folder)
+            journal.checkpoint()
+        self.assertEqual(self.sums(), [1, 3])
 
 
 class Script(Folder):
@@ -555,6 +712,15 @@ class Script(Folder):
             0, '0\n1 from 0\nversion 2\n', 'persist_journal: 3 bytes of commands that were never answered are cut off\n'))
         self.assertEqual(self.ask(self.folder + '1')[::2], (1, f'persist_journal: {self.folder}1 holds no store\n'))
         self.assertEqual(self.ask('--help')[0], 2)
+
+    def test_another_program_is_told(self):
+        example, other = (os.path.join(TOP, 'examples', name) for name in ('monday.persist', 'ledger.persist'))
+        self.assertEqual(self.ask(self.folder, example, given='run 0 sell 12\n'), (0, 'version 1\n', ''))
+        for checkpoint in (False, True):
+            self.assertEqual(self.ask(self.folder, other, given='run 1 sell 30\n'), (
+                1, '', f'persist_journal: {self.folder} holds a store of another program than {other}\n'))
+            self.assertEqual(self.ask(self.folder, example, given='dump 1\n')[:2], (0, '0 root: 12 @1\n1 Sale: 12 null\nok\n'))
+            self.assertEqual(self.ask('--checkpoint', self.folder)[0], 0)
 
     def test_a_long_comment_is_no_command(self):
         long = '#' * 5000 + '\n' + ' ' * 5000 + '\n'

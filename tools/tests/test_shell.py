@@ -104,6 +104,33 @@ class Words(Typed):
         said = self.ask('run . add 3', rf'\save "{self.folder}/a name"', rf'\load "{self.folder}/a name"', r'\tree')
         self.assertTrue(said.endswith('+- 2  add 2\n|  3  add 4\n+- 4  add 7; add 8\n|\n5  add 5\n6 *  add 3\n'), said)
 
+    def image(self, behind=b''):
+        """The path of a file with an image of the sample, and a script behind it."""
+        path = os.path.join(self.folder, 'list.image')
+        with open(path, 'wb') as file:
+            file.write(self.shell.session.packed() + behind)
+        return path
+
+    def test_an_image_is_loaded(self):
+        said = self.ask(rf'\load {self.image()}')
+        self.assertTrue(said.endswith('an image, whose newest version is 5\n'), said)
+        self.assertEqual((self.shell.prompt(), self.ask('sum', 'add 2', 'query . sum')), ('5> ', '| 6\nok\nversion 6\n| 8\nok\n'))
+        self.assertEqual(self.ask(r'\dump 1', r'\changed 6 first.next', r'\at 5'), '0 root  first: @1\n1 Node  key: 1, next: null\nchanged 6  add 2\n')
+        self.assertEqual(self.ask(r'\diff 1 2'), '~ root  first: Node 1.0 -> Node 2.0\n+ Node 2.0  key: 2, next: Node 1.0\n')
+        self.assertEqual(self.ask('query 0 top').splitlines()[1], 'trap null at 22')
+        self.assertIn('|\n5 *\n6  add 2\n', self.ask(r'\tree'))
+        self.assertEqual(self.ask(rf'\save {self.folder}/saved', rf'\load {self.folder}/saved')[-21:], 'version is 5\nversion 6\n'[-21:])
+        self.assertEqual(self.ask('query 6 sum', r'\restart', 'query 6 sum').count('| 8\nok\n'), 2)
+
+    def test_an_image_with_a_script_or_with_damage(self):
+        path = self.image(b'run 5 add 3\nrun 9 add 1\n')
+        said = self.ask(rf'\load {path}', 'sum')
+        self.assertTrue(said.endswith(f'version 6\nrefused version\n  {path}:2: run 9 add 1\n  no version has that number\n| 9\nok\n'), said)
+        with open(path, 'r+b') as file:
+            file.truncate(700)
+        self.assertTrue(self.ask(rf'\load {path}').startswith('refused image 0: '))
+        self.assertEqual(self.ask('sum'), '| 9\nok\n')
+
     def test_pictures(self):
         self.assertEqual(self.ask(rf'\draw {self.folder}/t.svg', rf'\draw {self.folder}/r.svg 4', rf'\draw {self.folder}/t.dot',
                                   rf'\draw {self.folder}/r.dot .', rf'\draw {self.folder}/t.txt'), '')

@@ -22,6 +22,8 @@ pub enum Error {
         /// What stands in that line; nothing where the fault is the end.
         text: String,
     },
+    /// The program refuses an image: the number of the first rule that it breaks.
+    ImageRefused(u8),
     /// The process ended before it replied: its status, or none where a signal ended it.
     Ended(Option<i32>),
     /// A text that is no reply to what was sent.
@@ -39,6 +41,7 @@ impl fmt::Display for Error {
             Error::Refused(kind) => write!(f, "refused {kind}"),
             Error::ProgramRefused { kind, line, text } if text.is_empty() => write!(f, "refused {kind} at {line}"),
             Error::ProgramRefused { kind, line, text } => write!(f, "refused {kind} at {line}: {text}"),
+            Error::ImageRefused(rule) => write!(f, "refused image {rule}"),
             Error::Ended(Some(status)) => write!(f, "the program ended with status {status}"),
             Error::Ended(None) => write!(f, "the program was ended by a signal"),
             Error::UnknownReply(text) => write!(f, "{text:?} is no reply to what was sent"),

@@ -6,6 +6,6 @@ mod session;
 mod text;
 
 pub use error::{Error, Result};
-pub use reply::{Progress, Published, Reply, Stats, Trap, Version, Versions};
+pub use reply::{Content, Progress, Published, Record, Reply, Stats, Trap, Version, Versions};
 pub use session::{program_path, Session};
 pub use text::{is_silent, split_input};

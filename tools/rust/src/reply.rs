@@ -90,6 +90,38 @@ impl IntoIterator for Versions {
     }
 }
 
+/// What a field of a record holds.
+#[derive(Clone, Copy, Debug, PartialEq, Eq)]
+pub enum Content {
+    /// A number.
+    Number(i64),
+    /// No record.
+    Null,
+    /// The record of the dump that has this number.
+    Pointer(usize),
+}
+
+impl fmt::Display for Content {
+    fn fmt(&self, f: &mut fmt::Formatter<'_>) -> fmt::Result {
+        match self {
+            Content::Number(it) => write!(f, "{it}"),
+            Content::Null => f.write_str("null"),
+            Content::Pointer(it) => write!(f, "@{it}"),
+        }
+    }
+}
+
+/// A record of a dump. The one of number 0 is that of the roots.
+#[derive(Clone, Debug, PartialEq, Eq)]
+pub struct Record {
+    /// Its number in the dump.
+    pub number: usize,
+    /// The name of its type.
+    pub type_name: String,
+    /// What its fields hold: the numbers, and then the pointers.
+    pub contents: Vec<Content>,
+}
+
 /// A reply to a line of a script. `to_string` gives it as the program writes it, without the last line feed.
 #[derive(Clone, Debug, PartialEq, Eq)]
 pub enum Reply {
@@ -113,6 +145,10 @@ pub enum Reply {
     Versions(Versions),
     /// What all runs made and wrote (`stats`).
     Stats(Stats),
+    /// The records of a version that its roots lead to (`dump`, behind an image).
+    Dump(Vec<Record>),
+    /// The version that changed what a path reads, where one did (`changed`, behind an image).
+    Changed(Option<u32>),
 }
 
 impl fmt::Display for Reply {
@@ -138,6 +174,16 @@ impl fmt::Display for Reply {
                 f.write_str("0")?;
                 versions.iter().filter_map(|it| it.parent.map(|parent| (it.number, parent))).try_for_each(|(it, parent)| write!(f, "\n{it} from {parent}"))
             }
+            Reply::Dump(records) => {
+                for record in records {
+                    write!(f, "{} {}:", record.number, record.type_name)?;
+                    record.contents.iter().try_for_each(|it| write!(f, " {it}"))?;
+                    writeln!(f)?;
+                }
+                f.write_str("ok")
+            }
+            Reply::Changed(Some(version)) => write!(f, "changed {version}"),
+            Reply::Changed(None) => f.write_str("never"),
             Reply::Stats(it) => write!(f, "records {} pointers {} values {} bound {}", it.records, it.pointers, it.values, it.bound),
         }
     }
@@ -151,6 +197,22 @@ fn number<T: std::str::FromStr + ToString>(word: &str) -> Option<T> {
 /// A printed number, where the line is that of one.
 pub(crate) fn printed(line: &str) -> Option<Result<i64>> {
     line.strip_prefix("| ").map(|word| number(word).ok_or_else(|| Error::UnknownReply(line.to_string())))
+}
+
+/// A record of a dump, where the line is that of one.
+pub(crate) fn record(line: &str) -> Option<Result<Record>> {
+    line.starts_with(|it: char| it.is_ascii_digit()).then(|| read_record(line).ok_or_else(|| Error::UnknownReply(line.to_string())))
+}
+
+fn read_record(line: &str) -> Option<Record> {
+    let mut words = line.split(' ');
+    let content = |word: &str| match word.strip_prefix('@') {
+        Some(it) => number(it).map(Content::Pointer),
+        None if word == "null" => Some(Content::Null),
+        None => number(word).map(Content::Number),
+    };
+    let (it, type_name) = (number(words.next()?)?, words.next()?.strip_suffix(':')?.to_string());
+    Some(Record { number: it, type_name, contents: words.map(content).collect::<Option<_>>()? })
 }
 
 /// The reply to a command with this first word, of which these numbers were printed and this is the last line.
@@ -168,6 +230,8 @@ pub(crate) fn read(command: &str, printed: Vec<i64>, last: &str) -> Result<Reply
         ("open", ["run", it]) if is_silent => number(it).map(Reply::Opened),
         ("call" | "step", ["run", it, "running"]) if is_silent => number(it).map(|run| Reply::Went(run, Progress::Running)),
         ("call" | "step", ["run", it, "done"]) if is_silent => number(it).map(|run| Reply::Went(run, Progress::Done)),
+        ("changed", ["changed", it]) if is_silent => number(it).map(|version| Reply::Changed(Some(version))),
+        ("changed", ["never"]) if is_silent => Some(Reply::Changed(None)),
         ("drop", ["dropped", it]) if is_silent => number(it).map(Reply::Dropped),
         ("budget", ["budget", it]) if is_silent => number(it).map(Reply::Budget),
         ("stats", ["records", records, "pointers", pointers, "values", values, "bound", bound]) if is_silent => {

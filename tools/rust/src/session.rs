@@ -1,5 +1,5 @@
 //! A process of the program.
-use crate::reply::{self, Progress, Published, Reply, Stats, Versions};
+use crate::reply::{self, Progress, Published, Record, Reply, Stats, Versions};
 use crate::text::{is_separator, is_silent, words};
 use crate::{Error, Result};
 use std::ffi::{OsStr, OsString};
@@ -26,6 +26,8 @@ pub struct Session {
     /// None when the input was closed.
     input: Option<ChildStdin>,
     output: BufReader<ChildStdout>,
+    /// Whether it began with an image.
+    is_served: bool,
 }
 
 impl Session {
@@ -34,14 +36,40 @@ impl Session {
         if program.lines().any(is_separator) {
             return Err(Error::WrongText("the program has a separator line, which split_input takes out"));
         }
-        let mut child = Command::new(path).arg("run").stdin(Stdio::piped()).stdout(Stdio::piped()).spawn()?;
-        let (input, output) = (child.stdin.take(), child.stdout.take().expect("it was asked for"));
-        let mut session = Session { child, input, output: BufReader::new(output) };
+        let mut session = Session::begin(path, "run")?;
         let end = if program.is_empty() || program.ends_with('\n') { "" } else { "\n" };
         // An accepted program writes nothing, so the reply to a line of no form tells that it was accepted.
         session.send(&format!("{program}{end}%%\n{MARK}\n"))?;
         let first = session.line()?;
         if first == MARKED { Ok(session) } else { Err(fault(&first, program)) }
+    }
+
+    /// Starts a process on an image. Such a session also has `dump` and `changed`.
+    pub fn behind(path: impl AsRef<OsStr>, image: &[u8]) -> Result<Session> {
+        let length = image_length(image);
+        if length.is_some_and(|it| it < image.len()) {
+            return Err(Error::WrongText("something stands behind the image"));
+        }
+        let mut session = Session::begin(path, "serve")?;
+        session.is_served = true;
+        session.put(image)?;
+        match length {
+            Some(_) => session.send(&format!("{MARK}\n"))?,
+            // It is cut off, and would take what follows for the rest.
+            None => session.input = None,
+        }
+        let first = session.line()?;
+        match first.strip_prefix("refused image ").and_then(|it| it.parse().ok()) {
+            Some(rule) => Err(Error::ImageRefused(rule)),
+            None if first == MARKED => Ok(session),
+            None => Err(Error::UnknownReply(first)),
+        }
+    }
+
+    fn begin(path: impl AsRef<OsStr>, word: &str) -> Result<Session> {
+        let mut child = Command::new(path).arg(word).stdin(Stdio::piped()).stdout(Stdio::piped()).spawn()?;
+        let (input, output) = (child.stdin.take(), child.stdout.take().expect("it was asked for"));
+        Ok(Session { child, input, output: BufReader::new(output), is_served: false })
     }
 
     /// The number of the process.
@@ -68,9 +96,13 @@ impl Session {
     }
 
     fn send(&mut self, text: &str) -> Result<()> {
+        self.put(text.as_bytes())
+    }
+
+    fn put(&mut self, data: &[u8]) -> Result<()> {
         if let Some(input) = &mut self.input {
             // Where the process has ended, what it wrote before can still be read; and then its end is met.
-            match input.write_all(text.as_bytes()) {
+            match input.write_all(data) {
                 Err(error) if error.kind() != std::io::ErrorKind::BrokenPipe => return Err(error.into()),
                 _ => (),
             }
@@ -110,8 +142,16 @@ impl Session {
             }
         }
         self.send(&format!("{line}\n"))?;
-        let mut printed = vec![];
         let mut last = self.line()?;
+        if first == "dump" {
+            let mut records = vec![];
+            while let Some(record) = reply::record(&last) {
+                records.push(record?);
+                last = self.line()?;
+            }
+            return if last == "ok" { Ok(Some(Reply::Dump(records))) } else { reply::read(first, vec![], &last).map(Some) };
+        }
+        let mut printed = vec![];
         while let Some(number) = reply::printed(&last) {
             printed.push(number?);
             last = self.line()?;
@@ -202,6 +242,28 @@ impl Session {
         }
     }
 
+    /// The records of a version that its roots lead to. Behind an image alone.
+    pub fn dump(&mut self, version: u32) -> Result<Vec<Record>> {
+        self.must_be_served()?;
+        match self.must("dump", "", &[&version])? {
+            Reply::Dump(it) => Ok(it),
+            other => Err(Error::UnknownReply(other.to_string())),
+        }
+    }
+
+    /// The version, on the way from this one to version 0, that changed what a path such as `first.next.key` reads. Behind an image alone.
+    pub fn changed(&mut self, version: u32, path: &str) -> Result<Option<u32>> {
+        self.must_be_served()?;
+        match self.must("changed", path, &[&version, &path])? {
+            Reply::Changed(it) => Ok(it),
+            other => Err(Error::UnknownReply(other.to_string())),
+        }
+    }
+
+    fn must_be_served(&self) -> Result<()> {
+        if self.is_served { Ok(()) } else { Err(Error::WrongText("dump and changed are answered behind an image alone")) }
+    }
+
     /// What all runs made and wrote.
     pub fn stats(&mut self) -> Result<Stats> {
         match self.must("stats", "", &[])? {
@@ -222,6 +284,23 @@ fn call<'a>(number: &'a u32, name: &'a dyn Display, arguments: &'a [i64]) -> Vec
     let mut words: Vec<&dyn Display> = vec![number, name];
     words.extend(arguments.iter().map(|it| it as &dyn Display));
     words
+}
+
+/// How many bytes an image has by its sizes; none where they promise more than there is.
+fn image_length(image: &[u8]) -> Option<usize> {
+    let number = |at: usize| -> Option<usize> {
+        let bytes = image.get(at..at.checked_add(8)?)?;
+        usize::try_from(u64::from_be_bytes(bytes.try_into().ok()?)).ok()
+    };
+    let behind = |at: usize, each: usize| number(at)?.checked_mul(each)?.checked_add(at + 8);
+    // Behind the text six numbers, four of each version, and of each node its slots and stamped values.
+    let mut at = behind(behind(8, 1)?.checked_add(48)?, 32)?;
+    let nodes = number(at)?;
+    at += 8;
+    for _ in 0..nodes {
+        at = behind(behind(at.checked_add(48)?, 8)?, 24)?;
+    }
+    (at <= image.len()).then_some(at)
 }
 
 /// What the first line says where it is not that of an accepted program.

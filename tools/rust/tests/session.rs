@@ -1,5 +1,7 @@
 //! The session over the built program, which PERSIST names. Where it names none they say so and are passed.
-use persist::{program_path, split_input, Error, Progress, Reply, Session, Stats};
+use persist::{program_path, split_input, Content, Error, Progress, Reply, Session, Stats};
+use std::io::Write as _;
+use std::process::{Command, Stdio};
 
 const LIST: &str = "record Node 2 { val key: int; ptr next: Node; }
 root first: Node;
@@ -118,4 +120,35 @@ fn a_process_that_ended_is_told() {
     assert!(matches!(Session::start("/no/such/program", LIST), Err(Error::Io(_))));
     assert!(matches!(Session::start("true", LIST), Err(Error::Ended(Some(0)))));
     assert!(matches!(Session::start("echo", LIST), Err(Error::UnknownReply(text)) if text == "run"));
+}
+
+/// The image behind a program and a script.
+fn packed(input: &str) -> Vec<u8> {
+    let mut child = Command::new(program_path()).arg("pack").stdin(Stdio::piped()).stdout(Stdio::piped()).spawn().unwrap();
+    child.stdin.take().unwrap().write_all(input.as_bytes()).unwrap();
+    child.wait_with_output().unwrap().stdout
+}
+
+#[test]
+fn an_image_is_gone_on_from() {
+    let Some(mut other) = list() else { return };
+    assert!(matches!(other.dump(0), Err(Error::WrongText(_))));
+    assert!(matches!(other.changed(0, "first"), Err(Error::WrongText(_))));
+    let image = packed(&format!("{LIST}%%\nrun 0 add 5\nrun 1 add 7\n"));
+    let mut session = Session::behind(program_path(), &image).unwrap();
+    let records = session.dump(2).unwrap();
+    assert_eq!(records.iter().map(|it| it.type_name.as_str()).collect::<Vec<_>>(), ["root", "Node", "Node"]);
+    assert_eq!(records[1].contents, [Content::Number(7), Content::Pointer(2)]);
+    assert_eq!(records[2].contents, [Content::Number(5), Content::Null]);
+    assert_eq!(session.command("dump 1").unwrap().unwrap().to_string(), "0 root: @1\n1 Node: 5 null\nok");
+    assert_eq!((session.changed(2, "first.next").unwrap(), session.changed(0, "first").unwrap()), (Some(2), None));
+    assert!(matches!(session.dump(9), Err(Error::Refused(kind)) if kind == "version"));
+    assert!(matches!(session.changed(2, "last"), Err(Error::Refused(kind)) if kind == "path"));
+    assert_eq!(session.run(2, "add", &[9]).unwrap().version, 3);
+    assert_eq!(session.end().unwrap(), Some(0));
+    for length in [0, 7, 12, 100, image.len() - 1] {
+        assert!(matches!(Session::behind(program_path(), &image[..length]), Err(Error::ImageRefused(0))), "{length}");
+    }
+    let behind = [image, b"stats\n".to_vec()].concat();
+    assert!(matches!(Session::behind(program_path(), &behind), Err(Error::WrongText(_))));
 }
