@@ -13,6 +13,7 @@ import tempfile
 import threading
 import time
 import unittest
+from typing import Dict, List
 
 from persist.client import Pointer, Session, answer_to, program_path, read_outline, read_text, split_input, written_by
 from tests.samples import LIST, SCRIPT, TOP, alive, made_up_script
@@ -607,14 +608,19 @@ class Tokens(unittest.TestCase):
         server = self.enter(a_server('--token', self.token))
         connection = http.client.HTTPConnection(server.host, server.port, timeout=20)
         self.addCleanup(connection.close)
-        times = {'Bearer x': [], 'Bearer 0123456789abcdef-secreT': []}
-        for _ in range(150):
-            for guess, row in times.items():
-                begun = time.perf_counter()
-                self.assertEqual(request(connection, 'GET', '/stores', headers={'Authorization': guess}).status, 401)
-                row.append(time.perf_counter() - begun)
-        middle = [sorted(row)[len(row) // 2] for row in times.values()]
-        self.assertLess(max(middle) / min(middle), 1.5)
+
+        def unevenness() -> float:
+            times: Dict[str, List[float]] = {'Bearer x': [], 'Bearer 0123456789abcdef-secreT': []}
+            for _ in range(150):
+                for guess, row in times.items():
+                    begun = time.perf_counter()
+                    self.assertEqual(request(connection, 'GET', '/stores', headers={'Authorization': guess}).status, 401)
+                    row.append(time.perf_counter() - begun)
+            middle = [sorted(row)[len(row) // 2] for row in times.values()]
+            return max(middle) / min(middle)
+
+        # One even take of three is enough: on a busy machine the middles of two rows may lie apart by chance.
+        self.assertTrue(any(unevenness() < 1.5 for _ in range(3)))
 
     def test_words_that_are_refused(self):
         short, open_to_all = os.path.join(self.folder, 'short'), os.path.join(self.folder, 'open')
