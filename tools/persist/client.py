@@ -14,6 +14,7 @@ This module is tested (tools/tests) and not proved: a reply says what the progra
 """
 
 import contextlib
+import functools
 import os
 import re
 import shutil
@@ -262,10 +263,17 @@ def split_input(text: str) -> Tuple[str, List[str]]:
     return text[:found.start()], lines[:-1] if lines[-1] == '' else lines
 
 
-def words_of(line: str) -> List[str]:
+# A line is asked for its words when it is sent, when its reply is read, and when it is noted.
+@functools.lru_cache(maxsize=64)
+def kept_words(line: str) -> Tuple[str, ...]:
     """The words of a script line; none where the line has no reply."""
     words = WORD.findall(line)
-    return [] if words and words[0].startswith('#') else words
+    return () if words and words[0].startswith('#') else tuple(words)
+
+
+def words_of(line: str) -> List[str]:
+    """The words of a script line; none where the line has no reply."""
+    return list(kept_words(line))
 
 
 def text_of(reply: Optional[Reply]) -> str:
@@ -475,7 +483,7 @@ class History:
 
     def note(self, line: str, reply: Optional[Reply]) -> None:
         """Adds a line that was answered by this reply."""
-        if reply is None or isinstance(reply, (Answer, Changed, Dump, Never, Refused, Stats, Versions)):
+        if not isinstance(reply, (Version, Opened, Running, Done, Dropped, Budget, Trapped)):
             return
         words = words_of(line)
         if words[0] == 'query':
