@@ -305,20 +305,26 @@ for _form, _kind in (
     FORMS.setdefault(_form.partition(' ')[0], []).append((re.compile(_form, re.ASCII), _kind))
 
 
+# The last lines that a command may have, by their first word; one that the program does not know is refused.
+REFUSED = {'refused': FORMS['refused']}
+ENDINGS: Dict[str, Dict[str, List[Tuple[Pattern[str], Any]]]] = {
+    _command: {**{_word: [(_form, _kind) for _form, _kind in _forms if _kind in _kinds] for _word, _forms in FORMS.items()}, **REFUSED}
+    for _command, _kinds in REPLIES.items()}
+
+
 def read_reply(command: str, printed: Sequence[int], last: str) -> Reply:
     """The reply to a command with this first word, of which these numbers were printed and this is the last line."""
-    for form, kind in FORMS.get(last.partition(' ')[0], ()):
+    for form, kind in ENDINGS.get(command, REFUSED).get(last.partition(' ')[0], ()):
         found = form.fullmatch(last)
-        if not found or not (kind is Refused or kind in REPLIES.get(command, ())):
+        if not found:
             continue
+        if kind is Version:
+            return Version(int(found[1]), tuple(printed))
         parts: List[Union[int, str]] = [int(part) if part.isdigit() else part for part in found.groups()]
-        made: Optional[Reply] = None
-        if kind in (Version, Answer, Trapped):
-            made = kind(*parts, printed=tuple(printed))
-        elif not printed:
-            made = kind(*parts)
-        if made is not None:
-            return made
+        if kind in (Answer, Trapped):
+            return kind(*parts, printed=tuple(printed))  # type: ignore[no-any-return]
+        if not printed:
+            return kind(*parts)  # type: ignore[no-any-return]
     raise UnknownReply(last)
 
 
@@ -344,13 +350,13 @@ def is_last(words: Sequence[str], line: str) -> bool:
     """Whether a line is the last one of the reply to a command with these words, or of the mark behind it."""
     if words[0] == 'dump':
         return not line[:1].isdigit()
-    return line == MARKED if words == ['versions'] else not line.startswith('| ')
+    return line == MARKED if words[0] == 'versions' and len(words) == 1 else not line.startswith('| ')
 
 
 def take_reply(line: str, next_line: Callable[[], str]) -> Reply:
     """The reply to a command that was sent so, from what gives the lines that are written, one at a time."""
-    words = words_of(line)
-    if words == ['versions']:
+    words = kept_words(line)
+    if words == ('versions',):
         return read_versions(list(iter(next_line, MARKED)))
     records: List[str] = []
     printed: List[int] = []
@@ -485,7 +491,7 @@ class History:
         """Adds a line that was answered by this reply."""
         if not isinstance(reply, (Version, Opened, Running, Done, Dropped, Budget, Trapped)):
             return
-        words = words_of(line)
+        words = kept_words(line)
         if words[0] == 'query':
             return
         self.lines.append(line)
@@ -812,7 +818,7 @@ class Session(Commands):
         """Sends a line of the script, and returns its reply; None for a line that has none, which is not sent."""
         if '\n' in line:
             raise WrongText('a command is one line')
-        return self.commands([line])[0] if words_of(line) else None
+        return self.commands([line])[0] if kept_words(line) else None
 
     def commands(self, lines: Sequence[str]) -> List[Reply]:
         """Sends some lines at once, each of which has a reply, and returns their replies. They are so few that a pipe holds them, 64 KiB."""
