@@ -10,6 +10,7 @@ import shutil
 import subprocess
 import sys
 import tempfile
+import time
 from typing import Iterator
 
 from shared.repository import TOP
@@ -78,10 +79,17 @@ def compiled(kit: str, module: str, to: str) -> None:
                     f'{kit}/c/libos_c.a', f'{kit}/c/liblibc_c.a'], stderr=subprocess.DEVNULL, check=True)
 
 
+def tell(what: str) -> None:
+    """Says on standard error how far the build is."""
+    print(what, file=sys.stderr, flush=True)
+
+
 def build() -> None:
     """Builds the program where it is not there or a source is newer. Where that fails it says why, and ends the script."""
     if not is_stale():
         return
+    tell('the program is built once without its proof, in out/unproved: a minute or two on an idle machine, more on a busy one')
+    began, new = time.time(), f'{PROGRAM}.{os.getpid()}'
     with tempfile.TemporaryDirectory(prefix='persist-') as folder:
         module = f'{folder}/module.bc'
         rt = linked(kit(), f'{folder}/kit', module)
@@ -91,5 +99,8 @@ def build() -> None:
             sys.exit(f'{ran.stdout.decode(errors="replace")}\nthe program could not be compiled')
         os.makedirs(os.path.dirname(PROGRAM), exist_ok=True)
         compiled(kit(), module, f'{folder}/program')
-        shutil.copy(f'{folder}/program', f'{PROGRAM}.new')
-    os.replace(f'{PROGRAM}.new', PROGRAM)
+        shutil.copy(f'{folder}/program', new)
+    # What changes a source meanwhile makes the program older than it.
+    os.utime(new, (began, began))
+    os.replace(new, PROGRAM)
+    tell(f'it is built ({time.time() - began:.0f} s)')
