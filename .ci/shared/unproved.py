@@ -7,16 +7,20 @@ as the proved program, and is proved by nothing.
 """
 import os
 import shutil
+import signal
 import subprocess
 import sys
 import tempfile
 import time
-from typing import Iterator
+from types import FrameType
+from typing import Iterator, Optional
 
 from shared.repository import TOP
 
 PROGRAM = f'{TOP}/out/unproved'
 TARGET = 'x86_64-unknown-linux-gnu'
+# With this status a script ends that could not build it.
+NOT_BUILT = 125
 # The first module that `rt try` compiles is a small one of its own.
 CLANG = '''#!/usr/bin/env bash
 for word in "$@"; do
@@ -27,6 +31,23 @@ for word in "$@"; do
 done
 exec '{clang}' "$@"
 '''
+
+
+class Signalled(BaseException):
+    """A signal came."""
+
+    def __init__(self, number: int) -> None:
+        self.number = number
+
+
+def end_by(number: int, _frame: Optional[FrameType]) -> None:
+    """What a signal does during a build."""
+    raise Signalled(number)
+
+
+def tell(what: str) -> None:
+    """Says on standard error how far the build is."""
+    print(what, file=sys.stderr, flush=True)
 
 
 def sources() -> Iterator[str]:
@@ -46,7 +67,8 @@ def kit() -> str:
     """The folder of the toolchain."""
     found = shutil.which('rt')
     if found is None:
-        sys.exit('there is no `rt`, the toolchain of Rattle')
+        tell('there is no `rt`, the toolchain of Rattle')
+        sys.exit(NOT_BUILT)
     return os.path.dirname(os.path.dirname(os.path.realpath(found)))
 
 
@@ -79,24 +101,26 @@ def compiled(kit: str, module: str, to: str) -> None:
                     f'{kit}/c/libos_c.a', f'{kit}/c/liblibc_c.a'], stderr=subprocess.DEVNULL, check=True)
 
 
-def tell(what: str) -> None:
-    """Says on standard error how far the build is."""
-    print(what, file=sys.stderr, flush=True)
+def module_of(rt: str, module: str) -> None:
+    """Lets `rt` make the program's module. Where a signal ends this meanwhile, `rt` ends what it started first."""
+    words = [sys.executable, rt, 'try', '--', 'check']
+    with subprocess.Popen(words, cwd=f'{TOP}/crates/persist', stdin=subprocess.DEVNULL, stdout=subprocess.PIPE, stderr=subprocess.STDOUT) as run:
+        try:
+            said, _ = run.communicate()
+        except BaseException:
+            run.terminate()
+            raise
+    if not os.path.exists(module):
+        tell(f'{said.decode(errors="replace")}\nthe program could not be compiled')
+        sys.exit(NOT_BUILT)
 
 
-def build() -> None:
-    """Builds the program where it is not there or a source is newer. Where that fails it says why, and ends the script."""
-    if not is_stale():
-        return
-    tell('the program is built once without its proof, in out/unproved: a minute or two on an idle machine, more on a busy one')
+def make() -> None:
+    """Makes the program, and puts it in its place."""
     began, new = time.time(), f'{PROGRAM}.{os.getpid()}'
     with tempfile.TemporaryDirectory(prefix='persist-') as folder:
         module = f'{folder}/module.bc'
-        rt = linked(kit(), f'{folder}/kit', module)
-        ran = subprocess.run([sys.executable, rt, 'try', '--', 'check'], cwd=f'{TOP}/crates/persist', stdin=subprocess.DEVNULL,
-                             stdout=subprocess.PIPE, stderr=subprocess.STDOUT)
-        if not os.path.exists(module):
-            sys.exit(f'{ran.stdout.decode(errors="replace")}\nthe program could not be compiled')
+        module_of(linked(kit(), f'{folder}/kit', module), module)
         os.makedirs(os.path.dirname(PROGRAM), exist_ok=True)
         compiled(kit(), module, f'{folder}/program')
         shutil.copy(f'{folder}/program', new)
@@ -104,3 +128,20 @@ def build() -> None:
     os.utime(new, (began, began))
     os.replace(new, PROGRAM)
     tell(f'it is built ({time.time() - began:.0f} s)')
+
+
+def build() -> None:
+    """Builds the program where it is not there or a source is newer. Where that fails it says why, and ends the script with status 125,
+    which is none of the program's. A signal ends what was started, and then the script."""
+    if not is_stale():
+        return
+    tell('the program is built once without its proof, in out/unproved: a minute or two on an idle machine, more on a busy one')
+    heeded = [it for it in (signal.SIGHUP, signal.SIGINT, signal.SIGTERM) if signal.getsignal(it) is not signal.SIG_IGN]
+    before = {it: signal.signal(it, end_by) for it in heeded}
+    try:
+        make()
+    except Signalled as signalled:
+        signal.signal(signalled.number, signal.SIG_DFL)
+        os.kill(os.getpid(), signalled.number)
+    for it, handler in before.items():
+        signal.signal(it, handler)
