@@ -33,7 +33,7 @@ from .image import read_bytes
 TRAPS = {
     'null': 'a field of null was read or written',
     'index': 'an index was below 0, or not below the number of elements of its array',
-    'indegree': 'a pointer write would have raised an in-degree above its limit; records that nothing reaches count too',
+    'indegree': 'a pointer write would have raised an in-degree above its limit; records that nothing reaches count too (docs/NOTATION.md, In-degrees)',
     'overflow': 'a result was outside 64 bits',
     'divide': 'a divisor was zero',
     'budget': 'a statement was due, and the budget was used up',
@@ -64,7 +64,7 @@ FAULTS = {
     'unknown': 'a name that is not declared; new and call give their result to a local or parameter only',
     'duplicate': 'a name that is declared twice; a local or parameter may not have the name of a root',
     'mismatch': 'an expression that does not fit its place; a comparison is a condition and no number',
-    'limit': 'an in-degree limit, or a number of elements, that is not from 1 to 16',
+    'limit': 'an in-degree limit, or a number of elements, that is not from 1 to 16 (docs/NOTATION.md, In-degrees, tells what to do with more)',
     'too-many': 'more of them than a program may have',
     'query-writes': 'a query that writes, makes a record, or calls a procedure that is no query',
 }
