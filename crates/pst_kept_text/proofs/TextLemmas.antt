@@ -11,13 +11,13 @@ pub record AreFirst (lines first : List ℕ) : Type 0 where
   pub split : first ++ rest ≡ lines
   pub are_whole : whole first ≡ first
 
-whole_zero : (b : ℕ) (xs : List ℕ) → b ≡ 0 → whole (b ∷ xs) ≡ []
+pub whole_zero : (b : ℕ) (xs : List ℕ) → b ≡ 0 → whole (b ∷ xs) ≡ []
 whole_zero b xs h = grind (arith, nat_tests)
 
-whole_end : (b : ℕ) (xs : List ℕ) → b ≡ 30 → whole (b ∷ xs) ≡ b ∷ whole xs
+pub whole_end : (b : ℕ) (xs : List ℕ) → b ≡ 30 → whole (b ∷ xs) ≡ b ∷ whole xs
 whole_end b xs h = grind (arith, nat_tests)
 
-whole_mid : (b : ℕ) (xs : List ℕ) → b ≢ 0 → b ≢ 30 → whole (b ∷ xs) ≡ joined b (whole xs)
+pub whole_mid : (b : ℕ) (xs : List ℕ) → b ≢ 0 → b ≢ 30 → whole (b ∷ xs) ≡ joined b (whole xs)
 whole_mid b xs h k = grind (arith, nat_tests)
 
 joined_tail : (b : ℕ) (ys xs : List ℕ) → joined b ys ≡ b ∷ xs → ys ≡ xs
