@@ -1,1 +1,3 @@
 pub mod CheckLemmas
+pub mod StageLemmas
+pub mod HeadLemmas

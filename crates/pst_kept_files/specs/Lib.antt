@@ -1,3 +1,4 @@
 pub mod Standing
+pub mod Staged
 pub mod Checks
 pub mod Kept

@@ -1,7 +1,7 @@
 -- What files stand for. A file is a gate (1 where it counts), a generation and the image's length (8 bytes each, the highest first), the
 -- image's digest (32 bytes), the image, and a text of groups.
-use Rattle.std.specs.Prelude.{◌≡◌, ◌≢◌, ◌⊎◌, ⊤, ℕ, ◌+◌, ◌-◌, ◌<◌, ◌≤◌, Bool, ◌&&◌, nat_le, nat_lt, List, [], ◌∷◌, ◌++◌, length, take, drop, slice_index, Option, Some, None, if◌then◌else◌, ◌==◌}
-use Rattle.std.specs.Int.{w64, from_be_bytes}
+use Rattle.std.specs.Prelude.{◌≡◌, ◌≢◌, ◌⊎◌, ⊤, ℕ, ◌+◌, ◌-◌, ◌<◌, ◌≤◌, Bool, ◌&&◌, nat_le, nat_lt, List, [], ◌∷◌, ◌++◌, length, take, drop, slice_index, replicate, Option, Some, None, if◌then◌else◌, ◌==◌}
+use Rattle.std.specs.Int.{w64, from_be_bytes, to_be_bytes}
 use Rattle.pst_kept_text.specs.Text.{behind}
 use Rattle.pst_kept_text.specs.Written.{groups_in}
 use Rattle.pst_kept_files.specs.declared.role.Role.{Role}
@@ -66,6 +66,18 @@ role_of (Some a) (Some b) = if nat_lt a b then Some Second else if nat_lt b a th
 abbrev pub IsOlder : ℕ → Option Standing → Type 0
 IsOlder generation None = ⊤
 IsOlder generation (Some s) = s.generation < generation
+
+-- what stands between the gate and the image
+abbrev pub head_of : ℕ → ℕ → List ℕ → List ℕ
+head_of generation size digest = to_be_bytes w64 generation ++ to_be_bytes w64 size ++ digest
+
+-- the zeros behind the image of a file that was written anew
+unfoldable pub spare : List ℕ
+spare = replicate 262144 0
+
+-- what stands behind its gate
+abbrev pub body_of : List ℕ → List ℕ → List ℕ
+body_of head image = head ++ image ++ spare
 
 -- what the writing of a whole file leaves at any moment: the old file, one that doesn't count, or the new one
 abbrev pub IsStage : List ℕ → List ℕ → List ℕ → Type 0

@@ -3,10 +3,14 @@
 
 mod checks;
 mod error;
+mod head;
 mod kept;
 mod role;
+mod stage;
 
 pub use checks::{UnsealError, Unsealed, check, letters_of, sealed, unseal};
 pub use error::FilesError;
+pub use head::{Glance, HEAD, look, which};
 pub use kept::Kept;
 pub use role::Role;
+pub use stage::{ROOM, shut, write_whole};
