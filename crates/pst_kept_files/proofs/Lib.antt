@@ -1,3 +1,5 @@
 pub mod CheckLemmas
 pub mod StageLemmas
 pub mod HeadLemmas
+pub mod StandingLemmas
+pub mod KeepLemmas

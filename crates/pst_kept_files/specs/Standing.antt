@@ -2,6 +2,7 @@
 -- image's digest (32 bytes), the image, and a text of groups.
 use Rattle.std.specs.Prelude.{◌≡◌, ◌≢◌, ◌⊎◌, ⊤, ℕ, ◌+◌, ◌-◌, ◌<◌, ◌≤◌, Bool, ◌&&◌, nat_le, nat_lt, List, [], ◌∷◌, ◌++◌, length, take, drop, slice_index, replicate, Option, Some, None, if◌then◌else◌, ◌==◌}
 use Rattle.std.specs.Int.{w64, from_be_bytes, to_be_bytes}
+use Rattle.sha2.specs.Sha256.{sha256}
 use Rattle.pst_kept_text.specs.Text.{behind}
 use Rattle.pst_kept_text.specs.Written.{groups_in}
 use Rattle.pst_kept_files.specs.declared.role.Role.{Role}
@@ -78,6 +79,10 @@ spare = replicate 262144 0
 -- what stands behind its gate
 abbrev pub body_of : List ℕ → List ℕ → List ℕ
 body_of head image = head ++ image ++ spare
+
+-- the same, of a file with this image and no commands
+abbrev pub new_body : ℕ → List ℕ → List ℕ
+new_body generation image = body_of (head_of generation (length image) (sha256 image)) image
 
 -- what the writing of a whole file leaves at any moment: the old file, one that doesn't count, or the new one
 abbrev pub IsStage : List ℕ → List ℕ → List ℕ → Type 0

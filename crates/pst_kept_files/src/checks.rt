@@ -1,9 +1,10 @@
 //! The checks in a text: damage of a group is found by them. No clause on crashes rests on them.
 
-ghost use Rattle.std.specs.Prelude.{◌≡◌, ◌∷◌, [], List, ℕ, ◌++◌, IfOk, IfSome, IsNone, IsErrOf};
+ghost use Rattle.std.specs.Prelude.{◌≡◌, ◌∷◌, [], List, ℕ, ◌++◌, IfOk, IfErr, IfSome, IsNone, IsErrOf};
 ghost use Rattle.sha2.specs.Sha256.{sha256};
 ghost use Rattle.pst_kept_text.specs.Text.{whole, IsPlain};
 ghost use Rattle.pst_kept_files.specs.Checks.{letters, check as check_of, sealed as sealed_of, text_of, ArePlain, IsSealed};
+ghost use Rattle.pst_kept_text.specs.declared.error.DiskError.TheVariants.{Memory};
 ghost use Rattle.pst_kept_files.specs.declared.checks.UnsealError.TheVariants.{Damaged};
 
 use pst_kept_text::{DiskError, END};
@@ -52,7 +53,8 @@ pub fn check(before: &[u8; 16], body: &[u8]) -> [u8; 16]
 
 /// A group: a body, its check, and the end.
 pub fn sealed(alloc: Global, body: &[u8], check: &[u8; 16]) -> Result<Vec<u8>, DiskError>
-    ensures { IfOk result (λ group. group.items ≡ body.now ++ check.now ++ 30 ∷ []) }
+    ensures group { IfOk result (λ group. group.items ≡ body.now ++ check.now ++ 30 ∷ []) }
+    ensures memory { IfErr result (λ e. e ≡ Memory) }
 {
     let mut group = Vec::new(alloc);
     if group.extend_from_slice(body).is_err()

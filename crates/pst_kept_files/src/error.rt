@@ -1,6 +1,7 @@
 //! Why two files could not be made, opened or written.
 
 use pst_kept_text::DiskError;
+use std::io;
 use thiserror::Error;
 
 /// Why two files could not be made, opened or written.
@@ -37,5 +38,17 @@ impl From<DiskError> for FilesError {
 
     fn from(error: DiskError) -> FilesError {
         FilesError::Disk(error)
+    }
+}
+
+impl From<io::Error> for FilesError {
+    ghost use Rattle.std.specs.Prelude.{◌≡◌};
+    ghost use Rattle.pst_kept_text.specs.declared.error.DiskError.TheVariants.{Failed};
+    ghost use Rattle.pst_kept_files.specs.declared.error.FilesError.TheVariants.{Disk};
+
+    ghost from_gives = { λ error why. why ≡ Disk (Failed error) };
+
+    fn from(error: io::Error) -> FilesError {
+        FilesError::Disk(DiskError::Failed(error))
     }
 }

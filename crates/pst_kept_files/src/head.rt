@@ -1,6 +1,7 @@
 //! The head of a file: its gate, its generation, the image's length and its digest.
 
-ghost use Rattle.std.specs.Prelude.{◌≡◌, ◌++◌, ◌<◌, ◌≤◌, ◌^◌, ℕ, List, length, take, IfOk, IsTrue};
+ghost use Rattle.std.specs.Prelude.{◌≡◌, ◌++◌, ◌<◌, ◌≤◌, ◌^◌, ℕ, List, length, take, IfOk, IfErr, IsTrue};
+ghost use Rattle.pst_kept_text.specs.declared.error.DiskError.TheVariants.{Memory};
 ghost use Rattle.std.specs.Int.{w64, from_be_bytes, to_be_bytes};
 ghost use Rattle.pst_kept_text.specs.Written.{OnlyReads};
 ghost use Rattle.pst_kept_text.specs.Causes.{CountsFailed};
@@ -97,7 +98,8 @@ pub fn head(
     len: usize,
     digest: &[u8; 32],
 ) -> Result<Vec<u8>, DiskError>
-    ensures { IfOk result (λ head. head.items ≡ head_of generation len digest.now) }
+    ensures head { IfOk result (λ head. head.items ≡ head_of generation len digest.now) }
+    ensures memory { IfErr result (λ e. e ≡ Memory) }
 {
     let mut head = Vec::new(alloc);
     if head.extend_from_slice(&generation.to_be_bytes()).is_err()

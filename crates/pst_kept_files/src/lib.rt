@@ -3,6 +3,7 @@
 
 mod checks;
 mod error;
+mod files;
 mod head;
 mod kept;
 mod role;
@@ -10,6 +11,7 @@ mod stage;
 
 pub use checks::{UnsealError, Unsealed, check, letters_of, sealed, unseal};
 pub use error::FilesError;
+pub use files::{append, checkpoint, create};
 pub use head::{Glance, HEAD, look, which};
 pub use kept::Kept;
 pub use role::Role;
