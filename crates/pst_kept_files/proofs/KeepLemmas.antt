@@ -98,3 +98,16 @@ module _ (f other : List ℕ) (kept : Kept) (before commands : List ℕ) (means 
       none_of : (c : List ℕ) → (slice_index c 0 ≢ 1) ⊎ (length c ≤ 1) → standing c ≡ None
       none_of c (inl shut) = shut_stands c shut
       none_of c (inr short) = short_stands c (omega arith)
+
+-- while a store is made in two files, the two keep nothing, or the image
+pub created_either : (one two : List ℕ) (generation : ℕ) (image c : List ℕ) → generation < 2 ^ 64 → length image < 2 ^ 61 → standing one ≡ None → standing two ≡ None
+    → IsStage one (new_body generation image) c → (stands c two ≡ None) ⊎ Keeps c two image []
+created_either one two generation image c small few none_one none_two (inl same) = inl (ap₂ later_of (ap standing same ∙ none_one) none_two)
+created_either one two generation image c small few none_one none_two (inr (inl shut)) = inl (ap₂ later_of (shut_stands c shut) none_two)
+created_either one two generation image c small few none_one none_two (inr (inr (inl short))) = inl (ap₂ later_of (short_stands c (omega arith)) none_two)
+created_either one two generation image c small few none_one none_two (inr (inr (inr whole))) = inr (subst (λ (e : List ℕ). Keeps e two image []) (sym whole) (record {
+  it = content (1 ∷ new_body generation image);
+  last = letters (sha256 image);
+  stand = alone (1 ∷ new_body generation image) two (content (1 ∷ new_body generation image)) (standing_new generation image small few) none_two;
+  holds = holds_new generation image small few;
+}))

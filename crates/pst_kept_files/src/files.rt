@@ -75,10 +75,13 @@ pub fn create<D: Disk>(
     ensures unchanged { result ≡ Err NotEmpty → OnlyReads D.Disk one.old one.new × OnlyReads D.Disk two.old two.new }
     ensures failed { IfErr result (CountsFailedIn (D.Disk.faults one.old) (D.Disk.faults one.new) (D.Disk.faults two.old) (D.Disk.faults two.new)) }
 {
-    if one.len()? > 1 || two.len()? > 1 {
+    let len = one.len()?;
+    let two_len = two.len()?;
+    if len > 1 || two_len > 1 {
         return Err(FilesError::NotEmpty);
     }
-    Ok(write_new(alloc, one, Role::First, 1, image)?)
+    let kept = write_new(alloc, one, Role::First, 1, image)?;
+    Ok(kept)
 }
 
 /// Appends commands to the file that counts.
