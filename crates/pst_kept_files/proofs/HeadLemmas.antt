@@ -4,7 +4,8 @@ use Rattle.std.proofs.lemmas.Bool.{and_left, and_right, and_from, ne_eqb, eq-eqb
 use Rattle.std.proofs.lemmas.List.{take-take, drop-take, get_or-take, length-take, ext_get_or}
 use Rattle.sqlite_disk.specs.Disk.{Holds}
 use Rattle.std.specs.Int.{w64, from_be_bytes}
-use Rattle.pst_kept_files.specs.Standing.{number, base_of, is_open, generation_in}
+use Rattle.pst_kept_files.specs.Standing.{number, base_of, is_open, standing, generation_in}
+use Rattle.pst_kept_files.specs.Opening.{BeginsAt}
 
 pub number_is : (bytes : List ℕ) → number bytes ≡ from_be_bytes w64 bytes
 unfolding number
@@ -45,3 +46,18 @@ front_of file front size holds = ext_get_or 0 front (take 17 file) (omega (arith
     let at : 0 + i ≡ i = omega arith in
     let below : i < 17 = omega arith in
     sym (holds.each i low) ∙ ap (slice_index file) at ∙ sym (get_or-take 17 file i 0 below))
+
+-- a file that was read whole
+module _ (file : List ℕ) where
+  size_of : base_of file ≡ 49 + from_be_bytes w64 (take 8 (drop 9 file))
+  size_of = ap (λ (n : ℕ). 49 + n) (number_is (take 8 (drop 9 file)))
+
+  pub long_none : length file - 49 < from_be_bytes w64 (take 8 (drop 9 file)) → 49 ≤ length file → standing file ≡ None
+  long_none long some =
+      let shut : is_open file ≡ false = and_right (eqb (slice_index file 0) 1) (leb (base_of file) (length file)) (lt-leb (base_of file) (length file) (omega (arith, size_of, long))) in
+      rw shut refl
+
+  pub begins_at : (base : ℕ) → slice_index file 0 ≡ 1 → base ≡ 49 + from_be_bytes w64 (take 8 (drop 9 file)) → base ≤ length file → BeginsAt file base
+  begins_at base one is inside =
+      let opened : is_open file ≡ true = and_from (eqb (slice_index file 0) 1) (leb (base_of file) (length file)) (eq-eqb (slice_index file 0) 1 one) (le-leb (base_of file) (length file) (omega (arith, size_of, is, inside))) in
+      record { counts = rw opened refl; is = omega (arith, size_of, is); head = omega (arith, is); inside = inside }

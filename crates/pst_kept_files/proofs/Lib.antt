@@ -3,3 +3,4 @@ pub mod StageLemmas
 pub mod HeadLemmas
 pub mod StandingLemmas
 pub mod KeepLemmas
+pub mod OpenLemmas

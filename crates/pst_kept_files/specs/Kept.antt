@@ -40,7 +40,6 @@ pub record IsHeldBy {D : Type 0} (g : Ghosts D) (counting other : D) (kept : Kep
   pub settled : IsSettled g counting kept.place
   pub usable : IsTrue (g.is_usable other)
   pub durable : Only (g.seen other) (g.may_leave other)
-  pub few : kept.generation < 2 ^ 63
 
 abbrev pub IsHeld : {D : Type 0} → Ghosts D → D → D → Role → Kept → Type 0
 IsHeld g one two First kept = IsHeldBy g one two kept

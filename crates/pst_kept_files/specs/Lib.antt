@@ -2,3 +2,4 @@ pub mod Standing
 pub mod Staged
 pub mod Checks
 pub mod Kept
+pub mod Opening

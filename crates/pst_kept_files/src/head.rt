@@ -26,7 +26,7 @@ pub struct Glance {
 }
 
 /// The number of eight bytes, the highest first.
-fn number(bytes: &[u8]) -> u64
+pub fn number(bytes: &[u8]) -> u64
     requires { length bytes.now ≡ 8 }
     ensures { result ≡ from_be_bytes w64 bytes.now }
 {

@@ -6,6 +6,7 @@ mod error;
 mod files;
 mod head;
 mod kept;
+mod opening;
 mod role;
 mod stage;
 
@@ -14,5 +15,6 @@ pub use error::FilesError;
 pub use files::{append, checkpoint, create};
 pub use head::{Glance, HEAD, look, which};
 pub use kept::Kept;
+pub use opening::{Opened, open};
 pub use role::Role;
 pub use stage::{ROOM, shut, write_whole};
