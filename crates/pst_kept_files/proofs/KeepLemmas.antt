@@ -1,15 +1,14 @@
 -- What is kept behind the calls.
-use Rattle.std.proofs.Common.{◌≡◌, ◌≢◌, ◌⊎◌, inl, inr, ⊎_elim, ℕ, ◌+◌, ◌<◌, ◌≤◌, ◌^◌, List, [], ◌∷◌, ◌++◌, length, slice_index, Some, None, refl, sym, ◌∙◌, ap, ap₂, subst, arith}
-use Rattle.sqlite_disk.specs.Disk.{Only}
+use Rattle.std.proofs.Common.{◌≡◌, ◌≢◌, ◌⊎◌, inl, inr, ℕ, ◌+◌, ◌<◌, ◌≤◌, ◌^◌, List, [], ◌∷◌, ◌++◌, length, slice_index, None, sym, ◌∙◌, ap, ap₂, subst, arith}
 use Rattle.pst_kept_text.specs.Text.{IsPlain}
 use Rattle.pst_kept_text.specs.Written.{Adds, AddsOrNot}
-use Rattle.pst_kept_files.specs.Standing.{Standing, base_of, content, standing, later_of, stands, new_body, IsStage}
+use Rattle.pst_kept_files.specs.Standing.{base_of, content, standing, later_of, stands, new_body, IsStage}
 use Rattle.pst_kept_files.specs.Staged.{OrDoesNotCount}
 use Rattle.sha2.specs.Sha256.{sha256}
 use Rattle.pst_kept_files.specs.Checks.{letters, check, sealed}
 use Rattle.pst_kept_files.specs.Kept.{Holds, Keeps, KeepsEither, MeansBy}
 use Rattle.pst_kept_files.specs.declared.kept.Kept.{Kept}
-use Rattle.pst_kept_files.proofs.StandingLemmas.{Added, added, holds_still, holds_more, alone, shut_stands, short_stands, later_later, base_new, standing_new, generation_new, holds_new}
+use Rattle.pst_kept_files.proofs.StandingLemmas.{added, holds_still, holds_more, alone, shut_stands, short_stands, later_later, base_new, standing_new, generation_new, holds_new}
 
 module _ (f other c : List ℕ) (kept : Kept) (image before body : List ℕ) (means : MeansBy f other kept image before) (plain : IsPlain body) where
   from_base : (more : List ℕ) → Adds kept.place.base f more c → Adds (base_of f) f more c

@@ -1,14 +1,12 @@
 -- What opening finds and leaves.
-use Rattle.std.proofs.Common.{◌≡◌, ◌≢◌, ◌⊎◌, inl, inr, ⊎_elim, ℕ, ◌+◌, ◌-◌, ◌<◌, ◌≤◌, min, Bool, true, false, List, [], ◌++◌, length, take, drop, slice_index, Option, Some, None, Result, Ok, Err, refl, sym, ◌∙◌, ap, ap₂, subst, arith, eqb}
+use Rattle.std.proofs.Common.{◌≡◌, ◌≢◌, ◌⊎◌, inl, inr, ℕ, ◌+◌, ◌-◌, ◌≤◌, min, true, false, List, [], length, take, drop, slice_index, Option, Some, None, Result, Ok, Err, refl, sym, ◌∙◌, ap, ap₂, subst, arith}
 use Rattle.std.proofs.lemmas.Bool.{cases_Bool, cases_lt, lt-ltb, le-ltb}
-use Rattle.std.proofs.lemmas.List.{ext_get_or, length-take, length-drop, get_or-drop, drop-take, take_rest}
-use Rattle.std.specs.Int.{w64, from_be_bytes}
+use Rattle.std.proofs.lemmas.List.{ext_get_or, length-take, length-drop, take_rest}
 use Rattle.std.specs.Result.{IfOk}
 use Rattle.sha2.specs.Sha256.{sha256}
 use Rattle.pst_kept_text.specs.Text.{whole, behind, IsTornEnd}
 use Rattle.pst_kept_text.specs.Written.{groups_in, Adds}
-use Rattle.pst_kept_text.proofs.TextLemmas.{whole-whole}
-use Rattle.pst_kept_files.specs.Standing.{Standing, number, base_of, is_open, content, standing, later_of, stands, generation_in, role_of, IsOlder}
+use Rattle.pst_kept_files.specs.Standing.{Standing, base_of, is_open, content, standing, later_of, stands, generation_in, role_of, IsOlder}
 use Rattle.pst_kept_files.specs.Staged.{OrDoesNotCount}
 use Rattle.pst_kept_files.specs.Checks.{letters, text_of, IsSealed, ArePlain}
 use Rattle.pst_kept_files.specs.Kept.{Holds, Keeps, MeansBy}
@@ -18,7 +16,7 @@ use Rattle.pst_kept_files.specs.declared.role.Role.{Role}
 use Rattle.pst_kept_files.specs.declared.role.Role.TheVariants.{First, Second}
 use Rattle.pst_kept_files.specs.declared.error.FilesError.{FilesError}
 use Rattle.pst_kept_files.specs.declared.error.FilesError.TheVariants.{Disk, NotEmpty, Empty, NoneCounts, DamagedImage, DamagedGroup, DamagedEnd}
-use Rattle.pst_kept_files.proofs.StandingLemmas.{Added, added, holds_still, alone, same_content, none_open, later_older, later_later, later_none, shut_stands, short_stands, stands_sym}
+use Rattle.pst_kept_files.proofs.StandingLemmas.{added, holds_still, alone, same_content, later_older, shut_stands, short_stands, stands_sym}
 
 -- the image of a store that was opened
 pub image_at : (x : List ℕ) (m : ℕ) → m ≡ min 49 (length x) → take (length x - m) (drop m x) ≡ drop 49 x

@@ -1,16 +1,15 @@
 -- What files stand for, and what writes leave of it.
-use Rattle.std.proofs.Common.{◌≡◌, ◌≢◌, ◌⊎◌, inl, inr, ⊎_elim, ℕ, zero, suc, ◌+◌, ◌-◌, ◌<◌, ◌≤◌, ◌^◌, Bool, true, false, ◌&&◌, List, [], ◌∷◌, ◌++◌, length, take, drop, slice_index, replicate, Option, Some, None, refl, sym, ◌∙◌, ap, ap₂, subst, arith, eqb, leb}
-use Rattle.std.proofs.lemmas.Bool.{cases_Bool, cases_lt, cases_eq, and_left, and_right, and_parts, and_from, ne_eqb, eq-eqb, leb-true, le-leb, lt-leb, le-ltb, lt-ltb}
-use Rattle.std.proofs.lemmas.List.{append-nil, append_assoc, length-append, length-take, length-replicate, get_or-replicate, take-take, drop-take, get_or-take, get_or-drop, take_at, drop_at, drop-drop, get_or_past}
+use Rattle.std.proofs.Common.{◌≡◌, ◌≢◌, inl, inr, ℕ, suc, ◌+◌, ◌-◌, ◌<◌, ◌≤◌, ◌^◌, true, false, List, [], ◌∷◌, ◌++◌, length, take, drop, slice_index, replicate, Option, Some, None, refl, sym, ◌∙◌, ap, ap₂, subst, arith, eqb, leb}
+use Rattle.std.proofs.lemmas.Bool.{cases_Bool, cases_lt, and_left, and_right, and_parts, and_from, ne_eqb, leb-true, le-leb, lt-leb, le-ltb, lt-ltb}
+use Rattle.std.proofs.lemmas.List.{append-nil, append_assoc, length-append, length-take, length-replicate, get_or-replicate, take-take, drop-take, get_or-take, get_or-drop, take_at, drop_at, get_or_past}
 use Rattle.std.proofs.lemmas.Nat.{from_be_bytes-to_be_bytes_8}
 use Rattle.std.specs.Int.{w64, from_be_bytes, to_be_bytes}
 use Rattle.sha2.specs.Sha256.{sha256}
 use Rattle.sha2.proofs.Facts256.{length-sha256}
 use Rattle.pst_kept_text.specs.Text.{whole, behind, IsPlain, IsGroup, IsTornEnd}
-use Rattle.pst_kept_text.specs.Written.{groups_in, IsAtRest, Adds, AddsOrNot}
+use Rattle.pst_kept_text.specs.Written.{groups_in, IsAtRest, Adds}
 use Rattle.pst_kept_text.proofs.TextLemmas.{whole_none, torn_zero}
-use Rattle.pst_kept_files.specs.Standing.{Standing, number, base_of, is_open, content, standing, later_of, stands, spare, head_of, body_of, new_body, IsStage}
-use Rattle.pst_kept_files.specs.Staged.{OrDoesNotCount}
+use Rattle.pst_kept_files.specs.Standing.{Standing, number, base_of, is_open, content, standing, later_of, stands, spare}
 use Rattle.pst_kept_files.specs.Checks.{letters, check, sealed, IsSealed}
 use Rattle.pst_kept_files.specs.Kept.{Holds, Keeps, KeepsEither}
 use Rattle.pst_kept_files.proofs.CheckLemmas.{sealed_more, sealed_none, plain_sealed}

@@ -1,11 +1,10 @@
 -- What is kept in two files.
-use Rattle.std.specs.Prelude.{◌≡◌, ◌⊎◌, ⊤, ℕ, ◌+◌, ◌<◌, ◌≤◌, ◌^◌, List, [], ◌∷◌, ◌++◌, length, Some, None, IsTrue}
+use Rattle.std.specs.Prelude.{◌≡◌, ◌⊎◌, ⊤, ℕ, ◌+◌, List, ◌∷◌, length, Some, None, IsTrue}
 use Rattle.sqlite_disk.specs.declared.Disk.{Ghosts}
 use Rattle.sqlite_disk.specs.Disk.{Only, MoreFaults}
 use Rattle.sha2.specs.Sha256.{sha256}
 use Rattle.pst_kept_text.specs.Text.{IsTornEnd}
-use Rattle.pst_kept_text.specs.Written.{IsSettled, OnlyReads}
-use Rattle.pst_kept_text.specs.declared.place.Place.{Place}
+use Rattle.pst_kept_text.specs.Written.{IsSettled}
 use Rattle.pst_kept_files.specs.Standing.{Standing, standing, stands, base_of, new_body}
 use Rattle.pst_kept_files.specs.Checks.{letters, IsSealed}
 use Rattle.pst_kept_files.specs.declared.role.Role.TheVariants.{First, Second}

@@ -1,6 +1,6 @@
 -- What files stand for. A file is a gate (1 where it counts), a generation and the image's length (8 bytes each, the highest first), the
 -- image's digest (32 bytes), the image, and a text of groups.
-use Rattle.std.specs.Prelude.{◌≡◌, ◌≢◌, ◌⊎◌, ⊤, ℕ, ◌+◌, ◌-◌, ◌<◌, ◌≤◌, Bool, ◌&&◌, nat_le, nat_lt, List, [], ◌∷◌, ◌++◌, length, take, drop, slice_index, replicate, Option, Some, None, if◌then◌else◌, ◌==◌}
+use Rattle.std.specs.Prelude.{◌≡◌, ◌≢◌, ◌⊎◌, ⊤, ℕ, ◌+◌, ◌-◌, ◌<◌, ◌≤◌, Bool, ◌&&◌, nat_le, nat_lt, List, ◌∷◌, ◌++◌, length, take, drop, slice_index, replicate, Option, Some, None, if◌then◌else◌, ◌==◌}
 use Rattle.std.specs.Int.{w64, from_be_bytes, to_be_bytes}
 use Rattle.sha2.specs.Sha256.{sha256}
 use Rattle.pst_kept_text.specs.Text.{behind}

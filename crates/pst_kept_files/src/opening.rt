@@ -158,11 +158,7 @@ fn open_as<D: Disk>(
 
 /// Opens two files that a crash may have left: finds the one that counts, judges it, and clears what the crash left. It answers the image
 /// and the commands that are kept. At any return a crash leaves two files that keep the same. Files that are refused stay as they were.
-pub fn open<D: Disk>(
-    alloc: Global,
-    one: &mut D,
-    two: &mut D,
-) -> Result<Opened, FilesError>
+pub fn open<D: Disk>(alloc: Global, one: &mut D, two: &mut D) -> Result<Opened, FilesError>
     requires usable { IsTrue (D.Disk.is_usable one.old) }
     requires two_usable { IsTrue (D.Disk.is_usable two.old) }
     requires durable { Only (D.Disk.seen one.old) (D.Disk.may_leave one.old) }

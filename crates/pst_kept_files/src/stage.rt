@@ -45,12 +45,7 @@ fn cut<D: Disk>(disk: &mut D) -> Result<(), DiskError>
 }
 
 /// Writes all that is behind a file's gate, which is shut, and syncs.
-fn replace<D: Disk>(
-    disk: &mut D,
-    head: &[u8],
-    image: &[u8],
-    room: &[u8],
-) -> Result<(), DiskError>
+fn replace<D: Disk>(disk: &mut D, head: &[u8], image: &[u8], room: &[u8]) -> Result<(), DiskError>
     requires usable { IsTrue (D.Disk.is_usable disk.old) }
     requires durable { Only (D.Disk.seen disk.old) (D.Disk.may_leave disk.old) }
     requires gate { slice_index (D.Disk.seen disk.old) 0 ≡ 0 }

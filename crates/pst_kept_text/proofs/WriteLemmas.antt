@@ -1,12 +1,12 @@
 -- What the writes to a file at rest leave of its groups.
-use Rattle.std.proofs.Common.{◌≡◌, ◌⊎◌, inl, inr, ⊎_elim, ℕ, ◌+◌, ◌-◌, ◌<◌, ◌≤◌, List, [], ◌∷◌, ◌++◌, length, take, drop, slice_index, refl, sym, ◌∙◌, ap, subst, arith}
+use Rattle.std.proofs.Common.{◌≡◌, ◌⊎◌, inl, inr, ⊎_elim, ℕ, ◌+◌, ◌-◌, ◌<◌, ◌≤◌, List, [], ◌++◌, length, take, drop, slice_index, refl, sym, ◌∙◌, ap, subst, arith}
 use Rattle.std.proofs.lemmas.Bool.{cases_lt}
 use Rattle.std.proofs.lemmas.List.{append-nil, append_assoc, append_cancel_left, length-take, length-drop, length-append, get_or-take, get_or-drop, get_or_past, take-append-drop, take_at, drop_at, drop-drop, ext_get_or}
 use Rattle.sqlite_disk.specs.Disk.{Holds, Torn, Mixed, Follows, Only}
 use Rattle.sqlite_disk.proofs.EventLemmas.{Mixed-refl}
 use Rattle.pst_kept_text.specs.Text.{whole, behind, IsGroup, IsTornEnd}
 use Rattle.pst_kept_text.specs.Written.{groups_in, IsAtRest, Adds, AddsOrNot}
-use Rattle.pst_kept_text.proofs.TextLemmas.{AreFirst, whole-append, whole-whole, whole_none, whole_faint, first_of_none, none_of, all_or_none, group_whole, end_last, torn_zero}
+use Rattle.pst_kept_text.proofs.TextLemmas.{AreFirst, whole-append, whole-whole, whole_none, whole_faint, first_of_none, all_or_none, end_last, torn_zero}
 
 -- two files with the same bytes below `end`
 pub record Alike (end : ℕ) (f c : List ℕ) : Type 0 where
@@ -213,6 +213,7 @@ module _ (base end : ℕ) (f : List ℕ) (begins : base ≤ end) (inside : end <
     where
       part_at : (c : List ℕ) → Mixed end zeros f c → (i : ℕ) → (slice_index (drop end c) i ≡ 0) ⊎ (slice_index (drop end c) i ≡ slice_index (drop end f) i)
       part_at c mixed i = elim (cases_lt i (length (drop end f))) [ inl low ↦ part c mixed i low | inr high ↦ inl (past_end c mixed i high) ]
+
       was_end : (tail old : List ℕ) (i : ℕ) → (slice_index tail i ≡ 0) ⊎ (slice_index tail i ≡ slice_index old i) → slice_index tail i ≡ 30 → slice_index old i ≡ 30
       was_end tail old i (inl none) is = absurd (omega (arith, none, is))
       was_end tail old i (inr same) is = sym same ∙ is

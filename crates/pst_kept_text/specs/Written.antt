@@ -1,7 +1,7 @@
 -- What writes to a file leave of the text in it, which begins at `base`.
-use Rattle.std.specs.Prelude.{◌≡◌, ◌⊎◌, ℕ, ◌+◌, ◌-◌, ◌^◌, ◌<◌, ◌≤◌, min, List, [], ◌++◌, length, take, drop, slice_index, IsTrue, Result, OnErr}
+use Rattle.std.specs.Prelude.{◌≡◌, ◌⊎◌, ℕ, ◌-◌, ◌^◌, ◌<◌, ◌≤◌, List, [], ◌++◌, length, take, drop, slice_index, IsTrue}
 use Rattle.sqlite_disk.specs.declared.Disk.{Ghosts}
-use Rattle.sqlite_disk.specs.Disk.{Holds, Torn, Only, MoreFaults}
+use Rattle.sqlite_disk.specs.Disk.{Holds, Torn, Only}
 use Rattle.pst_kept_text.specs.Text.{whole, behind, IsTornEnd}
 use Rattle.pst_kept_text.specs.declared.place.Place.{Place}
 

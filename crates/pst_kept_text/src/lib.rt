@@ -7,13 +7,13 @@
 #![tactic(auto)]
 
 mod error;
-mod read;
 mod place;
+mod read;
 mod text;
 mod write;
 
 pub use error::DiskError;
-pub use read::read_all;
 pub use place::Place;
+pub use read::read_all;
 pub use text::{END, is_torn_end, whole_len, zeros};
 pub use write::{append, clear, write_synced};

@@ -1,4 +1,4 @@
-use Rattle.std.proofs.Common.{length, arith, rules}
+use Rattle.std.proofs.Common.{arith, rules}
 use Rattle.pst_kept_files.proofs.CheckLemmas.{letters_are}
 use Rattle.pst_kept_files.proofs.checks.letters_of.Goals as goal
 

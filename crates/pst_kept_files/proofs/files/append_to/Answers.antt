@@ -1,8 +1,8 @@
-use Rattle.std.proofs.Common.{◌≡◌, ◌⊎◌, ◌++◌, ◌∷◌, ◌∙◌, inl, inr, ⊎_elim, List, ℕ, [], refl, sym, ap, subst, arith, rules}
+use Rattle.std.proofs.Common.{◌≡◌, ◌++◌, ◌∷◌, ◌∙◌, List, ℕ, [], refl, sym, ap, subst}
 use Rattle.pst_kept_text.specs.Text.{IsGroup}
 use Rattle.pst_kept_text.specs.Written.{AddsOrNot, Adds}
-use Rattle.pst_kept_files.specs.Checks.{check, sealed}
-use Rattle.pst_kept_files.specs.Kept.{Keeps, KeepsEither}
+use Rattle.pst_kept_files.specs.Checks.{sealed}
+use Rattle.pst_kept_files.specs.Kept.{KeepsEither}
 use Rattle.pst_kept_files.proofs.KeepLemmas.{appended_either, appended_means}
 use Rattle.pst_kept_files.proofs.StandingLemmas.{group_of}
 use Rattle.pst_kept_files.proofs.files.append_to.Goals as goal

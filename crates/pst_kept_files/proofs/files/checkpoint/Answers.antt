@@ -1,4 +1,4 @@
-use Rattle.std.proofs.Common.{List, ℕ, [], subst}
+use Rattle.std.proofs.Common.{[], subst}
 use Rattle.pst_kept_files.specs.Kept.{Means, MeansBy}
 use Rattle.pst_kept_files.proofs.StandingLemmas.{either_sym}
 use Rattle.pst_kept_files.proofs.files.checkpoint.Goals as goal

@@ -1,5 +1,5 @@
-use Rattle.std.proofs.Common.{◌≡◌, ◌⊎◌, ◌<◌, ◌≤◌, ◌^◌, ◌∙◌, List, ℕ, [], None, length, sym, ap, subst, arith}
-use Rattle.pst_kept_files.specs.Standing.{standing, stands}
+use Rattle.std.proofs.Common.{◌≡◌, ◌⊎◌, List, ℕ, [], None, length, sym, ap, subst, arith}
+use Rattle.pst_kept_files.specs.Standing.{stands}
 use Rattle.pst_kept_files.specs.Kept.{Keeps, Means, MeansBy}
 use Rattle.pst_kept_files.proofs.KeepLemmas.{created_either, renewed_means}
 use Rattle.pst_kept_files.proofs.StandingLemmas.{short_stands}

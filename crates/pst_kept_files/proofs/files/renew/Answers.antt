@@ -1,4 +1,4 @@
-use Rattle.std.proofs.Common.{◌≡◌, ◌+◌, ◌<◌, ◌^◌, ◌∷◌, ◌∙◌, List, ℕ, [], sym, subst, arith}
+use Rattle.std.proofs.Common.{◌≡◌, ◌+◌, ◌∷◌, ◌∙◌, List, ℕ, [], sym, subst, arith}
 use Rattle.pst_kept_files.specs.Standing.{new_body}
 use Rattle.pst_kept_files.specs.Kept.{KeepsEither}
 use Rattle.pst_kept_files.proofs.KeepLemmas.{renewed_either, shut_either, renewed_means, shut_none}

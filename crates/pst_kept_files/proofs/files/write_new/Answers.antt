@@ -1,4 +1,4 @@
-use Rattle.std.proofs.Common.{◌≡◌, ◌+◌, ◌∷◌, ◌++◌, ◌∙◌, List, ℕ, length, refl, sym, ap, subst, arith, rules}
+use Rattle.std.proofs.Common.{◌≡◌, ◌+◌, ◌∷◌, ◌∙◌, List, ℕ, length, refl, sym, ap, subst, arith, rules}
 use Rattle.sha2.specs.Sha256.{sha256}
 use Rattle.pst_kept_text.specs.Written.{IsAtRest}
 use Rattle.pst_kept_files.specs.Standing.{body_of, head_of, new_body}

@@ -1,4 +1,4 @@
-use Rattle.std.proofs.Common.{◌≡◌, ◌≢◌, ◌<◌, ◌≤◌, ◌-◌, Some, length, slice_index, take, drop, ap, sym, ◌∙◌, arith, rules}
+use Rattle.std.proofs.Common.{◌≡◌, Some, take, drop, ap, sym, ◌∙◌, arith, rules}
 use Rattle.std.specs.Int.{w64, from_be_bytes}
 use Rattle.pst_kept_files.proofs.HeadLemmas.{other_gate, too_long, counts_as}
 use Rattle.pst_kept_files.proofs.head.generation_of.Goals as goal

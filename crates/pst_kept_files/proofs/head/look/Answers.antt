@@ -1,4 +1,4 @@
-use Rattle.std.proofs.Common.{◌≡◌, ◌+◌, ◌<◌, List, ℕ, length, take, slice_index, sym, subst, ◌∙◌, ap, arith, rules}
+use Rattle.std.proofs.Common.{List, ℕ, subst, rules}
 use Rattle.sqlite_disk.specs.Disk.{Holds}
 use Rattle.pst_kept_files.proofs.HeadLemmas.{front_of}
 use Rattle.pst_kept_files.proofs.head.look.Goals as goal

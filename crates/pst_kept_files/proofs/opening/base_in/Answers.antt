@@ -1,4 +1,4 @@
-use Rattle.std.proofs.Common.{◌≡◌, ◌+◌, ◌-◌, ◌<◌, ◌≤◌, Some, length, slice_index, take, drop, sym, ◌∙◌, arith, rules}
+use Rattle.std.proofs.Common.{◌≡◌, ◌+◌, take, drop, sym, arith, rules}
 use Rattle.std.specs.Int.{w64, from_be_bytes}
 use Rattle.pst_kept_files.proofs.HeadLemmas.{long_none, begins_at}
 use Rattle.pst_kept_files.proofs.opening.base_in.Goals as goal

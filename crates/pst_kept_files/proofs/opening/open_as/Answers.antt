@@ -1,8 +1,8 @@
-use Rattle.std.proofs.Common.{◌≡◌, ◌+◌, ◌-◌, ◌∙◌, ℕ, List, [], length, take, drop, refl, sym, ap, subst, arith, rules}
+use Rattle.std.proofs.Common.{◌≡◌, ◌+◌, ◌-◌, ◌∙◌, ℕ, List, [], take, drop, refl, sym, ap, subst, arith}
 use Rattle.std.proofs.lemmas.List.{drop-take}
 use Rattle.pst_kept_text.specs.Written.{Adds}
 use Rattle.pst_kept_files.specs.Standing.{content}
-use Rattle.pst_kept_files.specs.Kept.{Keeps, MeansBy, Holds}
+use Rattle.pst_kept_files.specs.Kept.{Keeps, Holds}
 use Rattle.pst_kept_files.specs.Opening.{IsMisjudged, IsJudged}
 use Rattle.pst_kept_files.proofs.KeepLemmas.{shut_none}
 use Rattle.pst_kept_files.proofs.OpenLemmas.{keeps_shut, keeps_cleared, keeps_judged, means_judged, refused_of}
@@ -46,7 +46,7 @@ returns-clause-opened g c clean over =
     let holds : Holds (content f) (drop 49 c.truncate.new.self.items) j.commands.items j.check = subst (λ (i : List ℕ). Holds (content f) i j.commands.items j.check) (sym image) judged.holds in (
       keeps_judged f (d.seen c.args.other.now) (drop 49 c.truncate.new.self.items) j.commands.items j.check over judged.begins.counts holds,
       means_judged f (d.seen c.clear.new.disk) (d.seen c.shut.new.disk) (drop 49 c.truncate.new.self.items) j.commands.items j.place.base _ judged.begins.counts holds judged.begins.is refl judged.generation_is adds
-      (shut_none (d.seen c.shut.new.disk) c.in_ok-shut.ensures.shut),
+          (shut_none (d.seen c.shut.new.disk) c.in_ok-shut.ensures.shut),
     )
 
 pub returns-clause-any_return : goal.returns-clause-any_return

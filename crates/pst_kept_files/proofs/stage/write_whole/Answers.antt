@@ -1,4 +1,4 @@
-use Rattle.std.proofs.Common.{◌≡◌, ◌∷◌, ◌++◌, ◌∙◌, List, ℕ, [], inl, inr, ap, arith}
+use Rattle.std.proofs.Common.{◌∙◌, inl, inr, arith}
 use Rattle.pst_kept_files.specs.Standing.{body_of}
 use Rattle.pst_kept_files.proofs.StageLemmas.{not_one, shut_leaves, raise_leaves, raised, spare_is}
 use Rattle.pst_kept_files.proofs.stage.write_whole.Goals as goal

@@ -1,4 +1,4 @@
-use Rattle.std.proofs.Common.{◌≡◌, length, sym, ◌∙◌, arith, rules}
+use Rattle.std.proofs.Common.{◌≡◌, length, ◌∙◌, rules}
 use Rattle.pst_kept_text.proofs.ReadLemmas.{filled}
 use Rattle.pst_kept_text.proofs.read.fill.Goals as goal
 

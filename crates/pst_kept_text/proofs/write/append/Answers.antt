@@ -1,4 +1,4 @@
-use Rattle.std.proofs.Common.{length, inl, arith}
+use Rattle.std.proofs.Common.{inl, arith}
 use Rattle.pst_kept_text.proofs.WriteLemmas.{write_leaves, write_done}
 use Rattle.pst_kept_text.proofs.TextLemmas.{group_whole, group_some}
 use Rattle.pst_kept_text.proofs.write.append.Goals as goal

@@ -1,4 +1,4 @@
-use Rattle.std.proofs.Common.{◌≡◌, ◌+◌, ◌<◌, ◌-◌, List, ℕ, [], length, take, drop, sym, subst, ◌∙◌, ap, arith}
+use Rattle.std.proofs.Common.{ℕ, length, subst, ◌∙◌, ap, arith}
 use Rattle.std.proofs.lemmas.Result.{on_ok_weaker}
 use Rattle.std.proofs.lemmas.List.{length-replicate}
 use Rattle.pst_kept_text.proofs.ReadLemmas.{zero_at}

@@ -1,4 +1,4 @@
-use Rattle.std.proofs.Common.{◌≡◌, ◌-◌, ◌∙◌, ℕ, List, length, take, drop, min, sym, ap, arith, rules}
+use Rattle.std.proofs.Common.{◌∙◌, drop, min, sym, ap}
 use Rattle.pst_kept_files.proofs.OpenLemmas.{image_at}
 use Rattle.pst_kept_files.proofs.opening.Opened.image.Goals as goal
 
