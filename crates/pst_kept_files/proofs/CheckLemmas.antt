@@ -98,7 +98,7 @@ abbrev pub HasNoEnd : List ℕ → Type 0
 HasNoEnd xs = (i : ℕ) → i < length xs → slice_index xs i ≢ 30
 
 -- what stands before the first end is one thing
-same_front : (xs us ys vs : List ℕ) → HasNoEnd xs → HasNoEnd us → xs ++ 30 ∷ ys ≡ us ++ 30 ∷ vs → (xs ≡ us) × (ys ≡ vs)
+pub same_front : (xs us ys vs : List ℕ) → HasNoEnd xs → HasNoEnd us → xs ++ 30 ∷ ys ≡ us ++ 30 ∷ vs → (xs ≡ us) × (ys ≡ vs)
 same_front [] [] ys vs one two is = (refl, cc is)
 same_front [] (u ∷ us) ys vs one two is = let here : 30 ≡ u = cc is in absurd (two 0 (omega arith) (sym here))
 same_front (x ∷ xs) [] ys vs one two is = let here : x ≡ 30 = cc is in absurd (one 0 (omega arith) here)

@@ -4,3 +4,4 @@ pub mod HeadLemmas
 pub mod StandingLemmas
 pub mod KeepLemmas
 pub mod OpenLemmas
+pub mod LifeLemmas

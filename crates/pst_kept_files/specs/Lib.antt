@@ -3,3 +3,4 @@ pub mod Staged
 pub mod Checks
 pub mod Kept
 pub mod Opening
+pub mod Lives
