@@ -1,9 +1,12 @@
 //! Groups of bytes in a file, each on the disk before it counts.
 //!
-//! A text is groups, each with an end of its own, and zeros behind them that are on the disk already. `append` writes a group over
-//! zeros and syncs: whatever moment the machine stops at, the file has the whole group or nothing of it, since zeros end the text and
-//! a crash leaves each byte of such a write old or new. No checksum is trusted for this. `open` finds the whole groups again and
-//! clears what a crash left behind them. Each call says what a crash leaves at each of its returns, over any `Disk` of the kit.
+//! Model: a text is groups, each with an end of its own (`IsGroup`), and zeros behind them. It stands for the whole groups before the
+//! first zero (`whole`), and behind them may be what a crash left (`IsTornEnd`).
+//!
+//! Contract: `append` writes a group over zeros that are on the disk already, and syncs. Whatever moment the machine stops at, the file
+//! has the whole group or nothing of it: a crash leaves each byte of such a write old or new, and a zero ends the text. One zero always
+//! stays. `clear` takes away what a crash left, and may be cut short too. Each call says what a crash leaves at any of its returns, over
+//! any `Disk` of the kit. A disk that does not say that it mixes so is refused before a byte is written.
 #![tactic(auto)]
 
 mod error;
