@@ -16,6 +16,7 @@ use Rattle.pst_kept_files.specs.declared.role.Role.{Role}
 use Rattle.pst_kept_files.specs.declared.role.Role.TheVariants.{First, Second}
 use Rattle.pst_kept_files.specs.declared.error.FilesError.{FilesError}
 use Rattle.pst_kept_files.specs.declared.error.FilesError.TheVariants.{Disk, NotEmpty, Empty, NoneCounts, DamagedImage, DamagedGroup, DamagedEnd}
+use Rattle.pst_kept_text.specs.declared.error.DiskError.TheVariants.{Failed, DoesNotMix, TooLarge, Memory}
 use Rattle.pst_kept_files.proofs.StandingLemmas.{added, holds_still, alone, same_content, later_older, shut_stands, short_stands, stands_sym}
 
 -- the image of a store that was opened
@@ -125,7 +126,10 @@ means_judged f c d image commands base kept counts holds is base_is generation_i
 
 -- what a file was refused for is what two are refused for
 pub refused_of : (e : FilesError) (f o : List ℕ) → CountsOver f o → IsMisjudged e f → IsRefused e f o
-refused_of (Disk _) f o over h = tt
+refused_of (Disk TooLarge) f o over h = inl h
+refused_of (Disk Memory) f o over h = tt
+refused_of (Disk (Failed _)) f o over h = absurd h
+refused_of (Disk DoesNotMix) f o over h = absurd h
 refused_of NotEmpty f o over h = h
 refused_of Empty f o over h = absurd h
 refused_of NoneCounts f o over h = let bad : Some over.it ≡ None = sym over.counts ∙ h in absurd (cc bad)
@@ -205,7 +209,11 @@ pub refused_at : (e : FilesError) (f g o p : List ℕ) → g ≡ f → p ≡ o �
 refused_at e f g o p one two refused = subst (λ (x : List ℕ). IsRefused e x o) one (subst (λ (x : List ℕ). IsRefused e g x) two refused)
 
 pub refused_sym : (e : FilesError) (one two : List ℕ) → IsRefused e one two → IsRefused e two one
-refused_sym (Disk _) one two h = tt
+refused_sym (Disk TooLarge) one two (inl h) = inr h
+refused_sym (Disk TooLarge) one two (inr h) = inl h
+refused_sym (Disk Memory) one two h = tt
+refused_sym (Disk (Failed _)) one two h = tt
+refused_sym (Disk DoesNotMix) one two h = tt
 refused_sym NotEmpty one two h = h
 refused_sym Empty one two h = (h.1, h.0)
 refused_sym NoneCounts one two h = stands_sym two one ∙ h

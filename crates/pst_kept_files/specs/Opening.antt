@@ -1,10 +1,10 @@
 -- What opening two files finds.
-use Rattle.std.specs.Prelude.{◌≡◌, ◌≢◌, ⊤, ℕ, ◌-◌, ◌≤◌, List, length, take, drop, Some, None}
+use Rattle.std.specs.Prelude.{◌≡◌, ◌≢◌, ◌⊎◌, ⊤, ℕ, ◌-◌, ◌<◌, ◌≤◌, ◌^◌, List, length, take, drop, Some, None}
 use Rattle.sqlite_disk.specs.declared.Disk.{Ghosts}
 use Rattle.sha2.specs.Sha256.{sha256}
 use Rattle.pst_kept_text.specs.Text.{IsTornEnd}
 use Rattle.pst_kept_text.specs.Written.{groups_in, IsPlace, OnlyReads}
-use Rattle.pst_kept_text.specs.declared.error.DiskError.TheVariants.{TooLarge, Memory}
+use Rattle.pst_kept_text.specs.declared.error.DiskError.TheVariants.{Failed, DoesNotMix, TooLarge, Memory}
 use Rattle.pst_kept_files.specs.Standing.{Standing, base_of, content, standing, stands, IsOlder}
 use Rattle.pst_kept_files.specs.Kept.{Holds}
 use Rattle.pst_kept_files.specs.Checks.{letters, IsSealed}
@@ -35,7 +35,10 @@ pub record IsJudged (file : List ℕ) (judged : Judged) : Type 0 where
 
 -- why a file was refused, as it was read
 abbrev pub IsMisjudged : FilesError → List ℕ → Type 0
-IsMisjudged (Disk e) file = e ≢ TooLarge → e ≡ Memory
+IsMisjudged (Disk TooLarge) file = 2 ^ 61 < length file
+IsMisjudged (Disk Memory) file = ⊤
+IsMisjudged (Disk (Failed _)) file = ⊥
+IsMisjudged (Disk DoesNotMix) file = ⊥
 IsMisjudged NotEmpty file = ⊥
 IsMisjudged Empty file = ⊥
 IsMisjudged NoneCounts file = standing file ≡ None
@@ -51,7 +54,10 @@ pub record CountsOver (one two : List ℕ) : Type 0 where
 
 -- when what stands is refused, by each cause
 abbrev pub IsRefused : FilesError → List ℕ → List ℕ → Type 0
-IsRefused (Disk _) one two = ⊤
+IsRefused (Disk TooLarge) one two = (2 ^ 61 < length one) ⊎ (2 ^ 61 < length two)
+IsRefused (Disk Memory) one two = ⊤
+IsRefused (Disk (Failed _)) one two = ⊤
+IsRefused (Disk DoesNotMix) one two = ⊤
 IsRefused NotEmpty one two = ⊥
 IsRefused Empty one two = (length one ≤ 1) × (length two ≤ 1)
 IsRefused NoneCounts one two = stands one two ≡ None

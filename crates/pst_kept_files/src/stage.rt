@@ -1,8 +1,9 @@
 //! Writing a whole file: its gate is shut, what is behind it is written, and the gate is opened.
 
-ghost use Rattle.std.specs.Prelude.{◌≡◌, ◌+◌, ◌<◌, ◌≤◌, ◌^◌, ◌∷◌, ◌++◌, [], List, ℕ, length, slice_index, OnOk, IsTrue};
+ghost use Rattle.std.specs.Prelude.{◌≡◌, ◌≢◌, ◌+◌, ◌<◌, ◌≤◌, ◌^◌, ◌∷◌, ◌++◌, [], List, ℕ, length, slice_index, Err, OnOk, IsTrue};
 ghost use Rattle.sqlite_disk.specs.Disk.{Only};
 ghost use Rattle.pst_kept_text.specs.Causes.{CountsFailed};
+ghost use Rattle.pst_kept_text.specs.declared.error.DiskError.TheVariants.{TooLarge};
 ghost use Rattle.pst_kept_files.specs.Standing.{IsStage, body_of};
 ghost use Rattle.pst_kept_files.specs.Staged.{IsShut, OrDoesNotCount};
 
@@ -21,6 +22,7 @@ fn extend<D: Disk>(disk: &mut D, at: usize, bytes: &[u8]) -> Result<(), DiskErro
     ensures clean { IsTrue (D.Disk.is_clean disk.new) → IsTrue (D.Disk.is_clean disk.old) }
     ensures added { OnOk result (D.Disk.seen disk.new ≡ D.Disk.seen disk.old ++ bytes.now) }
     ensures failed { CountsFailed result (D.Disk.faults disk.old) (D.Disk.faults disk.new) }
+    ensures not_large { result ≢ Err TooLarge }
 {
     if bytes.is_empty() {
         return Ok(());
@@ -39,6 +41,7 @@ fn cut<D: Disk>(disk: &mut D) -> Result<(), DiskError>
     ensures clean { IsTrue (D.Disk.is_clean disk.new) → IsTrue (D.Disk.is_clean disk.old) }
     ensures gate_alone { OnOk result (D.Disk.seen disk.new ≡ 0 ∷ []) }
     ensures failed { CountsFailed result (D.Disk.faults disk.old) (D.Disk.faults disk.new) }
+    ensures not_large { result ≢ Err TooLarge }
 {
     disk.set_len(1)?;
     Ok(())
@@ -58,6 +61,7 @@ fn replace<D: Disk>(disk: &mut D, head: &[u8], image: &[u8], room: &[u8]) -> Res
     ensures written { OnOk result (D.Disk.seen disk.new ≡ 0 ∷ (head.now ++ image.now ++ room.now)) }
     ensures any_return { (c : List ℕ) → D.Disk.may_leave disk.new c → slice_index c 0 ≡ 0 }
     ensures failed { CountsFailed result (D.Disk.faults disk.old) (D.Disk.faults disk.new) }
+    ensures not_large { result ≢ Err TooLarge }
 {
     cut(disk)?;
     extend(disk, 1, head)?;
@@ -85,6 +89,7 @@ pub fn write_whole<D: Disk>(
     ensures written { OnOk result (D.Disk.seen disk.new ≡ 1 ∷ body_of head.now image.now) }
     ensures any_return { (c : List ℕ) → D.Disk.may_leave disk.new c → IsStage (D.Disk.seen disk.old) (body_of head.now image.now) c }
     ensures failed { CountsFailed result (D.Disk.faults disk.old) (D.Disk.faults disk.new) }
+    ensures not_large { result ≢ Err TooLarge }
 {
     let room = zeros(alloc, ROOM)?;
     write_synced(disk, 0, &[0])?;
@@ -103,6 +108,7 @@ pub fn shut<D: Disk>(disk: &mut D) -> Result<(), DiskError>
     ensures shut { OnOk result (slice_index (D.Disk.seen disk.new) 0 ≡ 0) }
     ensures any_return { (c : List ℕ) → D.Disk.may_leave disk.new c → OrDoesNotCount (D.Disk.seen disk.old) c }
     ensures failed { CountsFailed result (D.Disk.faults disk.old) (D.Disk.faults disk.new) }
+    ensures not_large { result ≢ Err TooLarge }
 {
     write_synced(disk, 0, &[0])
 }

@@ -1,6 +1,6 @@
 //! Writing: each write has its sync, and says what a crash leaves.
 
-ghost use Rattle.std.specs.Prelude.{◌≡◌, ◌≢◌, ◌⊎◌, ◌+◌, ◌-◌, ◌<◌, ◌≤◌, ◌^◌, List, ℕ, [], false, length, take, drop, slice_index, IfOk, OnOk, IsTrue, IsErrOf};
+ghost use Rattle.std.specs.Prelude.{◌≡◌, ◌≢◌, ◌⊎◌, ◌+◌, ◌-◌, ◌<◌, ◌≤◌, ◌^◌, List, ℕ, [], false, length, take, drop, slice_index, Err, IfOk, OnOk, IsTrue, IsErrOf};
 ghost use Rattle.sqlite_disk.specs.Disk.{Only, Mixed};
 ghost use Rattle.pst_kept_text.specs.Text.{IsGroup, IsTornEnd, behind};
 ghost use Rattle.pst_kept_text.specs.Written.{groups_in, IsSettled, IsPlace, Adds, AddsOrNot, IsWritten};
@@ -105,6 +105,7 @@ pub fn clear<D: Disk>(alloc: Global, disk: &mut D, place: Place) -> Result<(), D
     ensures same { OnOk result (IsTrue (D.Disk.is_clean disk.new) → Adds place.base (D.Disk.seen disk.old) [] (D.Disk.seen disk.new)) }
     ensures any_return { IsTrue (D.Disk.is_clean disk.new) → (c : List ℕ) → D.Disk.may_leave disk.new c → Adds place.base (D.Disk.seen disk.old) [] c }
     ensures failed { CountsFailed result (D.Disk.faults disk.old) (D.Disk.faults disk.new) }
+    ensures not_large { result ≢ Err TooLarge }
 {
     let none = zeros(alloc, place.room - place.end)?;
     write_synced(disk, place.end, &none)
