@@ -14,31 +14,35 @@ This module is tested (tools/tests) and not proved: a reply says what the progra
 """
 
 import contextlib
-import functools
 import os
 import re
+import select
 import shutil
 import signal
 import subprocess
 import threading
 from dataclasses import dataclass
-from typing import Any, Callable, Dict, Iterable, List, NamedTuple, Optional, Pattern, Sequence, Tuple, Union
+from typing import Any, Callable, Dict, Iterator, List, NamedTuple, Optional, Pattern, Sequence, Tuple, Union
 
 from .errors import (
     INPUT_LIMIT, CutOff, Ended, ImageRefused, NoAnswer, NoProgram, PersistError, ProgramRefused, UnknownReply, WrongImage, WrongText)
 from .image import Image, is_image, read_bytes, split_image
 
 __all__ = [
-    'INPUT_LIMIT', 'Answer', 'Budget', 'Changed', 'Commands', 'Content', 'CutOff', 'Done', 'Dropped', 'Dump', 'Ended', 'Field', 'History',
+    'CHANGES', 'INPUT_LIMIT', 'Answer', 'Budget', 'Changed', 'Commands', 'Content', 'CutOff', 'Done', 'Dropped', 'Dump', 'Ended', 'Field', 'History',
     'ImageRefused', 'Never', 'NoAnswer', 'NoProgram', 'NotCarriedOut', 'Opened', 'Outline', 'PersistError', 'Pointer', 'ProgramRefused',
     'Record', 'Refused', 'Reply', 'Running', 'Session', 'Stats', 'Trapped', 'UnknownReply', 'Version', 'Versions', 'WrongImage', 'WrongText',
-    'answer_to', 'descriptors_of', 'encoded', 'is_last', 'lines_for', 'must', 'program_path', 'read_answer', 'read_dump', 'read_outline', 'read_reply',
-    'read_text', 'read_versions', 'session_on', 'split_input', 'take_reply', 'text_of', 'words_of', 'write_text', 'written_by',
+    'answer_to', 'descriptors_of', 'encoded', 'is_last', 'must', 'program_path', 'read_answer', 'read_dump', 'read_outline', 'read_reply',
+    'read_text', 'read_versions', 'session_on', 'split_input', 'stretches_of', 'take_reply', 'text_for', 'text_of', 'words_of', 'write_text', 'written_by',
 ]
 
 # A line of no form. Its reply shows the end of what was written before it.
 MARK = '.'
 MARKED = 'refused line'
+# The commands that change a history.
+CHANGES = frozenset(('run', 'open', 'call', 'step', 'close', 'drop', 'budget'))
+# The most bytes that are read at once.
+CHUNK = 65_536
 # Seconds that a process is given to end when its input is closed or it is told to.
 PATIENCE = 10
 # The most bytes of an input whose first part is an image: more than any memory holds.
@@ -263,17 +267,11 @@ def split_input(text: str) -> Tuple[str, List[str]]:
     return text[:found.start()], lines[:-1] if lines[-1] == '' else lines
 
 
-# A line is asked for its words when it is sent, when its reply is read, and when it is noted.
-@functools.lru_cache(maxsize=64)
-def kept_words(line: str) -> Tuple[str, ...]:
-    """The words of a script line; none where the line has no reply."""
-    words = WORD.findall(line)
-    return () if words and words[0].startswith('#') else tuple(words)
-
-
 def words_of(line: str) -> List[str]:
     """The words of a script line; none where the line has no reply."""
-    return list(kept_words(line))
+    # Of all that `split` takes for blanks only the blank itself is printable.
+    words = line.split() if line.isprintable() else WORD.findall(line)
+    return words if words and words[0][0] != '#' else []
 
 
 def text_of(reply: Optional[Reply]) -> str:
@@ -283,12 +281,17 @@ def text_of(reply: Optional[Reply]) -> str:
     return ''.join(f'| {number}\n' for number in reply.printed) + f'{reply}\n' + ('ok\n' if isinstance(reply, Dump) else '')
 
 
-def number_in(text: str, pattern: str) -> int:
-    """The one number in a line of a form."""
-    found = re.fullmatch(pattern, text, re.ASCII)
-    if not found:
-        raise UnknownReply(text)
-    return int(found[1])
+def number_in(line: str, begin: str) -> int:
+    """The number, not below 0, that stands in a line behind what it begins with."""
+    digits = line[len(begin):]
+    if digits.isdecimal() and line.isascii() and line.startswith(begin):
+        return int(digits)
+    raise UnknownReply(line)
+
+
+def printed_in(line: str) -> int:
+    """The number that a line of a reply prints."""
+    return -number_in(line, '| -') if line.startswith('| -') else number_in(line, '| ')
 
 
 # The replies that each command may have, beside a refusal.
@@ -312,17 +315,20 @@ ENDINGS: Dict[str, Dict[str, List[Tuple[Pattern[str], Any]]]] = {
     for _command, _kinds in REPLIES.items()}
 
 
-def read_reply(command: str, printed: Sequence[int], last: str) -> Reply:
+def read_reply(command: str, printed: Tuple[int, ...], last: str) -> Reply:
     """The reply to a command with this first word, of which these numbers were printed and this is the last line."""
+    # First the two that come most often.
+    if command == 'run' and last.startswith('version '):
+        return Version(number_in(last, 'version '), printed)
+    if command == 'query' and last == 'ok':
+        return Answer(printed)
     for form, kind in ENDINGS.get(command, REFUSED).get(last.partition(' ')[0], ()):
         found = form.fullmatch(last)
         if not found:
             continue
-        if kind is Version:
-            return Version(int(found[1]), tuple(printed))
         parts: List[Union[int, str]] = [int(part) if part.isdigit() else part for part in found.groups()]
-        if kind in (Answer, Trapped):
-            return kind(*parts, printed=tuple(printed))  # type: ignore[no-any-return]
+        if kind in (Version, Answer, Trapped):
+            return kind(*parts, printed=printed)  # type: ignore[no-any-return]
         if not printed:
             return kind(*parts)  # type: ignore[no-any-return]
     raise UnknownReply(last)
@@ -341,37 +347,59 @@ def read_versions(lines: Sequence[str]) -> Versions:
     return Versions(tuple(parents))
 
 
-def lines_for(line: str) -> str:
-    """What is sent for a command. A list of versions has no last line of its own, so a mark is sent behind it."""
-    return f'{line}\n{MARK}\n' if 'versions' in line and words_of(line) == ['versions'] else f'{line}\n'
+def is_marked(words: Sequence[str]) -> bool:
+    """Whether a command with these words is sent with a mark behind it: a list of versions has no last line of its own."""
+    return words[0] == 'versions' and len(words) == 1
+
+
+def text_for(line: str, words: Sequence[str]) -> str:
+    """What is sent for a command."""
+    return f'{line}\n{MARK}\n' if words[0] == 'versions' and is_marked(words) else f'{line}\n'
 
 
 def is_last(words: Sequence[str], line: str) -> bool:
     """Whether a line is the last one of the reply to a command with these words, or of the mark behind it."""
     if words[0] == 'dump':
         return not line[:1].isdigit()
-    return line == MARKED if words[0] == 'versions' and len(words) == 1 else not line.startswith('| ')
+    return line == MARKED if is_marked(words) else not line.startswith('| ')
 
 
-def take_reply(line: str, next_line: Callable[[], str]) -> Reply:
-    """The reply to a command that was sent so, from what gives the lines that are written, one at a time."""
-    words = kept_words(line)
-    if words == ('versions',):
+def take_reply(words: Sequence[str], next_line: Callable[[], str]) -> Reply:
+    """The reply to a command with these words, from what gives the lines that are written, one at a time."""
+    command = words[0]
+    if command == 'versions' and is_marked(words):
         return read_versions(list(iter(next_line, MARKED)))
-    records: List[str] = []
-    printed: List[int] = []
     last = next_line()
-    while not is_last(words, last):
-        if words[0] == 'dump':
-            records.append(last)
-        else:
-            printed.append(number_in(last, r'\| (-?\d+)'))
-        last = next_line()
-    if words[0] == 'dump' and last == 'ok':
-        return read_dump(records)
-    if words[0] == 'changed' and last != MARKED and not printed:
+    if command == 'dump':
+        return take_dump(last, next_line)
+    printed: Tuple[int, ...] = ()
+    if last.startswith('| '):
+        printed, last = take_printed(last, next_line)
+    if command == 'changed' and last != MARKED and not printed:
         return read_answer([last])
-    return read_reply(words[0], printed, last)
+    return read_reply(command, printed, last)
+
+
+def take_printed(line: str, next_line: Callable[[], str]) -> Tuple[Tuple[int, ...], str]:
+    """The numbers that were printed from this line on, and the line behind them."""
+    printed: List[int] = []
+    while line.startswith('| '):
+        printed.append(printed_in(line))
+        line = next_line()
+    return tuple(printed), line
+
+
+def take_dump(line: str, next_line: Callable[[], str]) -> Reply:
+    """The reply to `dump`, of which this is the first line."""
+    records: List[str] = []
+    while line[:1].isdigit():
+        records.append(line)
+        line = next_line()
+    if line == 'ok':
+        return read_dump(records)
+    if records:
+        raise UnknownReply(line)
+    return read_reply('dump', (), line)
 
 
 def read_content(word: str) -> Content:
@@ -406,7 +434,7 @@ def read_answer(lines: Sequence[str]) -> Union[Changed, Never, Refused]:
         return Never()
     if line in ('refused path', 'refused version'):
         return Refused(line.split()[1])
-    return Changed(number_in(line, r'changed (\d+)'))
+    return Changed(number_in(line, 'changed '))
 
 
 # What a program declares.
@@ -487,31 +515,29 @@ class History:
         text = '; '.join(self.calls[version])
         return text if len(text) <= most else text[:most - 2] + '..'
 
-    def note(self, line: str, reply: Optional[Reply]) -> None:
-        """Adds a line that was answered by this reply."""
-        if not isinstance(reply, (Version, Opened, Running, Done, Dropped, Budget, Trapped)):
-            return
-        words = kept_words(line)
-        if words[0] == 'query':
+    def note(self, line: str, words: Sequence[str], reply: Optional[Reply]) -> None:
+        """Adds a line of these words that was answered by this reply."""
+        command = words[0]
+        if command not in CHANGES or reply is None or isinstance(reply, Refused):
             return
         self.lines.append(line)
-        call = ' '.join(words[2:])
-        if isinstance(reply, Opened):
-            self.open_runs[reply.run] = (int(words[1]), [call] if call else [])
-        elif words[0] == 'call':
-            self.open_runs[int(words[1])][1].append(call)
-        elif words[0] in ('close', 'drop'):
+        if command == 'run':
+            if isinstance(reply, Version):
+                self._publish(reply, int(words[1]), (' '.join(words[2:]),))
+        elif isinstance(reply, Opened):
+            self.open_runs[reply.run] = (int(words[1]), [' '.join(words[2:])] if words[2:] else [])
+        elif command == 'call':
+            self.open_runs[int(words[1])][1].append(' '.join(words[2:]))
+        elif command in ('close', 'drop'):
             version, calls = self.open_runs.pop(int(words[1]))
             if isinstance(reply, Version):
-                self._publish(reply, version, calls)
-        elif isinstance(reply, Version):
-            self._publish(reply, int(words[1]), [call])
+                self._publish(reply, version, tuple(calls))
 
-    def _publish(self, reply: Version, parent: int, calls: Iterable[str]) -> None:
+    def _publish(self, reply: Version, parent: int, calls: Tuple[str, ...]) -> None:
         if reply.number != len(self.parents) or parent >= reply.number:
             raise UnknownReply(str(reply))
         self.parents.append(parent)
-        self.calls.append(tuple(calls))
+        self.calls.append(calls)
 
 
 # The process.
@@ -562,6 +588,18 @@ def answer_to(words: Sequence[str], given: str, path: str) -> str:
     if status != 0:
         raise NoAnswer(words, status)
     return written.decode('latin-1')
+
+
+def stretches_of(sizes: Sequence[int], most: int) -> Iterator[range]:
+    """Parts things of these sizes into stretches, each of at most so much together, or of one thing."""
+    begin = together = 0
+    for at, size in enumerate(sizes):
+        if at > begin and together + size > most:
+            yield range(begin, at)
+            begin, together = at, 0
+        together += size
+    if begin < len(sizes):
+        yield range(begin, len(sizes))
 
 
 def descriptors_of(*streams: Any) -> Tuple[int, ...]:
@@ -676,9 +714,10 @@ class Session(Commands):
     """
 
     def __init__(self, program: Optional[str] = None, path: Optional[str] = None, word: str = 'run',
-                 image: Union[str, 'os.PathLike[str]', bytes, None] = None) -> None:
+                 image: Union[str, 'os.PathLike[str]', bytes, None] = None, keeps_history: bool = True) -> None:
         """Starts a process on a program text, which ends with a line feed or is given one; `word` may be `line` or `replay`. Or on an image,
-        given by the path of its file or as bytes; then the program is the text in it."""
+        given by the path of its file or as bytes; then the program is the text in it. The history takes a few hundred bytes a command; a session
+        that does not keep it, since its user does, cannot be restarted or packed."""
         if (program is None) is (image is None):
             raise TypeError('a session is given either a program or an image')
         self.path = path or program_path()
@@ -686,6 +725,7 @@ class Session(Commands):
         # The program's text, whose lines the traps name.
         self.program = self._front.program
         self._outline: Optional[Outline] = None
+        self._keeps_history = keeps_history
         self._lock = threading.RLock()
         self._start()
 
@@ -719,7 +759,12 @@ class Session(Commands):
     def _start(self) -> None:
         self.history = History(self._front.parents)
         self._process = subprocess.Popen(
-            [self.path, self._front.word], stdin=subprocess.PIPE, stdout=subprocess.PIPE, start_new_session=True)
+            [self.path, self._front.word], bufsize=0, stdin=subprocess.PIPE, stdout=subprocess.PIPE, start_new_session=True)
+        assert self._process.stdin and self._process.stdout
+        self._write, self._read = self._process.stdin.write, self._process.stdout.read
+        # What was read: whole lines, the next one last, and the beginning of one more.
+        self._lines: List[str] = []
+        self._begun = ''
         # How many bytes may still be sent before the program ends with status 5.
         self.room = SERVED_LIMIT if self.is_served else INPUT_LIMIT
         self._status: Optional[int] = None
@@ -744,7 +789,7 @@ class Session(Commands):
 
     def _fault(self, first: str) -> PersistError:
         if self.is_served:
-            return ImageRefused(number_in(first, r'refused image (\d)'))
+            return ImageRefused(number_in(first, 'refused image '))
         found = re.fullmatch(r'refused ([a-z-]+) at (\d+)', first, re.ASCII)
         if not found:
             return UnknownReply(first)
@@ -782,9 +827,9 @@ class Session(Commands):
         `stats` are those of the history.
         """
         with self._lock:
+            before = self._kept_history()
             self._cut_off = True
             self.end()
-            before = self.history
             try:
                 self._start()
                 for line in before.lines:
@@ -796,52 +841,82 @@ class Session(Commands):
     # Lines.
 
     def _send(self, data: bytes) -> None:
-        assert self._process.stdin
         self.room -= len(data)
         try:
-            self._process.stdin.write(data)
-            self._process.stdin.flush()
+            sent = self._write(data)
+            while sent < len(data):
+                sent += self._write(memoryview(data)[sent:])
         except BrokenPipeError:
             # It has ended; what it wrote before can still be read.
             pass
 
     def _line(self) -> str:
-        assert self._process.stdout
-        line = self._process.stdout.readline()
-        if line.endswith(b'\n'):
-            return line[:-1].decode('latin-1')
-        # Nothing more comes. It is given time to end by itself, so that its own status is told.
-        self._status = self._wait()
-        raise Ended(self._status)
+        while not self._lines:
+            data = self._read(CHUNK)
+            if not data:
+                # Nothing more comes. It is given time to end by itself, so that its own status is told.
+                self._status = self._wait()
+                raise Ended(self._status)
+            self._lines = (self._begun + data.decode('latin-1')).split('\n')
+            self._begun = self._lines.pop()
+            self._lines.reverse()
+        return self._lines.pop()
+
+    def _lost(self) -> PersistError:
+        """Why no command can be sent."""
+        return CutOff('an earlier command was interrupted') if self._status is None else Ended(self._status)
+
+    def _reply(self, line: str, words: Sequence[str]) -> Reply:
+        """Reads the reply to a line that was sent."""
+        reply = take_reply(words, self._line)
+        if self._keeps_history:
+            self.history.note(line, words, reply)
+        return reply
 
     def command(self, line: str) -> Optional[Reply]:
         """Sends a line of the script, and returns its reply; None for a line that has none, which is not sent."""
         if '\n' in line:
             raise WrongText('a command is one line')
-        return self.commands([line])[0] if kept_words(line) else None
-
-    def commands(self, lines: Sequence[str]) -> List[Reply]:
-        """Sends some lines at once, each of which has a reply, and returns their replies. They are so few that a pipe holds them, 64 KiB."""
+        words = words_of(line)
+        if not words:
+            return None
         with self._lock:
-            if self._status is not None:
-                raise Ended(self._status)
-            if self._cut_off:
-                raise CutOff('an earlier command was interrupted')
-            data = encoded(''.join(map(lines_for, lines)))
+            if self._cut_off or self._status is not None:
+                raise self._lost()
+            data = encoded(text_for(line, words))
             self._cut_off = True
             self._send(data)
+            reply = self._reply(line, words)
+            self._cut_off = False
+            return reply
+
+    def commands(self, lines: Sequence[str]) -> List[Reply]:
+        """Sends lines, each of which has a reply, as many at once as every pipe holds, and returns their replies."""
+        words = list(map(words_of, lines))
+        with self._lock:
+            if self._cut_off or self._status is not None:
+                raise self._lost()
+            texts = [encoded(text_for(line, its)) for line, its in zip(lines, words)]
+            self._cut_off = True
             replies = []
-            for line in lines:
-                replies.append(take_reply(line, self._line))
-                self.history.note(line, replies[-1])
+            # All that was sent before is answered and so read: what is sent now has an empty pipe, and the process is never waited for while
+            # it waits for its replies to be read.
+            for stretch in stretches_of(list(map(len, texts)), select.PIPE_BUF):
+                self._send(b''.join(texts[stretch.start:stretch.stop]))
+                replies += [self._reply(lines[at], words[at]) for at in stretch]
             self._cut_off = False
             return replies
 
     # What the history is, and questions about it.
 
+    def _kept_history(self) -> History:
+        if not self._keeps_history:
+            raise PersistError('this session keeps no history')
+        return self.history
+
     def _given(self) -> bytes:
         with self._lock:
-            return self._front.data + encoded(''.join(f'{line}\n' for line in self.history.lines))
+            return self._front.data + encoded(''.join(f'{line}\n' for line in self._kept_history().lines))
 
     def input(self) -> str:
         """The history as an input: the program, the separator line, and the lines that make the versions and open runs again. Behind an

@@ -36,16 +36,16 @@ import zlib
 from typing import Any, Callable, Dict, Iterator, List, NamedTuple, Optional, Sequence, Tuple, Union
 
 from .client import (
-    Commands, Ended, ImageRefused, Opened, PersistError, Refused, Reply, Session, WrongText, answer_to, descriptors_of, encoded, program_path,
+    CHANGES, Commands, Ended, ImageRefused, Opened, PersistError, Refused, Reply, Session, WrongText, answer_to, descriptors_of, encoded, program_path,
     read_text, split_input, text_of, words_of, written_by)
 from .image import read_bytes
 
 __all__ = ['Broken', 'CheckpointFailed', 'Damaged', 'Disk', 'Journal', 'JournalError', 'Locked', 'NoStore', 'RunsAreOpen']
 
-# The commands that change a history, and stand in the log where they were not refused.
-CHANGES = ('run', 'open', 'call', 'step', 'close', 'drop', 'budget')
 # The most bytes of a command, which needs a few hundred, and the most commands that are carried out together.
 LONGEST, MOST_TOGETHER = 1024, 32
+# How many commands of a log are carried out again at once.
+AT_ONCE = 10_000
 
 
 class JournalError(PersistError):
@@ -212,9 +212,9 @@ class Log:
 
 # The program.
 
-def is_kept(line: str, reply: Optional[Reply]) -> bool:
-    """Whether a line that was answered so stands in the log: it has to be carried out again to come to the same store."""
-    return words_of(line)[0] in CHANGES and not isinstance(reply, Refused)
+def is_kept(words: Sequence[str], reply: Optional[Reply]) -> bool:
+    """Whether a line of these words that was answered so stands in the log: it has to be carried out again to come to the same store."""
+    return words[0] in CHANGES and not isinstance(reply, Refused)
 
 
 def canonical(program: str, path: str) -> bytes:
@@ -239,15 +239,14 @@ class Live:
 
     def __init__(self, image: bytes, path: str) -> None:
         try:
-            self._session = Session(path=path, image=image)
+            self._session = Session(path=path, image=image, keeps_history=False)
         except ImageRefused as error:
             raise Damaged(str(error), error.rule) from None
         self.program = self._session.program
 
-    def carry_out(self, lines: List[str]) -> List[Reply]:
+    def carry_out(self, lines: Sequence[str]) -> List[Reply]:
         """The replies to some commands, each of which has one."""
-        groups = (lines[at:at + MOST_TOGETHER] for at in range(0, len(lines), MOST_TOGETHER))
-        return [reply for group in groups for reply in self._session.commands(group)]
+        return self._session.commands(lines)
 
     def descriptors(self) -> Tuple[int, ...]:
         """What leads to the process."""
@@ -264,8 +263,8 @@ class Asked:
     """A command that waits to be carried out, and then its reply, or the error in place of one."""
 
     def __init__(self, line: str) -> None:
-        self.line = line
-        self.changes = words_of(line)[0] in CHANGES
+        self.line, self.words = line, words_of(line)
+        self.changes = self.words[0] in CHANGES
         self.answered = False
         self.reply: Union[Reply, JournalError, None] = None
 
@@ -459,17 +458,26 @@ class Journal(Commands):
                 raise Damaged(f'{name} is the log of another image')
             groups = read_groups(data, begin, name)
             self.open_runs = []
-            for line, reply in zip(groups.lines, process.carry_out(groups.lines)):
-                if not is_kept(line, reply):
-                    raise Damaged(f'{name}: `{line}` was answered, and now is not: {reply}')
-                self._note(line, reply)
-                if self._heard:
-                    self._heard(line, reply)
+            for at in range(0, len(groups.lines), AT_ONCE):
+                part = groups.lines[at:at + AT_ONCE]
+                if not all(map(words_of, part)):
+                    raise Damaged(f'{name} has a line without a command')
+                for line, reply in zip(part, process.carry_out(part)):
+                    self._take_again(name, line, reply)
         except BaseException:
             process.end()
             raise
         self._process, self._heard = process, None
         return groups
+
+    def _take_again(self, name: str, line: str, reply: Reply) -> None:
+        """Takes a line of a log in, with the reply that it has now."""
+        words = words_of(line)
+        if not is_kept(words, reply):
+            raise Damaged(f'{name}: `{line}` was answered, and now is not: {reply}')
+        self._note(words, reply)
+        if self._heard:
+            self._heard(line, reply)
 
     def _remove_others(self) -> None:
         """Removes what a checkpoint left that did not come to its end."""
@@ -555,9 +563,10 @@ class Journal(Commands):
 
     def _asked(self, line: str) -> Optional[Asked]:
         data = encoded(line)
-        if b'\n' in data or (words_of(line) and len(data) > LONGEST):
+        has_words = bool(words_of(line))
+        if b'\n' in data or (has_words and len(data) > LONGEST):
             raise WrongText(f'a command is one line of at most {LONGEST:,} bytes')
-        return Asked(line) if words_of(line) else None
+        return Asked(line) if has_words else None
 
     def _carry_out(self, asked: List[Asked]) -> None:
         """Hands commands in, and works or waits until all of them are answered."""
@@ -640,18 +649,17 @@ class Journal(Commands):
     def _answer(self, group: List[Asked]) -> None:
         """Carries commands out, writes those that changed something as one group, and answers all of them."""
         replies = self._process.carry_out([asked.line for asked in group]) if group else []
-        kept = [asked.line for asked, reply in zip(group, replies) if is_kept(asked.line, reply)]
+        kept = [asked.line for asked, reply in zip(group, replies) if is_kept(asked.words, reply)]
         if kept:
             self._log.add(kept)
         for asked, reply in zip(group, replies):
-            self._note(asked.line, reply)
+            self._note(asked.words, reply)
             asked.answer(reply)
         with self._moved:
             self._waiting = [asked for asked in self._waiting if not asked.answered]
 
-    def _note(self, line: str, reply: Reply) -> None:
+    def _note(self, words: Sequence[str], reply: Reply) -> None:
         """Follows which runs are open."""
-        words = words_of(line)
         if isinstance(reply, Opened):
             self.open_runs.append(reply.run)
         elif words[0] in ('close', 'drop') and not isinstance(reply, Refused):

@@ -20,14 +20,14 @@ import subprocess
 import time
 from collections import deque
 from concurrent.futures import ThreadPoolExecutor
-from typing import Any, Callable, Deque, Dict, List, Optional, Sequence, Set, Tuple, TypeVar, Union
+from typing import Any, Callable, Deque, Dict, List, NamedTuple, Optional, Sequence, Set, Tuple, TypeVar, Union
 
 from .client import (
-    MARK, MARKED, Changed, Ended, History, Never, Outline, PersistError, Refused, Reply, UnknownReply, Version, encoded, is_last,
-    lines_for, program_path, read_outline, take_reply, words_of, written_by)
+    CHANGES, MARK, MARKED, Changed, Ended, History, Never, Outline, PersistError, Refused, Reply, UnknownReply, Version, encoded, is_last,
+    program_path, read_outline, stretches_of, take_reply, text_for, words_of, written_by)
 from .history import Note, Notes, Past, Records
 from .image import Image
-from .journal import CHANGES, Broken, Damaged, Heard, Journal, is_kept
+from .journal import Broken, Damaged, Heard, Journal, is_kept
 
 __all__ = ['Busy', 'Kept', 'KeptByJournal', 'Limits', 'Outcome', 'Store', 'TooLarge', 'Who', 'Workers']
 
@@ -176,6 +176,7 @@ class Reader:
         self._process: Optional['subprocess.Popen[bytes]'] = None
         self._lines: Deque[bytes] = deque()
         self._rest = b''
+        self._is_closed = False
         # How far in the log it is, and how many versions the log has made there.
         self.place = self.versions = 0
         self.sent = 0
@@ -232,14 +233,10 @@ class Reader:
         if self._process is None:
             await self._start()
         lines, place = await self._workers.write(self.kept.read, self.place)
-        at = 0
-        while at < len(lines):
-            size, begin = 0, at
-            while at < len(lines) and size < self.PIECE:
-                size += len(lines[at]) + 1
-                at += 1
-            await self._send(''.join(f'{line}\n' for line in lines[begin:at]))
-            for _ in range(begin, at):
+        texts = [f'{line}\n' for line in lines]
+        for stretch in stretches_of(list(map(len, texts)), self.PIECE):
+            await self._send(''.join(texts[stretch.start:stretch.stop]))
+            for _ in stretch:
                 last = await self._line()
                 while last.startswith(b'| '):
                     last = await self._line()
@@ -250,14 +247,13 @@ class Reader:
         """The replies to lines that change nothing, as long as they have no more printed numbers than that together."""
         found: List[Outcome] = []
         for at in range(0, len(lines), 8):
-            piece = lines[at:at + 8]
-            await self._send(''.join(map(lines_for, piece)))
-            for line in piece:
+            piece = [(line, words_of(line)) for line in lines[at:at + 8]]
+            await self._send(''.join(text_for(line, words) for line, words in piece))
+            for _, words in piece:
                 told: List[str] = []
-                words = words_of(line)
                 while not told or not is_last(words, told[-1]):
                     told.append((await self._line()).decode('latin-1'))
-                found.append(take_reply(line, iter(told).__next__))
+                found.append(take_reply(words, iter(told).__next__))
             most -= printed_in(found[at:])
             if most < 0 and at + 8 < len(lines):
                 return found + [TooLarge(TOO_MANY)]
@@ -265,7 +261,7 @@ class Reader:
 
     def end(self) -> None:
         """Ends the process at once."""
-        if self._process is None:
+        if self._process is None or self._is_closed:
             return
         with contextlib.suppress(ProcessLookupError, PermissionError):
             os.killpg(self._process.pid, signal.SIGKILL)
@@ -273,17 +269,27 @@ class Reader:
             self._sink.close()
             self._reading.close()
         self._process.wait()
+        self._is_closed = True
+
+
+class Waiting(NamedTuple):
+    """One that waits for a reader: whether it is for slow queries, and a promise of it."""
+    slow: bool
+    turn: 'asyncio.Future[Reader]'
 
 
 class Readers:
-    """The readers of a store."""
+    """The readers of a store. Those who ask wait in the order in which they came, and none waits for a reader that is still given the log while
+    another one is free: that takes long behind many commands."""
 
     def __init__(self, kept: Kept, path: str, workers: Workers, limits: Limits) -> None:
         self._kept, self._path, self._workers, self._limits = kept, path, workers, limits
         self._idle: List[Reader] = []
         self._all: List[Reader] = []
+        self._waiting: Deque[Waiting] = deque()
+        # The one that is being begun, where there is one.
+        self._beginning: Optional['asyncio.Task[None]'] = None
         self._slow = 0
-        self._moved = asyncio.Condition()
         # The longest that a procedure took, and where in the log the budget was set last.
         self._seconds: Dict[str, float] = {}
         self.budget_place = 0
@@ -300,9 +306,9 @@ class Readers:
             found = await reader.ask(lines, self._limits.numbers)
             self._learn(names, (time.monotonic() - begun) / len(lines))
         except BaseException:
-            await self._give_back(reader, slow, lost=True)
+            self._give_back(reader, slow, lost=True)
             raise
-        await self._give_back(reader, slow, lost=reader.sent > 32 << 20)
+        self._give_back(reader, slow, lost=reader.sent > 32 << 20)
         return found
 
     def _learn(self, names: Set[str], seconds: float) -> None:
@@ -318,22 +324,63 @@ class Readers:
         return bool(behind) and all(it.isdigit() and len(it) < 9 and int(it) <= reader.versions for it in asked)
 
     async def _take(self, slow: bool) -> Reader:
+        """A reader that is free, when it is this one's turn."""
+        waiting = Waiting(slow, asyncio.get_running_loop().create_future())
+        self._waiting.append(waiting)
+        self._hand_out()
+        try:
+            return await waiting.turn
+        except asyncio.CancelledError:
+            if waiting in self._waiting:
+                self._waiting.remove(waiting)
+            elif not waiting.turn.cancelled() and not waiting.turn.exception():
+                self._give_back(waiting.turn.result(), slow, lost=False)
+            raise
+
+    def _hand_out(self) -> None:
+        """Gives free readers to those who wait; where there are too few, one more is begun."""
+        self._drop_ended()
         most = max(2, self._limits.readers)
-        async with self._moved:
-            while True:
-                self._drop_ended()
-                if not slow or self._slow < most - 1:
-                    if not self._idle and len(self._all) < most and self._may_begin():
-                        self._idle.append(Reader(self._kept, self._path, self._workers))
-                        self._all.append(self._idle[-1])
-                        self._workers.processes += 1
-                    if self._idle:
-                        break
-                await self._moved.wait()
-            self._slow += slow
-            # The one that is farthest in the log.
-            self._idle.sort(key=lambda it: it.place)
-            return self._idle.pop()
+        passed: List[Waiting] = []
+        while self._waiting and self._idle:
+            waiting = self._waiting.popleft()
+            if waiting.turn.done():
+                continue
+            if waiting.slow and self._slow >= most - 1:
+                passed.append(waiting)
+                continue
+            self._slow += waiting.slow
+            waiting.turn.set_result(self._idle.pop())
+        wanted = bool(self._waiting)
+        self._waiting.extendleft(reversed(passed))
+        if wanted and len(self._all) < most and self._beginning is None and self._may_begin():
+            reader = Reader(self._kept, self._path, self._workers)
+            self._all.append(reader)
+            self._workers.processes += 1
+            self._beginning = asyncio.get_running_loop().create_task(self._begin(reader))
+
+    async def _begin(self, reader: Reader) -> None:
+        """Starts a reader, and gives it the log. Where that fails, one who waits is told, unless others are there."""
+        try:
+            await reader.follow()
+            self._free(reader)
+        except BaseException as error:
+            self._lose(reader)
+            if not isinstance(error, Exception):
+                raise
+            if not self._all:
+                self._fail_one(error)
+        finally:
+            self._beginning = None
+            self._hand_out()
+
+    def _fail_one(self, error: Exception) -> None:
+        """Tells the first one who waits why there is no reader."""
+        while self._waiting:
+            turn = self._waiting.popleft().turn
+            if not turn.done():
+                turn.set_exception(error)
+                return
 
     def _may_begin(self) -> bool:
         return not self._all or self._workers.processes < self._limits.processes
@@ -349,15 +396,22 @@ class Readers:
             self._all.remove(reader)
             self._workers.processes -= 1
 
-    async def _give_back(self, reader: Reader, slow: bool, lost: bool) -> None:
+    def _free(self, reader: Reader) -> None:
+        """Has a reader wait for what is asked next. The one that is farthest in the log is the last one, and is taken first."""
+        if reader not in self._all or reader.kept is not self._kept:
+            self._lose(reader)
+            return
+        reader.used = time.monotonic()
+        self._idle.append(reader)
+        self._idle.sort(key=lambda it: it.place)
+
+    def _give_back(self, reader: Reader, slow: bool, lost: bool) -> None:
         self._slow -= slow
-        if lost or reader not in self._all or reader.kept is not self._kept:
+        if lost:
             self._lose(reader)
         else:
-            reader.used = time.monotonic()
-            self._idle.append(reader)
-        async with self._moved:
-            self._moved.notify_all()
+            self._free(reader)
+        self._hand_out()
 
     def thin(self) -> None:
         """Ends readers that have had nothing to do for a while, but for one."""
@@ -372,12 +426,17 @@ class Readers:
         for reader in list(self._idle):
             self._lose(reader)
         self._idle.clear()
+        self._hand_out()
 
     def end(self) -> None:
         """Ends all of them."""
+        if self._beginning is not None:
+            self._beginning.cancel()
         for reader in list(self._all):
             self._lose(reader)
         self._idle.clear()
+        while self._waiting:
+            self._fail_one(Busy('the store is being ended: ask again'))
 
 
 # The store.
@@ -512,7 +571,7 @@ class Store:
         self.history = History()
         self._read_image()
         for line, reply in heard:
-            self.history.note(line, reply)
+            self.history.note(line, words_of(line), reply)
         self.notes.complete(self.history)
 
     async def _write(self) -> None:
@@ -562,9 +621,10 @@ class Store:
         now = round(time.time(), 3)
         for (asked, at), outcome in zip(group, outcomes):
             asked.outcomes.append(outcome)
-            if isinstance(outcome, Reply) and is_kept(asked.lines[at], outcome):
-                self.history.note(asked.lines[at], outcome)
-                if words_of(asked.lines[at])[0] == 'budget':
+            words = words_of(asked.lines[at])
+            if isinstance(outcome, Reply) and is_kept(words, outcome):
+                self.history.note(asked.lines[at], words, outcome)
+                if words[0] == 'budget':
                     self.readers.budget_place = self.kept.size
             if isinstance(outcome, Version):
                 version = outcome.number

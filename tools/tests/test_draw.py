@@ -8,7 +8,7 @@ import sys
 import unittest
 import xml.dom.minidom
 
-from persist.client import Dump, Field, History, Outline, Pointer, Record, Session, read_outline, split_input
+from persist.client import Dump, Field, History, Outline, Pointer, Record, Session, read_outline, split_input, words_of
 from persist.draw import (
     LIMIT, SHOWN, folded, in_order, records_dot, records_svg, rows_of, tree_dot, tree_svg, tree_text)
 from tests.samples import LIST, SCRIPT, TOOLS, TREE, written
@@ -89,7 +89,7 @@ class Trees(Pictures):
         program, script = split_input(LIST + SCRIPT)
         with Session(program) as session:
             for line in script:
-                history.note(line, session.command(line))
+                history.note(line, words_of(line), session.command(line))
             self.assertEqual(session.versions().parents, PARENTS)
         self.assertEqual('\n'.join(tree_text(history.parents, history.label)) + '\n', TREE)
         self.assertEqual(tree_text([None, 0, 0], here=1), ['0', '+- 1 *', '|', '2'])
