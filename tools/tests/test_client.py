@@ -1,17 +1,21 @@
 """The client: all forms of replies, errors, questions, and the same replies as by standard input."""
+import fcntl
 import glob
 import os
 import pathlib
+import select
 import signal
+import sys
 import tempfile
 import threading
 import unittest
 
 from persist import client as the_module
 from persist.client import (
-    Answer, Budget, Changed, CutOff, Done, Dropped, Dump, Ended, Field, ImageRefused, Never, NoAnswer, NotCarriedOut, Opened, Pointer,
-    ProgramRefused, Record, Refused, Running, Session, Stats, Trapped, UnknownReply, Version, Versions, WrongImage, WrongText, answer_to,
-    must, read_answer, read_dump, read_outline, read_reply, read_text, read_versions, session_on, split_input, text_of, words_of)
+    Answer, Budget, Changed, CutOff, Done, Dropped, Dump, Ended, Field, ImageRefused, Never, NoAnswer, NotCarriedOut, Opened, PersistError,
+    Pointer, ProgramRefused, Record, Refused, Running, Session, Stats, Trapped, UnknownReply, Version, Versions, WrongImage, WrongText, answer_to,
+    must, read_answer, read_dump, read_outline, read_reply, read_text, read_versions, session_on, split_input, stretches_of, text_of,
+    words_of)
 from persist.errors import RULES
 from persist.image import split_image
 from tests.samples import LIST, TOP, a_program, made_up_script, written
@@ -254,6 +258,42 @@ class SameReplies(unittest.TestCase):
             for thread in threads:
                 thread.join()
             self.assertEqual(sorted(got), list(range(1, 801)))
+
+
+class Pipes(unittest.TestCase):
+    """Many lines at once, through pipes of one page."""
+
+    # Sets how many bytes a pipe of Linux holds; fcntl names it from python3.10 on.
+    SET_PIPE_SIZE = 1031
+
+    @unittest.skipUnless(sys.platform == 'linux', 'pipes have a size of their own elsewhere')
+    def test_long_lines_with_long_replies(self):
+        with Session(LIST) as session:
+            for descriptor in session.descriptors():
+                self.assertEqual(fcntl.fcntl(descriptor, self.SET_PIPE_SIZE, select.PIPE_BUF), select.PIPE_BUF)
+            # Where both wait for each other the process is killed, and that is an error.
+            timer = threading.Timer(60, os.killpg, (session.pid, signal.SIGKILL))
+            timer.start()
+            lines = [f'query 0 flood {count}'.ljust(1000) for count in range(2000, 2032)]
+            replies = session.commands([*lines, 'versions', 'x' * 100_000, 'run 0 add 1'])
+            timer.cancel()
+            self.assertEqual([len(must(it).printed) for it in replies[:32]], list(range(2000, 2032)))
+            self.assertEqual(replies[32:], [Versions((None,)), Refused('line'), Version(1)])
+            self.assertEqual(session.commands([]), [])
+
+    def test_stretches(self):
+        for sizes, stretches in (([], []), ([9], [[0]]), ([1, 2, 3], [[0, 1], [2]]), ([9, 1, 2, 1], [[0], [1, 2], [3]]), ([3, 3], [[0], [1]])):
+            self.assertEqual([list(it) for it in stretches_of(sizes, 3)], stretches)
+
+
+class WithoutHistory(unittest.TestCase):
+    def test_it_answers_and_is_not_begun_again(self):
+        with Session(LIST, keeps_history=False) as session:
+            self.assertEqual([session.run(0, 'add', 5), session.query(1, 'sum')], [Version(1), Answer((5,))])
+            self.assertEqual((session.history.lines, session.history.parents), ([], [None]))
+            for asked in (session.restart, session.packed, session.input):
+                self.assertRaises(PersistError, asked)
+            self.assertEqual(session.run(1, 'add', 7), Version(2))
 
 
 class Images(unittest.TestCase):
