@@ -23,7 +23,7 @@ from typing import Any, Dict, Iterator, List, NamedTuple, Optional, Sequence, Tu
 from .client import History, Outline
 from .image import Image
 
-__all__ = ['Difference', 'Names', 'Note', 'Notes', 'Past', 'Record', 'Records', 'Value', 'difference', 'difference_text', 'field_names',
+__all__ = ['Difference', 'Names', 'Note', 'Notes', 'Past', 'Record', 'Records', 'Value', 'call_of', 'difference', 'difference_text', 'field_names',
            'is_name', 'log_text', 'moment', 'names_text', 'show_text']
 
 # What a field holds: a number, null, or the own name of a record.
@@ -241,19 +241,36 @@ class Notes:
             if number is not None:
                 self.names[name] = int(number)
             return
-        note = Note(int(told['version']), told.get('parent'), str(told.get('call', '')), str(told.get('by', '')), told.get('at'),
-                    str(told.get('why', '')))
+        note = note_in(told)
         before = self.by_version.get(note.version)
         if before is None or note.at is not None:
             self.by_version[note.version] = note
 
+    def text(self) -> bytes:
+        """All that is known, as the lines of a file."""
+        lines = [encoded(note) for _, note in sorted(self.by_version.items())]
+        return b''.join(lines + [encoded_name(name, version) for name, version in self.names.items()])
+
+    def take_over(self, text: bytes, history: History) -> None:
+        """Adds notes and names from the lines of another file. A note is added where the version was made so here too: from the same parent, and
+        by the same calls where they are known."""
+        for line in text.split(b'\n'):
+            with contextlib.suppress(ValueError, KeyError, TypeError, AttributeError):
+                told = json.loads(line)
+                if told['version'] not in range(len(history.parents)):
+                    continue
+                if 'name' in told:
+                    self.name(str(told['name']), int(told['version']))
+                    continue
+                note = note_in(told)
+                if note.parent == history.parents[note.version] and (not history.calls[note.version] or note.call == call_of(history, note.version)):
+                    self.add(note)
+
     def _write_anew(self) -> None:
         """Writes both files with all that is known, each whole or not at all."""
-        lines = [encoded(note) for _, note in sorted(self.by_version.items())]
-        lines += [encoded_name(name, version) for name, version in self.names.items()]
         for at, path in enumerate(self.paths):
             with open(f'{path}.new', 'wb') as fresh:
-                fresh.write(b''.join(lines))
+                fresh.write(self.text())
                 fresh.flush()
                 os.fsync(fresh.fileno())
             os.rename(f'{path}.new', path)
@@ -304,7 +321,7 @@ class Notes:
 
     def complete(self, history: History) -> None:
         """Adds a note of each version of a history of which none is there; what is known of a version that is not there is dropped."""
-        missing = [Note(version, parent, '; '.join(history.calls[version]))
+        missing = [Note(version, parent, call_of(history, version))
                    for version, parent in enumerate(history.parents) if version not in self.by_version]
         if missing:
             self.add(*missing)
@@ -325,6 +342,16 @@ class Notes:
         self.sync()
         for file in self._files:
             file.close()
+
+
+def call_of(history: History, version: int) -> str:
+    """The calls that made a version, as a note has them."""
+    return '; '.join(history.calls[version])
+
+
+def note_in(told: Dict[str, Any]) -> Note:
+    """The note that the object of a line tells."""
+    return Note(int(told['version']), told.get('parent'), str(told.get('call', '')), str(told.get('by', '')), told.get('at'), str(told.get('why', '')))
 
 
 def encoded(note: Note) -> bytes:

@@ -25,7 +25,7 @@ from typing import Any, Callable, Deque, Dict, List, NamedTuple, Optional, Seque
 from .client import (
     CHANGES, MARK, MARKED, Changed, Ended, History, Never, Outline, PersistError, Refused, Reply, UnknownReply, Version, encoded, is_last,
     program_path, read_outline, stretches_of, take_reply, text_for, words_of, written_by)
-from .history import Note, Notes, Past, Records
+from .history import Note, Notes, Past, Records, call_of
 from .image import Image
 from .journal import Broken, Damaged, Heard, Journal, is_kept
 
@@ -628,8 +628,7 @@ class Store:
                     self.readers.budget_place = self.kept.size
             if isinstance(outcome, Version):
                 version = outcome.number
-                call = '; '.join(self.history.calls[version])
-                notes.append(Note(version, self.history.parents[version], call, asked.who.by, now, asked.who.why))
+                notes.append(Note(version, self.history.parents[version], call_of(self.history, version), asked.who.by, now, asked.who.why))
             if isinstance(outcome, Broken):
                 self.broken = outcome
         self.notes.add(*notes)

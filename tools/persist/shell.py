@@ -12,6 +12,7 @@ speaks of and its meaning. Ctrl-C ends a long run: the program is started again,
 Ctrl-D ends the shell. PERSIST names another build of the program. Tested (tools/tests), not proved.
 """
 
+import getpass
 import glob
 import os
 import re
@@ -20,13 +21,14 @@ import shutil
 import subprocess
 import sys
 import tempfile
+import time
 from typing import Callable, Dict, List, Optional, Sequence, TextIO, Tuple
 
 from .client import (
     Changed, Ended, Field, Outline, PersistError, ProgramRefused, Refused, Reply, Session, Trapped, Version, read_text, session_on,
     split_input, text_of, words_of, write_text)
 from .draw import held_text, let_go, records_dot, records_svg, short, tree_dot, tree_svg, tree_text
-from .history import Notes, Past, at_version, difference, difference_text, is_name, log_text, names_text, show_text
+from .history import Note, Notes, Past, at_version, call_of, difference, difference_text, is_name, log_text, names_text, show_text
 from .image import read_bytes
 
 # What traps mean, as docs/NOTATION.md has them.
@@ -80,6 +82,8 @@ WORDS: Dict[str, Tuple[str, str]] = {
     'name': ('NAME [V]', 'calls version V so; wherever a version is wanted its name may stand'),
     'unname': ('NAME', 'takes a name away'),
     'names': ('', 'lists the names of versions'),
+    'by': ('[NAME]', 'tells, or sets, who makes the versions that are typed from now on; at first the user'),
+    'why': ('[REASON]', 'sets the reason, in quotation marks, that is noted beside each of them; without one, none'),
     'dump': ('[V]', 'tells the records of a version'),
     'changed': ('[V] PATH', 'tells which version, from V on the way to 0, changed what PATH reads'),
     'list': ('[N]', 'shows the program, or the lines round line N'),
@@ -94,6 +98,14 @@ WORDS: Dict[str, Tuple[str, str]] = {
 HELP = '\n'.join(
     ['  LINE               a line of the script, where . stands for the current version; or NAME ARG .. for run or query']
     + ['  {:<18} {}'.format(f'\\{word} {wanted}', does) for word, (wanted, does) in WORDS.items()])
+
+
+def user() -> str:
+    """The name of the user, where the system has one."""
+    try:
+        return getpass.getuser()
+    except (KeyError, OSError):
+        return ''
 
 
 class Wrong(Exception):
@@ -132,6 +144,8 @@ class Shell:
         self.session, self.outline, _ = begun(b'')
         self.folder = tempfile.TemporaryDirectory(prefix='persist-')
         self.notes = self.no_notes()
+        # Who makes the versions that are typed, and why.
+        self.by, self.why = user(), ''
         self.past: Optional[Past] = None
 
     def end(self) -> None:
@@ -141,7 +155,7 @@ class Shell:
         self.folder.cleanup()
 
     def no_notes(self) -> Notes:
-        """Notes of which none is there yet. They are kept as long as the session, and names also by `save`."""
+        """Notes of which none is there yet. They are kept as long as the session, and by `save`."""
         for path in glob.glob(os.path.join(glob.escape(self.folder.name), '*')):
             os.remove(path)
         return Notes(os.path.join(self.folder.name, 'notes'))
@@ -228,8 +242,15 @@ class Shell:
             self.say(text_of(reply)[:-1])
         if isinstance(reply, Version):
             self.current = reply.number
+            if where is None:
+                self.note(reply.number)
         if isinstance(reply, (Trapped, Refused)):
             self.explain(line, reply, where)
+
+    def note(self, version: int) -> None:
+        """Notes who made a version, when and why, as a server does."""
+        history = self.session.history
+        self.notes.add(Note(version, history.parents[version], call_of(history, version), self.by, round(time.time(), 3), self.why))
 
     def spelled_out(self, words: List[str]) -> List[str]:
         """The words of a line, with the command that was left out and the current version in the place of a dot."""
@@ -354,6 +375,16 @@ class Shell:
             raise Wrong(f'no version is called {name}')
         self.notes.name(name, None)
 
+    def do_by(self, name: Optional[str] = None) -> None:
+        """Tells or sets who makes the versions that are typed."""
+        if name is None:
+            self.say(self.by)
+        self.by = self.by if name is None else name
+
+    def do_why(self, reason: str = '') -> None:
+        """Sets why the versions that are typed are made."""
+        self.why = reason
+
     def do_names(self) -> None:
         """Lists the names."""
         self.page(names_text(self.notes.names))
@@ -418,6 +449,8 @@ class Shell:
             self.say(f'an image, whose newest version is {session.newest}')
         # The lines of a script have numbers: behind a program those of the file, and behind an image from 1.
         self.lines_of(path, script, 1 if session.is_served else session.program.count('\n') + 2)
+        if os.path.isfile(f'{path}.notes'):
+            self.notes.take_over(read_bytes(f'{path}.notes'), session.history)
 
     def do_do(self, path: str) -> None:
         """Carries out the script lines of a file."""
@@ -439,9 +472,12 @@ class Shell:
             self.say(f'{many:,} lines were carried out; the newest version is {self.session.newest}')
 
     def do_save(self, path: str) -> None:
-        """Writes the program, the history and the names as an input."""
+        """Writes the program, the history and the names as an input; and beside it, in PATH.notes, who made which version, when and why."""
         names = ''.join(f'# name {name} {version}\n' for name, version in sorted(self.notes.names.items()))
         write_text(path, self.session.input() + names)
+        if self.notes.by_version:
+            with open(f'{path}.notes', 'wb') as file:
+                file.write(self.notes.text())
 
     def do_draw(self, path: str, version: Optional[str] = None) -> None:
         """Draws the tree, or the records of a version."""

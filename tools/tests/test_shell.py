@@ -11,6 +11,7 @@ import unittest.mock
 import xml.dom.minidom
 
 from persist.client import Ended, read_text
+from persist.history import Notes
 from persist.shell import COMMANDS, FAULTS, HELP, REFUSALS, SHOWN, TRAPS, WORDS, Shell
 from tests.samples import LIST, SCRIPT, TOOLS, TOP, TREE
 
@@ -193,6 +194,23 @@ class Past(Typed):
                          'no version is called sunday\nthere is no version sunday\n')
         self.ask(r'\unname last', rf'\save {self.folder}/kept', r'\name other 1', rf'\load {self.folder}/kept')
         self.assertEqual(self.ask(r'\names', r'\dump monday'), 'monday  2\n0 root  first: @1\n1 Node  key: 2, next: @2\n2 Node  key: 1, next: null\n')
+
+    def test_who_when_and_why_are_noted_and_kept_with_the_file(self):
+        told = r'by anna \d{4}-\d\d-\d\d \d\d:\d\d:\d\d'
+        self.ask(r'\by anna', r'\why "a loaf"', 'add 9', r'\why', 'add 8', r'\name loaf 6')
+        self.assertEqual(self.ask(r'\by'), 'anna\n')
+        shown = rf'version 7  add 8  {told}\nversion 6  \(loaf\)  add 9  {told}  a loaf\nversion 5  .*\n'
+        self.assertRegex(self.ask(r'\log 7'), shown)
+        self.ask(rf'\save {self.folder}/kept', rf'\load {self.folder}/kept')
+        self.assertRegex(self.ask(r'\log 7'), shown)
+        # It is the file of a server, and tells nothing of versions that were made otherwise.
+        notes = Notes(f'{self.folder}/kept.notes')
+        self.addCleanup(notes.end)
+        self.assertEqual((notes.of(6).by, notes.of(6).why, notes.of(6).call, notes.names), ('anna', 'a loaf', 'add 9', {'loaf': 6}))
+        text = read_text(f'{self.folder}/kept').replace('add 9', 'add 10')
+        self.file('kept', text)
+        self.ask(rf'\load {self.folder}/kept')
+        self.assertRegex(self.ask(r'\log 7'), rf'version 7  add 8  {told}\nversion 6  \(loaf\)  add 10\nversion 5  .*\n')
 
     def test_of_a_long_file_only_what_fails_is_shown(self):
         lines = [f'run {version} add 1' for version in range(SHOWN)] + ['jump']
