@@ -1,4 +1,5 @@
 """The server: what each path answers, limits, clients that mean harm, and what stands when processes are killed and disks are full."""
+import asyncio
 import concurrent.futures
 import contextlib
 import glob
@@ -13,8 +14,10 @@ import tempfile
 import threading
 import time
 import unittest
+import unittest.mock
 from typing import Dict, List
 
+from persist import kept
 from persist.client import Pointer, Session, answer_to, program_path, read_outline, read_text, split_input, written_by
 from tests.samples import LIST, SCRIPT, TOP, alive, made_up_script
 from tests.serving import MISSING, PYTHON, Serving, a_server, raw, request
@@ -842,6 +845,55 @@ class Killed(unittest.TestCase):
                     self.full(server, room)
             finally:
                 subprocess.run(['umount', folder], check=True)
+
+
+class Turns(unittest.TestCase):
+    """The readers of a store, with a reader in the place of a process."""
+
+    class Reader:
+        """Answers each query after a thousandth of a second, and notes whose it was."""
+        place, versions, sent = 1, 1, 0
+        ended = False
+
+        def __init__(self, asked, *_):
+            self.kept = asked
+
+        async def follow(self):
+            """Is given the log."""
+            await asyncio.sleep(0.01)
+
+        async def ask(self, lines, _):
+            """Answers."""
+            self.kept.append(lines[0])
+            await asyncio.sleep(0.001)
+            return [None]
+
+        def end(self):
+            """Ends nothing."""
+
+    def test_nobody_is_passed_by_those_who_came_later(self):
+        asked = []
+
+        async def client(readers, name):
+            for _ in range(10):
+                await readers.ask([name])
+
+        async def clients():
+            workers = kept.Workers()
+            readers = kept.Readers(asked, '', workers, kept.Limits())
+            await asyncio.gather(*(client(readers, f'query 0 sum {at}') for at in range(64)))
+            self.assertEqual(workers.processes, 4)
+            readers.end()
+            self.assertEqual(workers.processes, 0)
+            workers.end()
+        with unittest.mock.patch.object(kept, 'Reader', self.Reader):
+            asyncio.run(clients())
+        # No client is ever more than two queries ahead of another one.
+        counts = dict.fromkeys(asked[:64], 0)
+        self.assertEqual((len(counts), len(asked)), (64, 640))
+        for name in asked:
+            counts[name] += 1
+            self.assertLessEqual(max(counts.values()) - min(counts.values()), 2)
 
 
 class Outlines(unittest.TestCase):
