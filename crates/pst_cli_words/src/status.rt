@@ -16,7 +16,7 @@ pub enum Status {
     Usage,
     /// The program has a fault, and its line was written.
     Refused,
-    /// The input has more than 67,108,864 bytes, and more of it was needed.
+    /// The input has more than 67,108,864 bytes or, for `serve` and `repack`, more than 2^62, and more of it was needed.
     TooLong,
     /// There was no memory.
     Memory,
