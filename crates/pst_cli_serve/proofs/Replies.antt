@@ -17,38 +17,38 @@ use Rattle.pst_cli_scripts.specs.declared.stop.Stop.TheVariants as stop
 use Rattle.pst_cli_scripts.specs.Pieces.{Answering, pieces_from, state_after, IsAll, IsPartOf}
 use Rattle.pst_cli_scripts.specs.Reading.{GivesUntil, IsNear, stop_of}
 use Rattle.pst_cli_scripts.specs.Script.{by_tree, script_of, line_reply}
-use Rattle.pst_cli_scripts.specs.Sessions.{IsSaid as IsSaidBy, HeldAtLine, HeldAtReply, StopsAtReply}
+use Rattle.pst_cli_scripts.specs.Sessions.{IsSaid, HeldAtLine, HeldAtReply, StopsAtReply}
 use Rattle.pst_cli_scripts.proofs.Writing.{state_more, breaks_in}
 use Rattle.pst_cli_words.specs.declared.job.Question.TheVariants.{Dump}
 use Rattle.pst_cli_words.specs.Asked.{Asked, question_in}
 use Rattle.pst_cli_questions.specs.Telling.{Tells}
 use Rattle.pst_cli_serve.proofs.Commands.{after_question}
-use Rattle.pst_cli_serve.specs.Served.{SaysTo, Says, IsAnswer, IsEndedDump, AreReplies, bytes_said, IsAnswered, StopsInAnswer, StopsBeforeAnswer, StopsAtAnswer, IsSaid, StopsServing}
+use Rattle.pst_cli_serve.specs.Served.{SaysTo, Says, AnswersQuestion, IsEndedDump, AreReplies, bytes_said, IsAnswered, StopsInTold, StopsBeforeTold, StopsAtTold, IsWrittenOf, StopsServing}
 
 -- ---- a line
 
 -- the dump of a version that is there, with the line behind it
 pub dump_ended : (program : Program) (m : Meaning) (h : History) (version : VersionNo) (path text : List ℕ) → version.0 < version_count h → Tells program m h (Dump version) path text
-    → IsAnswer program m h (Dump version) path (text ++ codes "ok\n")
+    → AnswersQuestion program m h (Dump version) path (text ++ codes "ok\n")
 dump_ended program m h version path text there told =
     elim told [ inl none ↦ absurd (omega (arith, none.0, there)) | inr some ↦ inr (there, (text, some.1, refl)) ]
 
 -- and of one that is not
 pub dump_none : (program : Program) (m : Meaning) (h : History) (version : VersionNo) (path text : List ℕ) → version_count h ≤ version.0 → Tells program m h (Dump version) path text
-    → IsAnswer program m h (Dump version) path text
+    → AnswersQuestion program m h (Dump version) path text
 dump_none program m h version path text past told =
     elim told [ inl none ↦ inl none | inr some ↦ absurd (omega (arith, some.0, past)) ]
 
 says_command : (program : Program) (m : Meaning) (h : History) (line : List ℕ) (reply : Option (List ℕ)) → question_in line ≡ None → reply ≡ line_reply by_tree line m h → Says program m h line reply
 says_command program m h line reply e is = subst (λ (o : Option Asked). SaysTo program m h line o reply) (sym e) is
 
-pub says_answer : (program : Program) (m : Meaning) (h : History) (line : List ℕ) (asked : Asked) (text : List ℕ) → question_in line ≡ Some asked → IsAnswer program m h asked.question asked.path text
+pub says_answer : (program : Program) (m : Meaning) (h : History) (line : List ℕ) (asked : Asked) (text : List ℕ) → question_in line ≡ Some asked → AnswersQuestion program m h asked.question asked.path text
     → Says program m h line (Some text)
 says_answer program m h line asked text e is = subst (λ (o : Option Asked). SaysTo program m h line o (Some text)) (sym e) (text, refl, is)
 
 -- the reply to a command was written
-pub said_command : {T : Type 0} (r : Result T Stop) (program : Program) (m : Meaning) (h : History) (line out : List ℕ) → question_in line ≡ None → IsSaidBy r (line_reply by_tree line m h) out
-    → IsSaid r (Says program m h line) out
+pub said_command : {T : Type 0} (r : Result T Stop) (program : Program) (m : Meaning) (h : History) (line out : List ℕ) → question_in line ≡ None → IsSaid r (line_reply by_tree line m h) out
+    → IsWrittenOf r (Says program m h line) out
 said_command (Ok x) program m h line out e said = (line_reply by_tree line m h, says_command program m h line (line_reply by_tree line m h) e refl, said)
 said_command (Err stop.Write) program m h line out e (piece, is, part) = (piece, says_command program m h line (Some piece) e (sym is), part)
 said_command (Err stop.Memory) program m h line out e none = none
@@ -56,7 +56,7 @@ said_command (Err stop.Read) program m h line out e never = never
 said_command (Err stop.TooLong) program m h line out e never = never
 
 -- the answer to a question was written in part
-pub said_in_part : (s : Stop) (Reply : Option (List ℕ) → Type 0) (piece out : List ℕ) → Reply (Some piece) → StopsAtReply s (Some piece) out → StopsAtAnswer s Reply out
+pub said_in_part : (s : Stop) (Reply : Option (List ℕ) → Type 0) (piece out : List ℕ) → Reply (Some piece) → StopsAtReply s (Some piece) out → StopsAtTold s Reply out
 said_in_part stop.Write Reply piece out reply (whole, is, part) = let e : whole ≡ piece = cc in (piece, reply, subst (λ (l : List ℕ). IsPartOf l out) e part)
 said_in_part stop.Memory Reply piece out reply none = none
 said_in_part stop.Read Reply piece out reply never = never
@@ -64,7 +64,7 @@ said_in_part stop.TooLong Reply piece out reply never = never
 
 -- it was written, all of it or a part
 pub said_answer : {T : Type 0} (r : Result T Stop) (Reply : Option (List ℕ) → Type 0) (text piece out : List ℕ) → piece ≡ text → Reply (Some text)
-    → MatchResult r (λ _. out ≡ piece) (λ s. StopsAtReply s (Some piece) out) → IsSaid r Reply out
+    → MatchResult r (λ _. out ≡ piece) (λ s. StopsAtReply s (Some piece) out) → IsWrittenOf r Reply out
 said_answer (Ok x) Reply text piece out same reply is = (Some text, reply, is ∙ same ∙ sym (append-nil text))
 said_answer (Err s) Reply text piece out same reply stops = said_in_part s Reply piece out (subst (λ (l : List ℕ). Reply (Some l)) (sym same) reply) stops
 
@@ -100,47 +100,47 @@ said_push (first ∷ replies) reply =
     ∙ sym (append_assoc (concat (option_to_list first)) (bytes_said replies) (concat (option_to_list reply)))
     ∙ ap (λ (l : List ℕ). l ++ concat (option_to_list reply)) (sym (concat-append (option_to_list first) (flat_map option_to_list replies)))
 
-module _ {A : Type 0} (Tells_so : A → List ℕ → Option (List ℕ) → Type 0) (m : Answering A) where
-  replies_push : (a : A) (given : List (List ℕ)) (replies : List (Option (List ℕ))) (line : List ℕ) (reply : Option (List ℕ)) → AreReplies Tells_so m a given replies
-      → Tells_so (state_after m a given) line reply → AreReplies Tells_so m a (given ++ line ∷ []) (replies ++ reply ∷ [])
+module _ {A : Type 0} (SaysLine : A → List ℕ → Option (List ℕ) → Type 0) (m : Answering A) where
+  replies_push : (a : A) (given : List (List ℕ)) (replies : List (Option (List ℕ))) (line : List ℕ) (reply : Option (List ℕ)) → AreReplies SaysLine m a given replies
+      → SaysLine (state_after m a given) line reply → AreReplies SaysLine m a (given ++ line ∷ []) (replies ++ reply ∷ [])
   replies_push a [] [] line reply are says = (says, tt)
   replies_push a [] (r ∷ rs) line reply are says = absurd are
   replies_push a (first ∷ given) [] line reply are says = absurd are
   replies_push a (first ∷ given) (r ∷ rs) line reply are says = (are.0, replies_push (m.next a first) given rs line reply are.1 says)
 
   -- nothing is answered yet
-  pub answered_none : (a : A) → IsAnswered Tells_so m a [] []
+  pub answered_none : (a : A) → IsAnswered SaysLine m a [] []
   answered_none a = ([], tt, refl)
 
   -- one more line was answered
-  pub answered_more : (a : A) (given : List (List ℕ)) (line done out : List ℕ) → IsAnswered Tells_so m a given done
-      → (reply : Option (List ℕ)) × Tells_so (state_after m a given) line reply × (out ≡ concat (option_to_list reply)) → IsAnswered Tells_so m a (given ++ line ∷ []) (done ++ out)
+  pub answered_more : (a : A) (given : List (List ℕ)) (line done out : List ℕ) → IsAnswered SaysLine m a given done
+      → (reply : Option (List ℕ)) × SaysLine (state_after m a given) line reply × (out ≡ concat (option_to_list reply)) → IsAnswered SaysLine m a (given ++ line ∷ []) (done ++ out)
   answered_more a given line done out (replies, are, all) (reply, says, is) = (
     replies ++ reply ∷ [],
     replies_push a given replies line reply are says,
     ap (λ (l : List ℕ). l ++ out) all ∙ ap (λ (l : List ℕ). bytes_said replies ++ l) is ∙ sym (said_push replies reply),
   )
 
-  before_answer : (a : A) (given : List (List ℕ)) (line done out : List ℕ) → IsAnswered Tells_so m a given done → out ≡ [] → StopsBeforeAnswer Tells_so m a (given ++ line ∷ []) (done ++ out)
+  before_answer : (a : A) (given : List (List ℕ)) (line done out : List ℕ) → IsAnswered SaysLine m a given done → out ≡ [] → StopsBeforeTold SaysLine m a (given ++ line ∷ []) (done ++ out)
   before_answer a given line done out answered none = record {
     before = given;
     last = line;
     split = refl;
-    answered = subst (λ (l : List ℕ). IsAnswered Tells_so m a given l) (sym (ap (λ (l : List ℕ). done ++ l) none ∙ append-nil done)) answered;
+    answered = subst (λ (l : List ℕ). IsAnswered SaysLine m a given l) (sym (ap (λ (l : List ℕ). done ++ l) none ∙ append-nil done)) answered;
   }
 
   -- reading stopped, and all that was handed out is answered
   pub until_served : (h : A) (leaves breaks : A → Type 0) (fault : LinesFault) (a : InputState) (left : Option (List ℕ)) (c : InputState) (left'' : Option (List ℕ)) (given : List (List ℕ)) (out : List ℕ)
-      → GivesUntil (stop_of fault) a left c left'' given → IsCutOff c → IsAnswered Tells_so m h given out → leaves (state_after m h given)
-      → StopsServing Tells_so m h leaves breaks (stop_of fault) a left c left'' given out
+      → GivesUntil (stop_of fault) a left c left'' given → IsCutOff c → IsAnswered SaysLine m h given out → leaves (state_after m h given)
+      → StopsServing SaysLine m h leaves breaks (stop_of fault) a left c left'' given out
   until_served h leaves breaks lines.Failed a left c left'' given out g off all kept = (g.0, off, all, kept)
   until_served h leaves breaks lines.TooLong a left c left'' given out g off all kept = (g.0, off, all, kept)
   until_served h leaves breaks lines.Memory a left c left'' given out g off all kept = (g.0, inl (off, all, kept))
 
   -- answering stopped at a line
   pub until_answer : (h : A) (leaves breaks : A → Type 0) (s : Stop) (a : InputState) (left : Option (List ℕ)) (b : InputState) (left' : Option (List ℕ)) (given : List (List ℕ)) (line done out : List ℕ)
-      → IsAnswered Tells_so m h given done → StopsAtAnswer s (Tells_so (state_after m h given) line) out → HeldAtReply m leaves breaks s (state_after m h given) line
-      → Gives a left b left' (given ++ line ∷ []) → IsNear b → StopsServing Tells_so m h leaves breaks s a left b left' (given ++ line ∷ []) (done ++ out)
+      → IsAnswered SaysLine m h given done → StopsAtTold s (SaysLine (state_after m h given) line) out → HeldAtReply m leaves breaks s (state_after m h given) line
+      → Gives a left b left' (given ++ line ∷ []) → IsNear b → StopsServing SaysLine m h leaves breaks s a left b left' (given ++ line ∷ []) (done ++ out)
   until_answer h leaves breaks stop.Write a left b left' given line done out answered (piece, says, part) kept g near = (
     g,
     near,

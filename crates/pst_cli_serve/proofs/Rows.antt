@@ -31,15 +31,15 @@ use Rattle.pst_image_front.specs.Front.{promised, IsShort, IsFront, IsTooFew, Ha
 use Rattle.pst_image_front.proofs.Promises.{short_now}
 use Rattle.pst_cli_images.specs.Opening.{opening_in}
 use Rattle.pst_cli_images.specs.Resuming.{Resumed, Refuses}
-use Rattle.pst_cli_serve.specs.Served.{Says, Serves, IsAnswered}
-use Rattle.pst_cli_serve.specs.Serving.{Behind, ReadsFront, AnswersAll, CutOffIn, StopsReading, ServeRow, ended, Continues, Goes}
+use Rattle.pst_cli_serve.specs.Served.{Says, ServesLines, IsAnswered}
+use Rattle.pst_cli_serve.specs.Serving.{Behind, ReadsFront, AnswersAll, CutOffIn, CutsReading, ServeRow, status_at, ServesBehind, ServesFrom}
 use Rattle.pst_cli_images.proofs.Handed.{unread, whole, size, taken, has_read, past_front, begins}
 use Rattle.pst_cli_serve.proofs.Fronts.{behind_text, promised_length, accepted_grown, rest_behind, fails_grown, reads_front, reads_some}
 use Rattle.pst_cli_serve.proofs.Fronts.{hands_both, pending_was, reads_behind, whole_behind, seen_behind}
 
 -- what comes of the lines behind an image, in the history that begins with it
-abbrev Lines_come : Resumed → Result (Unit {0}) Stop → InputState → Option (List ℕ) → InputState → Option (List ℕ) → List ℕ → Program → Meaning → History → ℕ → Type 0
-Lines_come k r a left b left' out = λ program m h len. Serves (Says program m) (script_of by_tree m) h (k.leaves m) (k.breaks m) r a left b left' out
+abbrev LinesCome : Resumed → Result (Unit {0}) Stop → InputState → Option (List ℕ) → InputState → Option (List ℕ) → List ℕ → Program → Meaning → History → ℕ → Type 0
+LinesCome k r a left b left' out = λ program m h len. ServesLines (Says program m) (script_of by_tree m) h (k.leaves m) (k.breaks m) r a left b left' out
 
 -- the same image, where more stands behind it
 grown : (Holds Then : Program → Meaning → History → ℕ → Type 0) (bytes more seen : List ℕ) (b : Behind Holds bytes) → seen ≡ bytes ++ more
@@ -65,13 +65,13 @@ module _ (k : Resumed) (input left bytes : List ℕ) (a c : InputState) (out : L
   all = behind_text input left bytes a h
 
   -- a read that was due did not come
-  stops_reading : (r : Result (Unit {0}) Stop) (after : Option (List ℕ)) (rest : List ℕ) (b : Behind (Lines_come k r a (Some left) c after out) bytes) (given : List (List ℕ))
+  stops_reading : (r : Result (Unit {0}) Stop) (after : Option (List ℕ)) (rest : List ℕ) (b : Behind (LinesCome k r a (Some left) c after out) bytes) (given : List (List ℕ))
       → Gives a (Some left) c (Some rest) given → IsCutOff c
       → IsAnswered (Says b.program (meaning_of b.program)) (script_of by_tree (meaning_of b.program)) (begun (opening_in b.program.shape b.image)) given out
       → k.leaves (meaning_of b.program) (state_after (script_of by_tree (meaning_of b.program)) (begun (opening_in b.program.shape b.image)) given)
       → CutOffIn k (take (bytes_read c) input) out
   stops_reading r after rest b given g off answered left_so =
-      let Holds = Lines_come k r a (Some left) c after out in
+      let Holds = LinesCome k r a (Some left) c after out in
       let seen = take (bytes_read c) input in
       let lines = whole_behind input left rest bytes a c h given g b.len (far Holds b) off in
       let Then : Program → Meaning → History → ℕ → Type 0 = λ program m x len. AnswersAll k program m x (whole_lines (drop len seen)) out in
@@ -79,7 +79,7 @@ module _ (k : Resumed) (input left bytes : List ℕ) (a c : InputState) (out : L
       subst (λ (l : List (List ℕ)). AnswersAll k b.program (meaning_of b.program) (begun (opening_in b.program.shape b.image)) l out) (sym lines) (answered, left_so)))
 
   -- one byte more came than may be read
-  long_row : (left' : Option (List ℕ)) (b : Behind (Lines_come k (Err stop.TooLong) a (Some left) c left' out) bytes) (given : List (List ℕ)) (before : Option (List ℕ)) (more : ℕ)
+  long_row : (left' : Option (List ℕ)) (b : Behind (LinesCome k (Err stop.TooLong) a (Some left) c left' out) bytes) (given : List (List ℕ)) (before : Option (List ℕ)) (more : ℕ)
       → Gives a (Some left) c before given → Consumes before left' (more ∷ []) → bytes_read c ≡ c.most → IsCutOff c
       → IsAnswered (Says b.program (meaning_of b.program)) (script_of by_tree (meaning_of b.program)) (begun (opening_in b.program.shape b.image)) given out
       → k.leaves (meaning_of b.program) (state_after (script_of by_tree (meaning_of b.program)) (begun (opening_in b.program.shape b.image)) given)
@@ -96,10 +96,10 @@ module _ (k : Resumed) (input left bytes : List ℕ) (a c : InputState) (out : L
         subst (λ (n : ℕ). CutOffIn k (take n input) out) much (stops_reading (Err stop.TooLong) (Some after) rest b given g off answered left_so),
       )
 
-  pub serve_row : (r : Result (Unit {0}) Stop) (left' : Option (List ℕ)) → Behind (Lines_come k r a (Some left) c left' out) bytes → ServeRow (ended r) k input left' out
+  pub serve_row : (r : Result (Unit {0}) Stop) (left' : Option (List ℕ)) → Behind (LinesCome k r a (Some left) c left' out) bytes → ServeRow (status_at r) k input left' out
   serve_row (Ok done) None b = let (given, g, over, end, answered, left_so) = b.holds in absurd g.hands.consumed
   serve_row (Ok done) (Some rest) b =
-      let Holds = Lines_come k (Ok done) a (Some left) c (Some rest) out in
+      let Holds = LinesCome k (Ok done) a (Some left) c (Some rest) out in
       let (given, g, over, end, answered, left_so) = b.holds in
       let none : c.held ++ rest ≡ [] = ap (λ (l : List ℕ). l ++ rest) over.0 ∙ end in
       let joined = bytes ++ g.text in
@@ -116,7 +116,7 @@ module _ (k : Resumed) (input left bytes : List ℕ) (a c : InputState) (out : L
       )
   serve_row (Err stop.Write) None b = let (given, w) = b.holds in absurd w.0.hands.consumed
   serve_row (Err stop.Write) (Some rest) b =
-      let Holds = Lines_come k (Err stop.Write) a (Some left) c (Some rest) out in
+      let Holds = LinesCome k (Err stop.Write) a (Some left) c (Some rest) out in
       let (given, all_so) = b.holds in
       let (g, near, stops, left_so) = all_so in
       inr (grown Holds _ bytes (a.held ++ left) input b all (λ _. (given, reads_behind input left rest bytes a c h given g b.len (far Holds b) near most, (stops, left_so))))
@@ -130,7 +130,7 @@ module _ (k : Resumed) (input left bytes : List ℕ) (a c : InputState) (out : L
       )
   serve_row (Err stop.Memory) None b = let (given, w) = b.holds in absurd w.0.hands.consumed
   serve_row (Err stop.Memory) (Some rest) b =
-      let Holds = Lines_come k (Err stop.Memory) a (Some left) c (Some rest) out in
+      let Holds = LinesCome k (Err stop.Memory) a (Some left) c (Some rest) out in
       let (given, all_so) = b.holds in
       let (g, w) = all_so in
       inr (elim w [
@@ -171,7 +171,7 @@ module _ (k : Resumed) (input left bytes : List ℕ) (s : LinesState) (c : Input
   line_row TooLong rule f w same = absurd w
   line_row Usage rule f w same = absurd w
 
-  pub goes_row : (status : Status) (left' : Option (List ℕ)) → Goes status k bytes s.input (Some left) c left' out → ServeRow status k input left' out
+  pub goes_row : (status : Status) (left' : Option (List ℕ)) → ServesFrom status k bytes s.input (Some left) c left' out → ServeRow status k input left' out
   goes_row status left' goes =
       elim goes [
         | inl bad ↦
@@ -189,8 +189,8 @@ module _ (k : Resumed) (input left bytes : List ℕ) (s : LinesState) (c : Input
 
 -- ---- the two ways in which reading an image ends
 
-abbrev Row_so : Resumed → Status → (left left' sink sink' : Option (List ℕ)) → Type 0
-Row_so k status left left' sink sink' = IfSome left (λ input. (out : List ℕ) × Appends sink sink' out × ServeRow status k input left' out)
+abbrev RowIfTold : Resumed → Status → (left left' sink sink' : Option (List ℕ)) → Type 0
+RowIfTold k status left left' sink sink' = IfSome left (λ input. (out : List ℕ) × Appends sink sink' out × ServeRow status k input left' out)
 
 module _ (k : Resumed) (same : k.untouched) (input bytes : List ℕ) (b : InputState) (few : IsTooFew bytes) (most : bytes_read b ≤ MOST_SERVED) where
   -- all that was read was handed out, and is short
@@ -220,7 +220,7 @@ module _ (k : Resumed) (same : k.untouched) (input bytes : List ℕ) (b : InputS
 
 -- reading the image stopped
 pub fault_row : {T : Type 0} (f : LinesFault) (status : Status) (k : Resumed) (s t : LinesState) (left left' sink : Option (List ℕ)) (old bytes : List ℕ) (result : Result T LinesFault) → result ≡ Err f
-    → status ≡ status_of (stop_of f) → k.untouched → s.input ≡ unread → old ≡ [] → HandsOn result s left t left' old bytes → IsTooFew bytes → Row_so k status left left' sink sink
+    → status ≡ status_of (stop_of f) → k.untouched → s.input ≡ unread → old ≡ [] → HandsOn result s left t left' old bytes → IsTooFew bytes → RowIfTold k status left left' sink sink
 fault_row {T} f status k s t None left' sink old bytes result err is same new empty on few = tt
 fault_row {T} f status k s t (Some input) left' sink old bytes result err is same new empty on few =
     let here : HandsOn {T = T} (Err f) s (Some input) t left' old bytes = subst (λ r. HandsOn r s (Some input) t left' old bytes) err on in
@@ -239,7 +239,7 @@ fault_row {T} f status k s t (Some input) left' sink old bytes result err is sam
 -- the image was read
 pub answered_row : (status : Status) (k : Resumed) (s t : LinesState) (c : InputState) (left left' left'' sink sink' : Option (List ℕ)) (old bytes : List ℕ) → s.input ≡ unread → old ≡ []
     → HandsTo s.input left t.input left' old bytes → IsFront (IsOver t.input) bytes → IsOpen t left' → IsNear t.input → bytes_read t.input ≤ t.input.most → t.input.most ≡ s.input.most
-    → bytes_read c ≤ c.most → c.most ≡ t.input.most → (out : List ℕ) × Appends sink sink' out × Goes status k bytes t.input left' c left'' out → Row_so k status left left'' sink sink'
+    → bytes_read c ≤ c.most → c.most ≡ t.input.most → (out : List ℕ) × Appends sink sink' out × ServesFrom status k bytes t.input left' c left'' out → RowIfTold k status left left'' sink sink'
 answered_row status k s t c None left' left'' sink sink' old bytes new empty h front opened near within limit most last w = tt
 answered_row status k s t c (Some input) None left'' sink sink' old bytes new empty h front opened near within limit most last w = absurd h.hands.consumed
 answered_row status k s t c (Some input) (Some left) left'' sink sink' old bytes new empty h front opened near within limit most last (out, written, w) =
@@ -253,11 +253,11 @@ answered_row status k s t c (Some input) (Some left) left'' sink sink' old bytes
 -- ---- the lines behind the image that was taken
 
 pub lines_behind : (k : Resumed) (r : Result (Unit {0}) Stop) (status : Status) (bytes out : List ℕ) (a c : InputState) (left left' : Option (List ℕ)) (p : ImageParts) (program code : Program) (len : ℕ) (o : Opening)
-    → code ≡ program → status ≡ ended r → IsAccepted bytes p (program_of program) len → o ≡ opening_in program.shape p
-    → Serves (Says code (meaning_of program)) (script_of by_tree (meaning_of program)) (begun o) (k.leaves (meaning_of program)) (k.breaks (meaning_of program)) r a left c left' out
-    → Continues status k bytes a left c left' out
+    → code ≡ program → status ≡ status_at r → IsAccepted bytes p (program_of program) len → o ≡ opening_in program.shape p
+    → ServesLines (Says code (meaning_of program)) (script_of by_tree (meaning_of program)) (begun o) (k.leaves (meaning_of program)) (k.breaks (meaning_of program)) r a left c left' out
+    → ServesBehind status k bytes a left c left' out
 lines_behind k r status bytes out a c left left' p program code len o about is accepted same w =
     let m = meaning_of program in
-    let here = subst (λ (x : Program). Serves (Says x m) (script_of by_tree m) (begun o) (k.leaves m) (k.breaks m) r a left c left' out) about w in
-    let there = subst (λ (x : Opening). Serves (Says program m) (script_of by_tree m) (begun x) (k.leaves m) (k.breaks m) r a left c left' out) same here in
+    let here = subst (λ (x : Program). ServesLines (Says x m) (script_of by_tree m) (begun o) (k.leaves m) (k.breaks m) r a left c left' out) about w in
+    let there = subst (λ (x : Opening). ServesLines (Says program m) (script_of by_tree m) (begun x) (k.leaves m) (k.breaks m) r a left c left' out) same here in
     inr (r, is, record { image = p; program = program; len = len; accepted = accepted; holds = there })

@@ -28,14 +28,14 @@ abbrev pub IsEndedDump : Program → Meaning → History → VersionNo → List 
 IsEndedDump program m h version out = (dump : List ℕ) × IsDump program.names (heap_of m h version.0) dump × (out ≡ dump ++ codes "ok\n")
 
 -- the answer to a question: that of the word of its name; the dump of a version that is there is ended by the line `ok`
-abbrev pub IsAnswer : Program → Meaning → History → Question → (path : List ℕ) → List ℕ → Type 0
-IsAnswer program m h (Dump version) path out = TellsOf h version (IsEndedDump program m h version) out
-IsAnswer program m h (Changed version) path out = Tells program m h (Changed version) path out
+abbrev pub AnswersQuestion : Program → Meaning → History → Question → (path : List ℕ) → List ℕ → Type 0
+AnswersQuestion program m h (Dump version) path out = TellsOf h version (IsEndedDump program m h version) out
+AnswersQuestion program m h (Changed version) path out = Tells program m h (Changed version) path out
 
 -- the reply to a line that asks this, or else to a command
 abbrev pub SaysTo : Program → Meaning → History → (line : List ℕ) → Option Asked → Option (List ℕ) → Type 0
 SaysTo program m h line None reply = reply ≡ line_reply by_tree line m h
-SaysTo program m h line (Some asked) reply = (text : List ℕ) × (reply ≡ Some text) × IsAnswer program m h asked.question asked.path text
+SaysTo program m h line (Some asked) reply = (text : List ℕ) × (reply ≡ Some text) × AnswersQuestion program m h asked.question asked.path text
 
 -- The reply to a line, if it has one. A question is no command, so the history after the line is that of `run`, to which the line is none.
 abbrev pub Says : Program → Meaning → History → (line : List ℕ) → Option (List ℕ) → Type 0
@@ -59,7 +59,7 @@ abbrev pub IsAnswered : {A : Type 0} → (Says : A → List ℕ → Option (List
 IsAnswered Says m a lines out = (replies : List (Option (List ℕ))) × AreReplies Says m a lines replies × (out ≡ bytes_said replies)
 
 -- All lines but the last are answered, and a proper part of a reply to the last is written.
-pub record StopsInAnswer {A : Type 0} (Says : A → List ℕ → Option (List ℕ) → Type 0) (m : Answering A) (a : A) (lines : List (List ℕ)) (out : List ℕ) : Type 0 where
+pub record StopsInTold {A : Type 0} (Says : A → List ℕ → Option (List ℕ) → Type 0) (m : Answering A) (a : A) (lines : List (List ℕ)) (out : List ℕ) : Type 0 where
   pub before : List (List ℕ)
   pub last : List ℕ
   pub done : List ℕ
@@ -72,7 +72,7 @@ pub record StopsInAnswer {A : Type 0} (Says : A → List ℕ → Option (List �
   pub bytes : out ≡ done ++ part
 
 -- All lines but the last are answered, and nothing of the reply to the last is written.
-pub record StopsBeforeAnswer {A : Type 0} (Says : A → List ℕ → Option (List ℕ) → Type 0) (m : Answering A) (a : A) (lines : List (List ℕ)) (out : List ℕ) : Type 0 where
+pub record StopsBeforeTold {A : Type 0} (Says : A → List ℕ → Option (List ℕ) → Type 0) (m : Answering A) (a : A) (lines : List (List ℕ)) (out : List ℕ) : Type 0 where
   pub before : List (List ℕ)
   pub last : List ℕ
   pub split : lines ≡ before ++ last ∷ []
@@ -81,16 +81,16 @@ pub record StopsBeforeAnswer {A : Type 0} (Says : A → List ℕ → Option (Lis
 -- ---- what the functions come to
 
 -- what was written of the reply to a line where it stopped
-abbrev pub StopsAtAnswer : Stop → (Option (List ℕ) → Type 0) → List ℕ → Type 0
-StopsAtAnswer stop.Write Reply out = (piece : List ℕ) × Reply (Some piece) × IsPartOf piece out
-StopsAtAnswer stop.Memory Reply out = out ≡ []
-StopsAtAnswer stop.Read Reply out = ⊥
-StopsAtAnswer stop.TooLong Reply out = ⊥
+abbrev pub StopsAtTold : Stop → (Option (List ℕ) → Type 0) → List ℕ → Type 0
+StopsAtTold stop.Write Reply out = (piece : List ℕ) × Reply (Some piece) × IsPartOf piece out
+StopsAtTold stop.Memory Reply out = out ≡ []
+StopsAtTold stop.Read Reply out = ⊥
+StopsAtTold stop.TooLong Reply out = ⊥
 
 -- what was written of a reply: all of it, if there is one, or so much where it stopped
-abbrev pub IsSaid : {T : Type 0} → Result T Stop → (Option (List ℕ) → Type 0) → (out : List ℕ) → Type 0
-IsSaid result Reply out =
-    MatchResult result (λ _. (reply : Option (List ℕ)) × Reply reply × (out ≡ concat (option_to_list reply))) (λ s. StopsAtAnswer s Reply out)
+abbrev pub IsWrittenOf : {T : Type 0} → Result T Stop → (Option (List ℕ) → Type 0) → (out : List ℕ) → Type 0
+IsWrittenOf result Reply out =
+    MatchResult result (λ _. (reply : Option (List ℕ)) × Reply reply × (out ≡ concat (option_to_list reply))) (λ s. StopsAtTold s Reply out)
 
 -- Where answering lines stopped, which were handed out, what was written, and what is held: as for `run`.
 abbrev pub StopsServing : {A : Type 0} → (Says : A → List ℕ → Option (List ℕ) → Type 0) → Answering A → A → (leaves breaks : A → Type 0) → Stop → InputState → Option (List ℕ) → InputState → Option (List ℕ)
@@ -100,17 +100,17 @@ StopsServing Says m h leaves breaks stop.Read a left b left' lines out =
 StopsServing Says m h leaves breaks stop.TooLong a left b left' lines out =
     GivesPast a left b left' lines × IsCutOff b × IsAnswered Says m h lines out × leaves (state_after m h lines)
 StopsServing Says m h leaves breaks stop.Write a left b left' lines out =
-    Gives a left b left' lines × IsNear b × StopsInAnswer Says m h lines out × leaves (state_after m h lines)
+    Gives a left b left' lines × IsNear b × StopsInTold Says m h lines out × leaves (state_after m h lines)
 StopsServing Says m h leaves breaks stop.Memory a left b left' lines out =
     Gives a left b left' lines
-    × ((IsCutOff b × IsAnswered Says m h lines out × leaves (state_after m h lines)) ⊎ (IsNear b × StopsBeforeAnswer Says m h lines out × BreaksIn m h breaks lines))
+    × ((IsCutOff b × IsAnswered Says m h lines out × leaves (state_after m h lines)) ⊎ (IsNear b × StopsBeforeTold Says m h lines out × BreaksIn m h breaks lines))
 
 -- what comes of answering the lines that are left
-abbrev pub Serves : {A T : Type 0} → (Says : A → List ℕ → Option (List ℕ) → Type 0) → Answering A → A → (leaves breaks : A → Type 0) → Result T Stop → InputState → Option (List ℕ) → InputState → Option (List ℕ)
+abbrev pub ServesLines : {A T : Type 0} → (Says : A → List ℕ → Option (List ℕ) → Type 0) → Answering A → A → (leaves breaks : A → Type 0) → Result T Stop → InputState → Option (List ℕ) → InputState → Option (List ℕ)
     → List ℕ → Type 0
-Serves Says m h leaves breaks (Ok done) a left b left' out =
+ServesLines Says m h leaves breaks (Ok done) a left b left' out =
     (lines : List (List ℕ)) × Gives a left b left' lines × IsOver b × IsAtEnd left' × IsAnswered Says m h lines out × leaves (state_after m h lines)
-Serves Says m h leaves breaks (Err s) a left b left' out = (lines : List (List ℕ)) × StopsServing Says m h leaves breaks s a left b left' lines out
+ServesLines Says m h leaves breaks (Err s) a left b left' out = (lines : List (List ℕ)) × StopsServing Says m h leaves breaks s a left b left' lines out
 
 -- so it is on each history that a session of this program stands for, as it was, and for what it holds then; for a reader of lines and
 -- its source, as they were and are; and for a sink, as it was and is
@@ -118,4 +118,4 @@ abbrev pub ServesRest : {A T U S K : Type 0} → Program → (stands : A → T �
     → Result U Stop → (left : S → Option (List ℕ)) → LinesState → S → LinesState → S → (taken : K → Option (List ℕ)) → (old new : K) → Type 0
 ServesRest program stands leaves breaks session held held' result left lines source lines' source' taken old new =
     OnEachHistory stands session held (λ m h.
-    HasTaken taken old new (Serves (Says program m) (script_of by_tree m) h (leaves m held') (breaks m held') result lines.input (left source) lines'.input (left source')))
+    HasTaken taken old new (ServesLines (Says program m) (script_of by_tree m) h (leaves m held') (breaks m held') result lines.input (left source) lines'.input (left source')))

@@ -22,7 +22,7 @@ use Rattle.pst_image_front.specs.Front.{promised, IsShort}
 use Rattle.pst_image_unpack.specs.Unpacked.{IsAccepted, FailsFirst}
 use Rattle.pst_cli_images.specs.Opening.{opening_in}
 use Rattle.pst_cli_images.specs.Resuming.{Resumed, IsUntouched, Refuses, RefusesImage}
-use Rattle.pst_cli_serve.specs.Served.{Says, Serves, IsAnswered, StopsInAnswer, StopsBeforeAnswer}
+use Rattle.pst_cli_serve.specs.Served.{Says, ServesLines, IsAnswered, StopsInTold, StopsBeforeTold}
 
 -- ---- what was read
 
@@ -59,12 +59,12 @@ AnswersAll k program m h lines out = IsAnswered (Says program m) (script_of by_t
 -- the last of these lines was carried out, and its reply is not written whole
 abbrev pub StopsInLine : Resumed → Program → Meaning → History → List (List ℕ) → List ℕ → Type 0
 StopsInLine k program m h given out =
-    StopsInAnswer (Says program m) (script_of by_tree m) h given out × k.leaves m (state_after (script_of by_tree m) h given)
+    StopsInTold (Says program m) (script_of by_tree m) h given out × k.leaves m (state_after (script_of by_tree m) h given)
 
 -- there was no room in the last of these lines
 abbrev pub LacksInLine : Resumed → Program → Meaning → History → List (List ℕ) → List ℕ → Type 0
 LacksInLine k program m h given out =
-    StopsBeforeAnswer (Says program m) (script_of by_tree m) h given out × BreaksIn (script_of by_tree m) h (k.breaks m) given
+    StopsBeforeTold (Says program m) (script_of by_tree m) h given out × BreaksIn (script_of by_tree m) h (k.breaks m) given
 
 -- Reading was cut off behind these bytes: the sizes at their front promise more than there is, and nothing was done; or behind an image, and
 -- all whole lines that were read are answered.
@@ -75,8 +75,8 @@ CutOffIn k seen out =
 -- ---- the table
 
 -- a read that was due did not come
-abbrev pub StopsReading : Resumed → List ℕ → Option (List ℕ) → List ℕ → Type 0
-StopsReading k input left out = (n : ℕ) × HasReadOf MOST_SERVED n input left × CutOffIn k (take n input) out
+abbrev pub CutsReading : Resumed → List ℕ → Option (List ℕ) → List ℕ → Type 0
+CutsReading k input left out = (n : ℕ) × HasReadOf MOST_SERVED n input left × CutOffIn k (take n input) out
 
 -- The row of a status, for what is held, an input, what the source has left of it, and what was written.
 abbrev pub ServeRow : Status → Resumed → List ℕ → Option (List ℕ) → List ℕ → Type 0
@@ -86,31 +86,31 @@ ServeRow Refused k input left out = ReadsFront input left × RefusesImage k (λ 
 ServeRow WriteFault k input left out =
     (ReadsFront input left × RefusesImage k IsPartOf input out)
     ⊎ Behind (λ program m h len. (given : List (List ℕ)) × ReadsBehind len given input left × StopsInLine k program m h given out) input
-ServeRow ReadFault k input left out = StopsReading k input left out
+ServeRow ReadFault k input left out = CutsReading k input left out
 ServeRow TooLong k input left out =
     (MOST_SERVED < length input) × (left ≡ Some (drop (MOST_SERVED + 1) input)) × CutOffIn k (take MOST_SERVED input) out
 ServeRow Memory k input left out =
     (IsUntouched k out × ReadsFront input left)
-    ⊎ (StopsReading k input left out
+    ⊎ (CutsReading k input left out
     ⊎ Behind (λ program m h len. (given : List (List ℕ)) × ReadsBehind len given input left × LacksInLine k program m h given out) input)
 ServeRow Usage k input left out = ⊥
 
 -- ---- what the functions below come to
 
 -- how answering ends, by what stopped it
-abbrev pub ended : {T : Type 0} → Result T Stop → Status
-ended (Ok done) = Done
-ended (Err s) = status_of s
+abbrev pub status_at : {T : Type 0} → Result T Stop → Status
+status_at (Ok done) = Done
+status_at (Err s) = status_of s
 
 -- what comes of a script behind the image of these bytes: there was no room for a session, and nothing was read; or its lines were answered
 -- so, in the history that begins with the image
-abbrev pub Continues : Status → Resumed → (bytes : List ℕ) → InputState → Option (List ℕ) → InputState → Option (List ℕ) → List ℕ → Type 0
-Continues status k bytes a left b left' out =
+abbrev pub ServesBehind : Status → Resumed → (bytes : List ℕ) → InputState → Option (List ℕ) → InputState → Option (List ℕ) → List ℕ → Type 0
+ServesBehind status k bytes a left b left' out =
     ((status ≡ Memory) × IsUntouched k out × ReadsNothing a left b left')
-    ⊎ ((result : Result (Unit {0}) Stop) × (status ≡ ended result)
-    × Behind (λ program m h len. Serves (Says program m) (script_of by_tree m) h (k.leaves m) (k.breaks m) result a left b left' out) bytes)
+    ⊎ ((result : Result (Unit {0}) Stop) × (status ≡ status_at result)
+    × Behind (λ program m h len. ServesLines (Says program m) (script_of by_tree m) h (k.leaves m) (k.breaks m) result a left b left' out) bytes)
 
 -- what comes of the bytes that were read: a rule fails, and nothing more was read; or as before
-abbrev pub Goes : Status → Resumed → (bytes : List ℕ) → InputState → Option (List ℕ) → InputState → Option (List ℕ) → List ℕ → Type 0
-Goes status k bytes a left b left' out =
-    ((rule : Rule) × FailsFirst bytes rule × Refuses status rule out × k.untouched × ReadsNothing a left b left') ⊎ Continues status k bytes a left b left' out
+abbrev pub ServesFrom : Status → Resumed → (bytes : List ℕ) → InputState → Option (List ℕ) → InputState → Option (List ℕ) → List ℕ → Type 0
+ServesFrom status k bytes a left b left' out =
+    ((rule : Rule) × FailsFirst bytes rule × Refuses status rule out × k.untouched × ReadsNothing a left b left') ⊎ ServesBehind status k bytes a left b left' out

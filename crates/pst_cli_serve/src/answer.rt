@@ -9,7 +9,7 @@ ghost use Rattle.pst_engine_runs.specs.Stands.{HoldsVersions};
 ghost use Rattle.pst_cli_scripts.specs.Script.{by_tree, after_line};
 ghost use Rattle.pst_cli_scripts.specs.Sessions.{HasTaken, HeldAtLine, OnEachHistory, StandForSome};
 ghost use Rattle.pst_cli_serving.specs.Storing.{IsBroken, IsLeft};
-ghost use Rattle.pst_cli_serve.specs.Served.{IsAnswer, IsSaid, Says};
+ghost use Rattle.pst_cli_serve.specs.Served.{AnswersQuestion, IsWrittenOf, Says};
 
 use pst_base::{NoMemory, Text};
 use pst_cli_questions::tell;
@@ -48,7 +48,7 @@ fn answer_of<H: VersionedHeap>(
     asked: Asked<'_>,
 ) -> Result<Text, NoMemory>
     requires shape { (H.state heap.now).shape ≡ program.now.shape }
-    ensures { IfOk result (λ text. (m : Meaning) (h : History) → IsSoundHistory m h → HoldsVersions m (H.state heap.now) h → IsAnswer program.now m h asked.entry.question asked.entry.path.now text) }
+    ensures { IfOk result (λ text. (m : Meaning) (h : History) → IsSoundHistory m h → HoldsVersions m (H.state heap.now) h → AnswersQuestion program.now m h asked.entry.question asked.entry.path.now text) }
 {
     let answer = tell(alloc, heap, program, asked.question, asked.path)?;
     match asked.question {
@@ -78,7 +78,7 @@ pub(crate) fn answer_served<K: Sink, O: Order + Drop, N: FatNodes>(
 ) -> Result<(), Stop>
     requires { StandForSome ⟦<Running<O, N> as Session>⟧.stands session.old store.old }
     ensures about { session.new.code ≡ session.old.code }
-    ensures answered { OnEachHistory ⟦<Running<O, N> as Session>⟧.stands session.old store.old (λ m h. HasTaken K.taken sink.old sink.new (IsSaid result (Says session.old.code m h line.now))) }
+    ensures answered { OnEachHistory ⟦<Running<O, N> as Session>⟧.stands session.old store.old (λ m h. HasTaken K.taken sink.old sink.new (IsWrittenOf result (Says session.old.code m h line.now))) }
     ensures stands { OnOk result (OnEachHistory ⟦<Running<O, N> as Session>⟧.stands session.old store.old (λ m h. ⟦<Running<O, N> as Session>⟧.stands session.new store.new m (after_line by_tree line.now m h))) }
     ensures held { IfErr result (λ stop. OnEachHistory ⟦<Running<O, N> as Session>⟧.stands session.old store.old (HeldAtLine by_tree IsLeft IsBroken store.new stop line.now)) }
     ensures later { K.faults sink.old ≤ K.faults sink.new }

@@ -12,7 +12,7 @@ ghost use Rattle.pst_cli_scripts.specs.Sessions.{HasTaken};
 ghost use Rattle.pst_cli_serving.specs.Rows.{HasRow};
 ghost use Rattle.pst_image_unpack.specs.Unpacked.{IsTaken};
 ghost use Rattle.pst_cli_images.specs.Resuming.{resumed_in};
-ghost use Rattle.pst_cli_serve.specs.Serving.{Continues, ServeRow, Goes};
+ghost use Rattle.pst_cli_serve.specs.Serving.{ServesBehind, ServeRow, ServesFrom};
 
 use crate::script::serve_script;
 use pst_cli_images::refuse_image;
@@ -44,7 +44,7 @@ fn go_on<S: Source, K: Sink, O: Walked + Drop, N: Listed>(
     requires open { IsOpen lines.old (S.left source.old) }
     requires near { IsNear lines.old.input }
     requires within_old { bytes_read lines.old.input ≤ lines.old.input.most }
-    ensures served { HasTaken K.taken sink.old sink.new (Continues result (resumed_in store.old store.new) bytes.items lines.old.input (S.left source.old) lines.new.input (S.left source.new)) }
+    ensures served { HasTaken K.taken sink.old sink.new (ServesBehind result (resumed_in store.old store.new) bytes.items lines.old.input (S.left source.old) lines.new.input (S.left source.new)) }
     ensures within { bytes_read lines.new.input ≤ lines.new.input.most }
     ensures limit { lines.new.input.most ≡ lines.old.input.most }
     ensures later { S.faults source.old ≤ S.faults source.new }
@@ -74,7 +74,7 @@ fn go_on<S: Source, K: Sink, O: Walked + Drop, N: Listed>(
 }
 
 /// Answers the script behind the image whose bytes were read, or writes the line of the first rule that fails.
-fn serve_behind<S: Source, K: Sink, O: Walked + Drop, N: Listed>(
+fn serve_from<S: Source, K: Sink, O: Walked + Drop, N: Listed>(
     alloc: Global,
     bytes: Vec<u8>,
     lines: &mut Lines,
@@ -85,7 +85,7 @@ fn serve_behind<S: Source, K: Sink, O: Walked + Drop, N: Listed>(
     requires open { IsOpen lines.old (S.left source.old) }
     requires near { IsNear lines.old.input }
     requires within_old { bytes_read lines.old.input ≤ lines.old.input.most }
-    ensures served { HasTaken K.taken sink.old sink.new (Goes result (resumed_in store.old store.new) bytes.items lines.old.input (S.left source.old) lines.new.input (S.left source.new)) }
+    ensures served { HasTaken K.taken sink.old sink.new (ServesFrom result (resumed_in store.old store.new) bytes.items lines.old.input (S.left source.old) lines.new.input (S.left source.new)) }
     ensures within { bytes_read lines.new.input ≤ lines.new.input.most }
     ensures limit { lines.new.input.most ≡ lines.old.input.most }
     ensures later { S.faults source.old ≤ S.faults source.new }
@@ -127,6 +127,6 @@ pub fn serve_input<S: Source, K: Sink, O: Walked + Drop, N: Listed>(
     let mut bytes = Vec::new(alloc);
     match read_front(&mut lines, source, &mut bytes) {
         Err(fault) => status_of(Stop::from(fault)),
-        Ok(()) => serve_behind(alloc, bytes, &mut lines, source, sink, store),
+        Ok(()) => serve_from(alloc, bytes, &mut lines, source, sink, store),
     }
 }

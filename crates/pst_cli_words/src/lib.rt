@@ -6,8 +6,8 @@
 //! A status is one of seven.
 //!
 //! Contract: [`task_of`] gives exactly what the words ask for, with numbers as a script writes them, and [`path_in`] the path of
-//! a question among them. [`question_in`] gives exactly the question that a line asks. [`number`] gives the number with which the program
-//! ends.
+//! a question among them. [`question_in`] gives exactly the question that a line asks, and [`questions_by_hand`] says what that is for short
+//! ones. [`number`] gives the number with which the program ends.
 //!
 //!     match task_of(words) {
 //!         None => Status::Usage,
@@ -24,7 +24,9 @@
 mod asked;
 mod job;
 mod status;
+mod worked;
 
 pub use asked::{Asked, question_in};
 pub use job::{Job, Question, Task, path_in, task_of};
 pub use status::{Status, number};
+pub use worked::questions_by_hand;

@@ -6,7 +6,7 @@ use Rattle.pst_history.specs.History.{History}
 use Rattle.pst_cli_words.specs.Asked.{Asked, is_asked, question_in}
 use Rattle.pst_cli_serving.specs.Storing.{IsLeft, IsBroken, IsRunning}
 use Rattle.pst_cli_serving.proofs.Keeping.{meaning_shape}
-use Rattle.pst_cli_serve.specs.Served.{IsAnswer, Says}
+use Rattle.pst_cli_serve.specs.Served.{AnswersQuestion, Says}
 use Rattle.pst_cli_serve.proofs.Commands.{after_question}
 use Rattle.pst_cli_serve.proofs.Replies.{said_command, said_answer, says_answer, held_answer, on_ok}
 use Rattle.pst_cli_serve.proofs.answer.answer_served.Goals as goal
@@ -31,7 +31,7 @@ returns-in-Ok-clause-answered g c = λ m h now.
     let asked : Asked = record { question = c.in-Some.asked.question; path = c.in-Some.asked.path.now } in
     let some : question_in line ≡ Some asked = sym c.question_in.ensures ∙ ap is_asked c.in-Some.is in
     let left = c.known.ensures.leaves m h now in
-    let answer = subst (λ (p : Program). IsAnswer p m h asked.question asked.path c.in-Ok.answer) c.program.ensures (c.in-Ok.ensures m h now.stands.sound left.versions) in
+    let answer = subst (λ (p : Program). AnswersQuestion p m h asked.question asked.path c.in-Ok.answer) c.program.ensures (c.in-Ok.ensures m h now.stands.sound left.versions) in
     (out, written, said_answer c.say.result (Says code m h line) c.in-Ok.answer c.as_slice.result.now out c.as_slice.ensures (says_answer code m h line asked c.in-Ok.answer some answer) said)
 
 pub returns-in-Ok-clause-stands : goal.returns-in-Ok-clause-stands

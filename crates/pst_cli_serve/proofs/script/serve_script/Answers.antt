@@ -13,7 +13,7 @@ use Rattle.pst_cli_scripts.specs.Script.{by_tree, script_of}
 use Rattle.pst_cli_scripts.proofs.Reading.{until_fault, then_reads, still_near}
 use Rattle.pst_cli_scripts.proofs.Writing.{state_more}
 use Rattle.pst_cli_serving.specs.Storing.{IsLeft, IsBroken, IsRunning}
-use Rattle.pst_cli_serve.specs.Served.{Says, StopsAtAnswer}
+use Rattle.pst_cli_serve.specs.Served.{Says, StopsAtTold}
 use Rattle.pst_cli_serve.proofs.Replies.{never_read, answered_none, answered_more, until_served, until_answer}
 use Rattle.pst_cli_serve.proofs.script.serve_script.Goals as goal
 
@@ -23,9 +23,9 @@ said_by : {p q : Program} {l line : List ℕ} (m : Meaning) (h : History) (out :
 said_by {p} {q} {l} {line} m h out about same (reply, says, is) =
     (reply, subst (λ (x : Program). Says x m h line reply) about (subst (λ (x : List ℕ). Says p m h x reply) same says), is)
 
-stops_by : (s : Stop) {p q : Program} {l line : List ℕ} (m : Meaning) (h : History) (out : List ℕ) → p ≡ q → l ≡ line → StopsAtAnswer s (Says p m h l) out → StopsAtAnswer s (Says q m h line) out
+stops_by : (s : Stop) {p q : Program} {l line : List ℕ} (m : Meaning) (h : History) (out : List ℕ) → p ≡ q → l ≡ line → StopsAtTold s (Says p m h l) out → StopsAtTold s (Says q m h line) out
 stops_by s {p} {q} {l} {line} m h out about same stops =
-    subst (λ (x : Program). StopsAtAnswer s (Says x m h line) out) about (subst (λ (x : List ℕ). StopsAtAnswer s (Says p m h x) out) same stops)
+    subst (λ (x : Program). StopsAtTold s (Says x m h line) out) about (subst (λ (x : List ℕ). StopsAtTold s (Says p m h x) out) same stops)
 
 pub answering-init : goal.answering-init
 answering-init g c = record {

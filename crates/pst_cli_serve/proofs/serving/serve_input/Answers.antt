@@ -13,7 +13,7 @@ returns-in-Err-clause-served g c =
 pub returns-clause-served : goal.returns-clause-served
 returns-clause-served g c =
     let e = c.in-Ok.ensures in
-    let b = c.serve_behind.ensures in
-    answered_row c.serve_behind.result (resumed_in c.args.store.now c.serve_behind.new.store) c.up_to-lines.result c.read_front.new.lines c.serve_behind.new.lines.input _ _ _ _ _
+    let b = c.serve_from.ensures in
+    answered_row c.serve_from.result (resumed_in c.args.store.now c.serve_from.new.store) c.up_to-lines.result c.read_front.new.lines c.serve_from.new.lines.input _ _ _ _ _
     c.new-bytes.result.items c.read_front.new.bytes.items (ap (λ s. s.input) c.up_to-lines.ensures) c.new-bytes.ensures.items (e.on.hands (λ is. cc)) e.front
     e.on.ready.opened e.on.ready.near e.on.within e.on.limit b.within b.limit b.served
