@@ -186,8 +186,8 @@ never_refused_again_law first named h behind out keeps (was, store, rest, (reads
 -- ---- a script behind an image that keeps a history
 
 -- the lines begin behind the image
-pub kept_rest : (first : List ℕ) (named : NamedProgram) (h : History) (behind : List ℕ) → KeepsHistory first named h → {g : NamedProgram} {q : ImageParts} {len : ℕ} → IsAccepted (first ++ behind) q g len
-    → drop len (first ++ behind) ≡ behind
+pub kept_rest : (first : List ℕ) (named : NamedProgram) (h : History) (behind : List ℕ) → KeepsHistory first named h
+    → {g : NamedProgram} {q : ImageParts} {len : ℕ} → IsAccepted (first ++ behind) q g len → drop len (first ++ behind) ≡ behind
 kept_rest first named h behind keeps {g} {q} {len} a =
     let far = (one_form (first ++ behind) keeps.parts q (length first) len (keeps.accepted behind).form a.form).1 in
     ap (λ (l : ℕ). drop l (first ++ behind)) (sym far) ∙ drop-append_seam first behind

@@ -2,7 +2,7 @@ pub mod Behind
 pub mod Counted
 pub mod Days
 pub mod Found
-pub mod Handed
+pub mod HandedRows
 pub mod InPart
 pub mod Leaving
 pub mod Openings

@@ -1,11 +1,11 @@
 -- Which row of the table holds.
-use Rattle.std.proofs.Common.{◌≡◌, ℕ, ◌≤◌, inl, inr, List, [], ◌++◌, length, drop, refl, sym, ap, ◌∙◌, subst, arith, Option, None, Some, Result, Err, append-nil}
+use Rattle.std.proofs.Common.{◌≡◌, ℕ, ◌≤◌, inl, inr, List, [], ◌∷◌, ◌++◌, length, drop, refl, sym, ap, ◌∙◌, subst, arith, Option, None, Some, Result, Err, append-nil}
 use Rattle.std.specs.Prelude.{IfSome}
-use Rattle.std.specs.Io.KnownBytes.{Appends}
+use Rattle.std.specs.Io.KnownBytes.{Appends, Consumes}
 use Rattle.std.proofs.KnownBytes.{Appends-nil}
 use Rattle.std.proofs.lemmas.List.{drop_all}
 use Rattle.pst_io.specs.declared.room.TheConstants.{MOST_INPUT}
-use Rattle.pst_io.specs.Input.{InputState, bytes_read}
+use Rattle.pst_io.specs.Input.{InputState, Hands, bytes_read}
 use Rattle.pst_io.specs.Text.{lines_of}
 use Rattle.pst_program.specs.declared.program.Program.{Program}
 use Rattle.pst_typing.specs.View.{program_of}
@@ -20,7 +20,7 @@ use Rattle.pst_cli_scripts.specs.Sessions.{StopsAtReply, AnswersText}
 use Rattle.pst_cli_words.specs.declared.status.Status.{Status}
 use Rattle.pst_cli_words.specs.declared.status.Status.TheVariants.{Done, ReadFault, WriteFault, Usage, Refused, TooLong, Memory}
 use Rattle.pst_cli_serving.specs.Serving.{status_of}
-use Rattle.pst_cli_serving.proofs.RowLemmas.{fresh, some_read, long_row}
+use Rattle.pst_cli_serving.proofs.Handed.{fresh, some_read, past_limit}
 use Rattle.pst_image_form.specs.declared.parts.ImageParts.{ImageParts}
 use Rattle.pst_image_rules.specs.declared.rule.Rule.{Rule}
 use Rattle.pst_image_unpack.specs.Unpacked.{IsAccepted, FailsFirst}
@@ -80,18 +80,31 @@ pub record IsOfWhole (Comes : Status → Resumed → (input out : List ℕ) → 
 pub resumes_whole : IsOfWhole Resumes
 resumes_whole = record { read = λ k input out w. w; long = λ k input out w. w; usage = λ k input out w. w }
 
+-- reading stopped, and nothing was done
+module _ (limit : ℕ) (Comes : Status → Resumed → (input out : List ℕ) → Type 0) (k : Resumed) (same : k.untouched) (input text : List ℕ) (c : InputState) where
+  pub failed_row : (left : Option (List ℕ)) → Hands (fresh limit) (Some input) c left text → bytes_read c ≤ limit → WholeRow limit Comes ReadFault k input left []
+  failed_row left h most = ((refl, same), some_read limit input text c left h most)
+
+  pub lacks_row : (left : Option (List ℕ)) → Hands (fresh limit) (Some input) c left text → bytes_read c ≤ limit → WholeRow limit Comes Memory k input left []
+  lacks_row left h most = inl ((refl, same), some_read limit input text c left h most)
+
+  pub long_row : (before left : Option (List ℕ)) (more : ℕ) → Hands (fresh limit) (Some input) c before text → Consumes before left (more ∷ []) → bytes_read c ≡ c.most
+      → WholeRow limit Comes TooLong k input left []
+  long_row before left more h past full = ((refl, same), past_limit limit input text c before left more h past full)
+
 module _ (Comes : Status → Resumed → (input out : List ℕ) → Type 0) where
-  -- reading stopped
   stopped : (k : Resumed) (s : Stop) (c : InputState) (input : List ℕ) (left : Option (List ℕ)) (lines : List (List ℕ)) → k.untouched
-      → (s ≡ stop.Write → ⊥) → GivesUntil s fresh (Some input) c left lines → bytes_read c ≤ MOST_INPUT
+      → (s ≡ stop.Write → ⊥) → GivesUntil s (fresh MOST_INPUT) (Some input) c left lines → bytes_read c ≤ MOST_INPUT
       → WholeRow MOST_INPUT Comes (status_of s) k input left []
-  stopped k stop.Read c input left lines same unwritten g most = ((refl, same), some_read c input left lines g.0 most)
-  stopped k stop.TooLong c input left lines same unwritten g most = let long = long_row (λ o. Unit {0}) c input left lines g.0 g.1 tt in ((refl, same), long.0, long.1)
+  stopped k stop.Read c input left lines same unwritten g most = failed_row MOST_INPUT Comes k same input g.0.text c left g.0.hands most
+  stopped k stop.TooLong c input left lines same unwritten g most =
+      let p = g.0 in
+      long_row MOST_INPUT Comes k same input p.gives.text c p.before left p.more p.gives.hands p.past p.full
   stopped k stop.Write c input left lines same unwritten g most = absurd (unwritten refl)
-  stopped k stop.Memory c input left lines same unwritten g most = inl ((refl, same), some_read c input left lines g.0 most)
+  stopped k stop.Memory c input left lines same unwritten g most = lacks_row MOST_INPUT Comes k same input g.0.text c left g.0.hands most
 
   pub unread : (k : Resumed) (s : Stop) (status : Status) (a c : InputState) (left left' sink : Option (List ℕ)) (lines : List (List ℕ)) → k.untouched
-      → status ≡ status_of s → a ≡ fresh → (s ≡ stop.Write → ⊥) → GivesUntil s a left c left' lines
+      → status ≡ status_of s → a ≡ fresh MOST_INPUT → (s ≡ stop.Write → ⊥) → GivesUntil s a left c left' lines
       → bytes_read c ≤ MOST_INPUT → IfSome left (λ input. (out : List ℕ) × Appends sink sink out × WholeRow MOST_INPUT Comes status k input left' out)
   unread k s status a c None left' sink lines same is new unwritten g most = tt
   unread k s status a c (Some input) left' sink lines same is new unwritten g most = (
@@ -101,13 +114,14 @@ module _ (Comes : Status → Resumed → (input out : List ℕ) → Type 0) wher
   )
 
 -- all of the input was read, and these are its bytes
-record IsWhole (input : List ℕ) (left : Option (List ℕ)) (bytes : List ℕ) : Type 0 where
+record IsReadToEnd (limit : ℕ) (input : List ℕ) (left : Option (List ℕ)) (bytes : List ℕ) : Type 0 where
   same : bytes ≡ input
-  read : ReadsWhole MOST_INPUT input left
+  read : ReadsWhole limit input left
 
-whole : (b : InputState) (input : List ℕ) (left : Option (List ℕ)) (bytes : List ℕ) → HandsAll fresh (Some input) b left bytes → length bytes ≤ MOST_INPUT → IsWhole input left bytes
-whole b input None bytes (hands, over, end) few = absurd hands.consumed
-whole b input (Some rest) bytes (hands, over, end) few =
+read_to_end : (limit : ℕ) (b : InputState) (input : List ℕ) (left : Option (List ℕ)) (bytes : List ℕ) → HandsAll (fresh limit) (Some input) b left bytes → length bytes ≤ limit
+    → IsReadToEnd limit input left bytes
+read_to_end limit b input None bytes (hands, over, end) few = absurd hands.consumed
+read_to_end limit b input (Some rest) bytes (hands, over, end) few =
     let all : input ≡ bytes = hands.consumed ∙ ap (λ l. hands.bytes ++ l) end ∙ append-nil hands.bytes ∙ hands.kept ∙ ap (λ l. bytes ++ l) over.0 ∙ append-nil bytes in
     record {
       same = sym all;
@@ -118,19 +132,21 @@ whole b input (Some rest) bytes (hands, over, end) few =
       };
     }
 
-module _ (Comes : Status → Resumed → (input out : List ℕ) → Type 0) (o : IsOfWhole Comes) where
-  pub row : (limit : ℕ) (status : Status) (k : Resumed) (input : List ℕ) (left : Option (List ℕ)) (out : List ℕ) → ReadsWhole limit input left → Comes status k input out → WholeRow limit Comes status k input left out
-  row limit Done k input left out read w = (read, w)
-  row limit Refused k input left out read w = (read, w)
-  row limit WriteFault k input left out read w = (read, w)
-  row limit Memory k input left out read w = inr (read, w)
-  row limit ReadFault k input left out read w = absurd (o.read k input out w)
-  row limit TooLong k input left out read w = absurd (o.long k input out w)
-  row limit Usage k input left out read w = absurd (o.usage k input out w)
+module _ (Comes : Status → Resumed → (input out : List ℕ) → Type 0) (o : IsOfWhole Comes) (limit : ℕ) where
+  row : (status : Status) (k : Resumed) (input : List ℕ) (left : Option (List ℕ)) (out : List ℕ) → ReadsWhole limit input left → Comes status k input out
+      → WholeRow limit Comes status k input left out
+  row Done k input left out read w = (read, w)
+  row Refused k input left out read w = (read, w)
+  row WriteFault k input left out read w = (read, w)
+  row Memory k input left out read w = inr (read, w)
+  row ReadFault k input left out read w = absurd (o.read k input out w)
+  row TooLong k input left out read w = absurd (o.long k input out w)
+  row Usage k input left out read w = absurd (o.usage k input out w)
 
-  pub read_whole : (k : Resumed) (status : Status) (a b : InputState) (left left' sink sink' : Option (List ℕ)) (bytes : List ℕ) → a ≡ fresh → HandsAll a left b left' bytes → length bytes ≤ MOST_INPUT
-      → (out : List ℕ) × Appends sink sink' out × Comes status k bytes out → IfSome left (λ input. (out : List ℕ) × Appends sink sink' out × WholeRow MOST_INPUT Comes status k input left' out)
+  pub read_whole : (k : Resumed) (status : Status) (a b : InputState) (left left' sink sink' : Option (List ℕ)) (bytes : List ℕ) → a ≡ fresh limit
+      → HandsAll a left b left' bytes → length bytes ≤ limit → (out : List ℕ) × Appends sink sink' out × Comes status k bytes out
+      → IfSome left (λ input. (out : List ℕ) × Appends sink sink' out × WholeRow limit Comes status k input left' out)
   read_whole k status a b None left' sink sink' bytes new h few w = tt
   read_whole k status a b (Some input) left' sink sink' bytes new h few (out, written, w) =
-      let all = whole b input left' bytes (subst (λ v. HandsAll v (Some input) b left' bytes) new h) few in
-      (out, written, row MOST_INPUT status k input left' out all.read (subst (λ l. Comes status k l out) all.same w))
+      let all = read_to_end limit b input left' bytes (subst (λ v. HandsAll v (Some input) b left' bytes) new h) few in
+      (out, written, row status k input left' out all.read (subst (λ l. Comes status k l out) all.same w))

@@ -57,7 +57,8 @@ PackedKeepsLaw = (input image : List ℕ) → IsPacked input image → HasShortT
 
 -- an image that is packed again behind a script keeps the history that the script makes of the one before, its open runs dropped
 abbrev pub RepackedKeepsLaw : Type 0
-RepackedKeepsLaw = (first : List ℕ) (named : NamedProgram) (h : History) (behind image : List ℕ) → KeepsHistory first named h → IsRepacked (first ++ behind) image → KeepsHistory image named (left_after named h (lines_of behind))
+RepackedKeepsLaw = (first : List ℕ) (named : NamedProgram) (h : History) (behind image : List ℕ) → KeepsHistory first named h → IsRepacked (first ++ behind) image
+    → KeepsHistory image named (left_after named h (lines_of behind))
 
 -- an image that keeps a history is never refused where it is to be packed again: what it keeps has counted few enough
 abbrev pub NeverRefusedAgainLaw : Type 0

@@ -86,6 +86,6 @@ CarriesText m h stands breaks (Ok done) lines = stands (state_after m h lines)
 CarriesText m h stands breaks (Err s) lines = (given : List (List ℕ)) × (behind : List (List ℕ)) × (lines ≡ given ++ behind) × BreaksIn m h breaks given
 
 -- so it is on a history of a program for a session with these rules and for what it holds then
-abbrev pub CarriesLines : {A T U E : Type 0} → Rules → (stands : A → T → Meaning → History → Type 0) → (breaks : Meaning → T → History → Type 0) → (session : A) → (held : T) → Result U E → List (List ℕ)
-    → Meaning → History → Type 0
+abbrev pub CarriesLines : {A T U E : Type 0} → Rules → (stands : A → T → Meaning → History → Type 0) → (breaks : Meaning → T → History → Type 0) → (session : A) → (held : T)
+    → Result U E → List (List ℕ) → Meaning → History → Type 0
 CarriesLines rules stands breaks session held result lines m h = CarriesText (script_of rules m) h (stands session held m) (breaks m held) result lines

@@ -26,7 +26,8 @@ use Rattle.pst_cli_serving.specs.Rows.{IsWithin, ReadsAll}
 use Rattle.pst_cli_serving.specs.Serving.{Refuses, status_of}
 use Rattle.pst_cli_scripts.specs.Sessions.{StopsAtReply}
 use Rattle.pst_cli_questions.specs.Asking.{StopsInFault, BreaksAt, CarriedTo, StopsInScript, LacksAnswer, OverRow, GivesAll, StopsAsking, StopsText, Over}
-use Rattle.pst_cli_serving.proofs.RowLemmas.{fresh, stops_front, LongFront, long_by, long_row, lacks_text, lacks_program, cuts, readable, reads_up_to}
+use Rattle.pst_cli_serving.proofs.Handed.{fresh}
+use Rattle.pst_cli_serving.proofs.RowLemmas.{stops_front, LongFront, long_by, long_row, lacks_text, lacks_program, cuts, readable, reads_up_to}
 use Rattle.pst_cli_serving.proofs.RowLemmas.{told_text, refused_alike, of_text, whole_input, was_going, after_program}
 use Rattle.pst_cli_serving.proofs.Serving.{one_whole}
 
@@ -73,7 +74,7 @@ module _ (k : Kept) (whole part : List (List ℕ) → Verdict → List ℕ → T
 -- reading the text of the program stopped
 stopped : (k : Kept) (whole part : List (List ℕ) → Verdict → List ℕ → Type 0) (s : Stop) (c : InputState) (input : List ℕ) (left : Option (List ℕ))
     (lines : List (List ℕ)) → k.untouched → (s ≡ stop.Write → ⊥)
-    → GivesUntil s fresh (Some input) c left lines → cut lines ≡ None → bytes_read c ≤ MOST_INPUT → OverRow (status_of s) k whole part input left []
+    → GivesUntil s (fresh MOST_INPUT) (Some input) c left lines → cut lines ≡ None → bytes_read c ≤ MOST_INPUT → OverRow (status_of s) k whole part input left []
 stopped k whole part stop.Read c input left lines same unwritten g none most = (refl, stops_front (CarriedTo k) c input left lines g.0 g.1 most (subst (CarriedTo k) (sym none) same))
 stopped k whole part stop.TooLong c input left lines same unwritten g none most =
     let long = long_row (CarriedTo k) c input left lines g.0 g.1 (subst (CarriedTo k) (sym none) same) in
@@ -84,7 +85,7 @@ stopped k whole part stop.Memory c input left lines same unwritten (g, inr near)
 
 -- nothing was written
 pub text_unread : (k : Kept) (whole part : List (List ℕ) → Verdict → List ℕ → Type 0) (s : Stop) (status : Status) (a c : InputState)
-    (left left' sink sink' : Option (List ℕ)) (lines : List (List ℕ)) → k.untouched → status ≡ status_of s → a ≡ fresh
+    (left left' sink sink' : Option (List ℕ)) (lines : List (List ℕ)) → k.untouched → status ≡ status_of s → a ≡ fresh MOST_INPUT
     → sink' ≡ sink → (s ≡ stop.Write → ⊥) → GivesUntil s a left c left' lines → cut lines ≡ None → bytes_read c ≤ MOST_INPUT
     → IfSome left (λ input. (out : List ℕ) × Appends sink sink' out × OverRow status k whole part input left' out)
 text_unread k whole part s status a c None left' sink sink' lines same is new still unwritten g none most = tt
@@ -96,7 +97,7 @@ text_unread k whole part s status a c (Some input) left' sink sink' lines same i
 )
 
 module _ (k : Kept) (whole part : List (List ℕ) → Verdict → List ℕ → Type 0) (t u : InputState) (input rest text : List ℕ) (left : Option (List ℕ))
-    (r : ReadsText fresh (Some input) t (Some rest) text)
+    (r : ReadsText (fresh MOST_INPUT) (Some input) t (Some rest) text)
     (seen : EndsWhereSeen t (Some rest)) (most : bytes_read t ≤ MOST_INPUT) (most' : bytes_read u ≤ MOST_INPUT) where
   same_text : (P : Verdict → Type 0) → OfVerdict text P → OfVerdict (cut_of input).text P
   same_text P w = of_text text (cut_of input).text P (told_text input text r.separator (pending t (Some rest)) r.told) w
@@ -111,12 +112,12 @@ module _ (k : Kept) (whole part : List (List ℕ) → Verdict → List ℕ → T
   -- reading was cut off in the script
   cut_short : (given : List (List ℕ)) → Gives t (Some rest) u left given → IsCutOff u → OfVerdict text (Accepting k given) → StopsInScript k input left
   cut_short given g off w =
-      let all = gives_then fresh (Some input) t (Some rest) u left r.lines given r.gives g in
+      let all = gives_then (fresh MOST_INPUT) (Some input) t (Some rest) u left r.lines given r.gives g in
       stops_front (CarriedTo k) u input left (r.lines ++ given) all off most' (subst (CarriedTo k) (sym (cuts t input rest text r (was_going t.ended u.ended g.still off.1) given)) w)
 
   too_long : (given : List (List ℕ)) → GivesPast t (Some rest) u left given → IsCutOff u → OfVerdict text (Accepting k given) → LongFront (CarriedTo k) input left
   too_long given g off w =
-      let all = gives_then fresh (Some input) t (Some rest) u g.before r.lines given r.gives g.gives in
+      let all = gives_then (fresh MOST_INPUT) (Some input) t (Some rest) u g.before r.lines given r.gives g.gives in
       long_by (CarriedTo k) u input g.before g.more left (r.lines ++ given) all off g.past g.full
       (subst (CarriedTo k) (sym (cuts t input rest text r (was_going t.ended u.ended g.gives.still off.1) given)) w)
 
@@ -146,7 +147,7 @@ module _ (k : Kept) (whole part : List (List ℕ) → Verdict → List ℕ → T
   asked_row Usage out never = absurd never
 
 asked : (k : Kept) (whole part : List (List ℕ) → Verdict → List ℕ → Type 0) (status : Status) (t u : InputState) (input text : List ℕ)
-    (mid left sink sink' : Option (List ℕ)) → ReadsText fresh (Some input) t mid text → EndsWhereSeen t mid
+    (mid left sink sink' : Option (List ℕ)) → ReadsText (fresh MOST_INPUT) (Some input) t mid text → EndsWhereSeen t mid
     → bytes_read t ≤ MOST_INPUT → bytes_read u ≤ MOST_INPUT → (out : List ℕ) × Appends sink sink' out × Over status k whole part t mid u left text out
     → (out : List ℕ) × Appends sink sink' out × OverRow status k whole part input left out
 asked k whole part status t u input text None left sink sink' r seen most most' s = absurd r.told
@@ -155,7 +156,7 @@ asked k whole part status t u input text (Some rest) left sink sink' r seen most
 
 -- the script was carried out and the question answered
 pub text_asked : (k : Kept) (whole part : List (List ℕ) → Verdict → List ℕ → Type 0) (status : Status) (a t u : InputState)
-    (left mid left' sink sink' : Option (List ℕ)) (text : List ℕ) → a ≡ fresh → ReadsText a left t mid text
+    (left mid left' sink sink' : Option (List ℕ)) (text : List ℕ) → a ≡ fresh MOST_INPUT → ReadsText a left t mid text
     → EndsWhereSeen t mid → bytes_read t ≤ MOST_INPUT → bytes_read u ≤ MOST_INPUT → (out : List ℕ) × Appends sink sink' out × Over status k whole part t mid u left' text out
     → IfSome left (λ input. (out : List ℕ) × Appends sink sink' out × OverRow status k whole part input left' out)
 text_asked k whole part status a t u None mid left' sink sink' text new r seen most most' s = tt

@@ -23,7 +23,8 @@ use Rattle.pst_cli_serve.specs.Laws.{AsksNothing, AsksNothingBehind, SameAsResum
 use Rattle.pst_cli_serve.proofs.Replies.{all_commands}
 
 -- where no line asks a question, the lines were answered as by `resume`
-served_so : (k : Resumed) (input out : List ℕ) (b : Behind (λ program m h len. AnswersAll k program m h (lines_of (drop len input)) out) input) → AsksNothing (drop b.len input) → AnswersBehind k (Ok tt) input out
+served_so : (k : Resumed) (input out : List ℕ) (b : Behind (λ program m h len. AnswersAll k program m h (lines_of (drop len input)) out) input)
+    → AsksNothing (drop b.len input) → AnswersBehind k (Ok tt) input out
 served_so k input out b none =
     let m = meaning_of b.program in
     record {

@@ -13,6 +13,7 @@ use Rattle.pst_typing.specs.Declarations.{NamedProgram}
 use Rattle.pst_cli_scripts.specs.Input.{bytes_of}
 use Rattle.pst_cli_scripts.specs.Reading.{IsNear}
 use Rattle.pst_cli_serving.specs.Rows.{HasReadOf}
+use Rattle.pst_cli_serving.proofs.Handed.{fresh, size, behind_text, taken, has_read}
 use Rattle.pst_cli_serving.proofs.Counting.{bytes_of-append, lines_least, lines_front}
 use Rattle.pst_image_form.specs.declared.parts.ImageParts.{ImageParts}
 use Rattle.pst_image_form.specs.Bytes.{HasForm, image_bytes}
@@ -20,12 +21,7 @@ use Rattle.pst_image_rules.specs.declared.rule.Rule.{Rule}
 use Rattle.pst_image_unpack.specs.Unpacked.{IsAccepted, FailsFirst, HasNoForm}
 use Rattle.pst_image_front.specs.Front.{promised, IsShort, IsFront}
 use Rattle.pst_image_front.proofs.Sizes.{image_front}
-use Rattle.pst_cli_images.proofs.Handed.{unread, whole, size, taken, has_read}
 use Rattle.pst_cli_serve.specs.Serving.{ReadsBehind, ReadsFront}
-
--- what is held and what is left stand behind the text
-pub behind_text : (input rest text : List ℕ) (c : InputState) → Hands unread (Some input) c (Some rest) text → input ≡ text ++ (c.held ++ rest)
-behind_text input rest text c h = whole input rest text c h ∙ append_assoc text c.held rest
 
 -- ---- an image at the front
 
@@ -79,15 +75,15 @@ fails_grown Over bytes more rule front end fails =
 
 -- ---- how far reading came
 
-module _ (input rest bytes : List ℕ) (a : InputState) (h : Hands unread (Some input) a (Some rest) bytes) (most : bytes_read a ≤ MOST_SERVED) where
+module _ (input rest bytes : List ℕ) (a : InputState) (h : Hands (fresh MOST_SERVED) (Some input) a (Some rest) bytes) (most : bytes_read a ≤ MOST_SERVED) where
   pub reads_front : IsFront (IsOver a) bytes → (IsOver a → rest ≡ []) → IsNear a → ReadsFront input (Some rest)
   reads_front front end near =
-      let all : input ≡ bytes ++ (a.held ++ rest) = behind_text input rest bytes a h in
-      let here = size input rest bytes a h in
+      let all : input ≡ bytes ++ (a.held ++ rest) = behind_text MOST_SERVED input rest bytes a h in
+      let here = size MOST_SERVED input rest bytes a h in
       let joined = length-append bytes a.held in
       record {
         count = bytes_read a;
-        read = has_read input rest bytes a h most;
+        read = has_read MOST_SERVED input rest bytes a h most;
         near = elim front [
           | inl f ↦ (let is : promised input ≡ length bytes = ap promised all ∙ f (a.held ++ rest) in omega (arith, is, here, joined, near))
           | inr s ↦
@@ -100,18 +96,19 @@ module _ (input rest bytes : List ℕ) (a : InputState) (h : Hands unread (Some 
   -- where reading stopped for want of memory
   pub reads_some : ((more : List ℕ) → length bytes < promised (bytes ++ more)) → length a.held ≤ MOST_READ → ReadsFront input (Some rest)
   reads_some few piece =
-      let all : input ≡ bytes ++ (a.held ++ rest) = behind_text input rest bytes a h in
+      let all : input ≡ bytes ++ (a.held ++ rest) = behind_text MOST_SERVED input rest bytes a h in
       let is : promised input ≡ promised (bytes ++ (a.held ++ rest)) = ap promised all in
       record {
         count = bytes_read a;
-        read = has_read input rest bytes a h most;
-        near = omega (arith, is, few (a.held ++ rest), size input rest bytes a h, length-append bytes a.held, piece);
+        read = has_read MOST_SERVED input rest bytes a h most;
+        near = omega (arith, is, few (a.held ++ rest), size MOST_SERVED input rest bytes a h, length-append bytes a.held, piece);
       }
 
 -- lines behind the image were handed out
-module _ (input left rest bytes : List ℕ) (a c : InputState) (h : Hands unread (Some input) a (Some left) bytes) (given : List (List ℕ)) (g : Gives a (Some left) c (Some rest) given) where
-  pub hands_both : Hands unread (Some input) c (Some rest) (bytes ++ g.text)
-  hands_both = hands_then unread (Some input) a (Some left) c (Some rest) bytes g.text h g.hands
+module _ (input left rest bytes : List ℕ) (a c : InputState) (h : Hands (fresh MOST_SERVED) (Some input) a (Some left) bytes)
+    (given : List (List ℕ)) (g : Gives a (Some left) c (Some rest) given) where
+  pub hands_both : Hands (fresh MOST_SERVED) (Some input) c (Some rest) (bytes ++ g.text)
+  hands_both = hands_then (fresh MOST_SERVED) (Some input) a (Some left) c (Some rest) bytes g.text h g.hands
 
   pub pending_was : a.held ++ left ≡ g.text ++ (c.held ++ rest)
   pending_was =
@@ -125,13 +122,13 @@ module _ (input left rest bytes : List ℕ) (a c : InputState) (h : Hands unread
 
     first : lines_of (drop len input) ≡ given ++ rest_lines
     first =
-        ap (λ (l : List ℕ). lines_of (drop len l)) (behind_text input left bytes a h) ∙ ap lines_of (rest_behind bytes (a.held ++ left) len is) ∙ g.told
+        ap (λ (l : List ℕ). lines_of (drop len l)) (behind_text MOST_SERVED input left bytes a h) ∙ ap lines_of (rest_behind bytes (a.held ++ left) len is) ∙ g.told
 
     read : bytes_read c ≡ length bytes + (length g.text + length c.held)
-    read = let s = size input rest (bytes ++ g.text) c hands_both in omega (arith, s, length-append (bytes ++ g.text) c.held, length-append bytes g.text)
+    read = let s = size MOST_SERVED input rest (bytes ++ g.text) c hands_both in omega (arith, s, length-append (bytes ++ g.text) c.held, length-append bytes g.text)
 
     total : length input ≡ length bytes + length (a.held ++ left)
-    total = ap length (behind_text input left bytes a h) ∙ length-append bytes (a.held ++ left)
+    total = ap length (behind_text MOST_SERVED input left bytes a h) ∙ length-append bytes (a.held ++ left)
 
     split : length (a.held ++ left) ≡ length g.text + length (c.held ++ rest)
     split = ap length pending_was ∙ length-append g.text (c.held ++ rest)
@@ -145,7 +142,7 @@ module _ (input left rest bytes : List ℕ) (a c : InputState) (h : Hands unread
           behind = rest_lines;
           first = first;
           count = bytes_read c;
-          read = has_read input rest (bytes ++ g.text) c hands_both most;
+          read = has_read MOST_SERVED input rest (bytes ++ g.text) c hands_both most;
           reached = omega (arith, is, read, total, split, held, all, least, ap length none);
           near = omega (arith, is, read, total, split, held, all, least, ap length none);
         }
@@ -157,7 +154,7 @@ module _ (input left rest bytes : List ℕ) (a c : InputState) (h : Hands unread
           behind = rest_lines;
           first = first;
           count = bytes_read c;
-          read = has_read input rest (bytes ++ g.text) c hands_both most;
+          read = has_read MOST_SERVED input rest (bytes ++ g.text) c hands_both most;
           reached = omega (arith, is, read, all, front);
           near = omega (arith, is, read, all, front, near);
         }
@@ -168,9 +165,9 @@ module _ (input left rest bytes : List ℕ) (a c : InputState) (h : Hands unread
   -- where reading was cut off, these are all whole lines behind the image of what was read
   pub whole_behind : (len : ℕ) → len ≡ length bytes → IsCutOff c → whole_lines (drop len (take (bytes_read c) input)) ≡ given
   whole_behind len is off =
-      let seen : take (bytes_read c) input ≡ bytes ++ (g.text ++ c.held) = taken input rest (bytes ++ g.text) c hands_both ∙ append_assoc bytes g.text c.held in
+      let seen : take (bytes_read c) input ≡ bytes ++ (g.text ++ c.held) = taken MOST_SERVED input rest (bytes ++ g.text) c hands_both ∙ append_assoc bytes g.text c.held in
       ap (λ (l : List ℕ). whole_lines (drop len l)) seen ∙ ap whole_lines (rest_behind bytes (g.text ++ c.held) len is ∙ sym g.hands.kept ∙ sym (append-nil (a.held ++ g.hands.bytes)))
       ∙ g.whole off.1 [] ∙ ap (λ (l : List (List ℕ)). given ++ l) (ap whole_lines (append-nil c.held) ∙ off.0) ∙ append-nil given
 
   pub seen_behind : take (bytes_read c) input ≡ bytes ++ (g.text ++ c.held)
-  seen_behind = taken input rest (bytes ++ g.text) c hands_both ∙ append_assoc bytes g.text c.held
+  seen_behind = taken MOST_SERVED input rest (bytes ++ g.text) c hands_both ∙ append_assoc bytes g.text c.held

@@ -23,7 +23,7 @@ use Rattle.pst_cli_words.specs.declared.job.Question.TheVariants.{Dump}
 use Rattle.pst_cli_words.specs.Asked.{Asked, question_in}
 use Rattle.pst_cli_questions.specs.Telling.{Tells}
 use Rattle.pst_cli_serve.proofs.Commands.{after_question}
-use Rattle.pst_cli_serve.specs.Served.{SaysTo, Says, AnswersQuestion, IsEndedDump, AreReplies, bytes_said, IsAnswered, StopsInTold, StopsBeforeTold, StopsAtTold, IsWrittenOf, StopsServing}
+use Rattle.pst_cli_serve.specs.Served.{SaysTo, Says, Saying, AnswersQuestion, IsEndedDump, AreReplies, bytes_said, IsAnswered, StopsInTold, StopsBeforeTold, StopsAtTold, IsWrittenOf, StopsServing}
 
 -- ---- a line
 
@@ -42,8 +42,8 @@ dump_none program m h version path text past told =
 says_command : (program : Program) (m : Meaning) (h : History) (line : List ℕ) (reply : Option (List ℕ)) → question_in line ≡ None → reply ≡ line_reply by_tree line m h → Says program m h line reply
 says_command program m h line reply e is = subst (λ (o : Option Asked). SaysTo program m h line o reply) (sym e) is
 
-pub says_answer : (program : Program) (m : Meaning) (h : History) (line : List ℕ) (asked : Asked) (text : List ℕ) → question_in line ≡ Some asked → AnswersQuestion program m h asked.question asked.path text
-    → Says program m h line (Some text)
+pub says_answer : (program : Program) (m : Meaning) (h : History) (line : List ℕ) (asked : Asked) (text : List ℕ) → question_in line ≡ Some asked
+    → AnswersQuestion program m h asked.question asked.path text → Says program m h line (Some text)
 says_answer program m h line asked text e is = subst (λ (o : Option Asked). SaysTo program m h line o (Some text)) (sym e) (text, refl, is)
 
 -- the reply to a command was written
@@ -80,7 +80,8 @@ held_answer (Err stop.Read) line piece out asked leaves breaks held Stands e sai
 held_answer (Err stop.TooLong) line piece out asked leaves breaks held Stands e said left broken = absurd said
 
 -- no line stops at a read
-pub never_read : {H : Type 0} {P : Type 0} (s : Stop) (line : List ℕ) (leaves breaks : Meaning → H → History → Type 0) (held : H) (m : Meaning) (h : History) → s ≡ stop.Read → HeldAtLine by_tree leaves breaks held s line m h → P
+pub never_read : {H : Type 0} {P : Type 0} (s : Stop) (line : List ℕ) (leaves breaks : Meaning → H → History → Type 0) (held : H) (m : Meaning) (h : History)
+    → s ≡ stop.Read → HeldAtLine by_tree leaves breaks held s line m h → P
 never_read stop.Read line leaves breaks held m h e there = absurd there
 never_read stop.Write line leaves breaks held m h e there = absurd cc
 never_read stop.Memory line leaves breaks held m h e there = absurd cc
@@ -100,7 +101,7 @@ said_push (first ∷ replies) reply =
     ∙ sym (append_assoc (concat (option_to_list first)) (bytes_said replies) (concat (option_to_list reply)))
     ∙ ap (λ (l : List ℕ). l ++ concat (option_to_list reply)) (sym (concat-append (option_to_list first) (flat_map option_to_list replies)))
 
-module _ {A : Type 0} (SaysLine : A → List ℕ → Option (List ℕ) → Type 0) (m : Answering A) where
+module _ {A : Type 0} (SaysLine : Saying A) (m : Answering A) where
   replies_push : (a : A) (given : List (List ℕ)) (replies : List (Option (List ℕ))) (line : List ℕ) (reply : Option (List ℕ)) → AreReplies SaysLine m a given replies
       → SaysLine (state_after m a given) line reply → AreReplies SaysLine m a (given ++ line ∷ []) (replies ++ reply ∷ [])
   replies_push a [] [] line reply are says = (says, tt)
@@ -130,16 +131,17 @@ module _ {A : Type 0} (SaysLine : A → List ℕ → Option (List ℕ) → Type 
   }
 
   -- reading stopped, and all that was handed out is answered
-  pub until_served : (h : A) (leaves breaks : A → Type 0) (fault : LinesFault) (a : InputState) (left : Option (List ℕ)) (c : InputState) (left'' : Option (List ℕ)) (given : List (List ℕ)) (out : List ℕ)
-      → GivesUntil (stop_of fault) a left c left'' given → IsCutOff c → IsAnswered SaysLine m h given out → leaves (state_after m h given)
+  pub until_served : (h : A) (leaves breaks : A → Type 0) (fault : LinesFault) (a : InputState) (left : Option (List ℕ)) (c : InputState) (left'' : Option (List ℕ))
+      (given : List (List ℕ)) (out : List ℕ) → GivesUntil (stop_of fault) a left c left'' given → IsCutOff c → IsAnswered SaysLine m h given out → leaves (state_after m h given)
       → StopsServing SaysLine m h leaves breaks (stop_of fault) a left c left'' given out
   until_served h leaves breaks lines.Failed a left c left'' given out g off all kept = (g.0, off, all, kept)
   until_served h leaves breaks lines.TooLong a left c left'' given out g off all kept = (g.0, off, all, kept)
   until_served h leaves breaks lines.Memory a left c left'' given out g off all kept = (g.0, inl (off, all, kept))
 
   -- answering stopped at a line
-  pub until_answer : (h : A) (leaves breaks : A → Type 0) (s : Stop) (a : InputState) (left : Option (List ℕ)) (b : InputState) (left' : Option (List ℕ)) (given : List (List ℕ)) (line done out : List ℕ)
-      → IsAnswered SaysLine m h given done → StopsAtTold s (SaysLine (state_after m h given) line) out → HeldAtReply m leaves breaks s (state_after m h given) line
+  pub until_answer : (h : A) (leaves breaks : A → Type 0) (s : Stop) (a : InputState) (left : Option (List ℕ)) (b : InputState) (left' : Option (List ℕ))
+      (given : List (List ℕ)) (line done out : List ℕ) → IsAnswered SaysLine m h given done
+      → StopsAtTold s (SaysLine (state_after m h given) line) out → HeldAtReply m leaves breaks s (state_after m h given) line
       → Gives a left b left' (given ++ line ∷ []) → IsNear b → StopsServing SaysLine m h leaves breaks s a left b left' (given ++ line ∷ []) (done ++ out)
   until_answer h leaves breaks stop.Write a left b left' given line done out answered (piece, says, part) kept g near = (
     g,

@@ -24,6 +24,7 @@ use Rattle.pst_cli_scripts.specs.Reading.{IsNear, stop_of}
 use Rattle.pst_cli_scripts.specs.Script.{by_tree, script_of}
 use Rattle.pst_cli_serving.specs.Rows.{HasReadOf}
 use Rattle.pst_cli_serving.specs.Serving.{status_of}
+use Rattle.pst_cli_serving.proofs.Handed.{fresh, behind_text, taken, total, has_read, past_limit, begins}
 use Rattle.pst_image_form.specs.declared.parts.ImageParts.{ImageParts}
 use Rattle.pst_image_rules.specs.declared.rule.Rule.{Rule}
 use Rattle.pst_image_unpack.specs.Unpacked.{IsAccepted, FailsFirst}
@@ -33,8 +34,7 @@ use Rattle.pst_cli_images.specs.Opening.{opening_in}
 use Rattle.pst_cli_images.specs.Resuming.{Resumed, Refuses}
 use Rattle.pst_cli_serve.specs.Served.{Says, ServesLines, IsAnswered}
 use Rattle.pst_cli_serve.specs.Serving.{Behind, ReadsFront, AnswersAll, CutOffIn, CutsReading, ServeRow, status_at, ServesBehind, ServesFrom}
-use Rattle.pst_cli_images.proofs.Handed.{unread, whole, size, taken, has_read, past_front, begins}
-use Rattle.pst_cli_serve.proofs.Fronts.{behind_text, promised_length, accepted_grown, rest_behind, fails_grown, reads_front, reads_some}
+use Rattle.pst_cli_serve.proofs.Fronts.{promised_length, accepted_grown, rest_behind, fails_grown, reads_front, reads_some}
 use Rattle.pst_cli_serve.proofs.Fronts.{hands_both, pending_was, reads_behind, whole_behind, seen_behind}
 
 -- what comes of the lines behind an image, in the history that begins with it
@@ -55,14 +55,14 @@ grown Holds Then bytes more seen b is f = record {
 
 -- ---- the script
 
-module _ (k : Resumed) (input left bytes : List ℕ) (a c : InputState) (out : List ℕ) (h : Hands unread (Some input) a (Some left) bytes) (front : IsFront (IsOver a) bytes)
+module _ (k : Resumed) (input left bytes : List ℕ) (a c : InputState) (out : List ℕ) (h : Hands (fresh MOST_SERVED) (Some input) a (Some left) bytes) (front : IsFront (IsOver a) bytes)
     (most : bytes_read c ≤ MOST_SERVED) where
   -- the image has just the bytes that were read for it
   far : (Holds : Program → Meaning → History → ℕ → Type 0) (b : Behind Holds bytes) → b.len ≡ length bytes
   far Holds b = promised_length (IsOver a) bytes b.image b.len front b.accepted.form
 
   all : input ≡ bytes ++ (a.held ++ left)
-  all = behind_text input left bytes a h
+  all = behind_text MOST_SERVED input left bytes a h
 
   -- a read that was due did not come
   stops_reading : (r : Result (Unit {0}) Stop) (after : Option (List ℕ)) (rest : List ℕ) (b : Behind (LinesCome k r a (Some left) c after out) bytes) (given : List (List ℕ))
@@ -85,15 +85,13 @@ module _ (k : Resumed) (input left bytes : List ℕ) (a c : InputState) (out : L
       → k.leaves (meaning_of b.program) (state_after (script_of by_tree (meaning_of b.program)) (begun (opening_in b.program.shape b.image)) given)
       → ServeRow TooLong k input left' out
   long_row left' b given None more g past full off answered left_so = absurd g.hands.consumed
-  long_row None b given (Some rest) more g past full off answered left_so = absurd past
-  long_row (Some after) b given (Some rest) more g past full off answered left_so =
+  long_row left' b given (Some rest) more g past full off answered left_so =
       let joined = bytes ++ g.text in
       let both = hands_both input left rest bytes a c h given g in
-      let much : bytes_read c ≡ MOST_SERVED = full ∙ both.limit in
-      let here = past_front input rest after (joined ++ c.held) more (bytes_read c) (whole input rest joined c both) (size input rest joined c both) past in (
-        subst (λ (n : ℕ). n < length input) much here.0,
-        ap (λ (l : List ℕ). Some l) (sym (ap (λ (n : ℕ). drop (n + 1) input) (sym much) ∙ here.1)),
-        subst (λ (n : ℕ). CutOffIn k (take n input) out) much (stops_reading (Err stop.TooLong) (Some after) rest b given g off answered left_so),
+      let long = past_limit MOST_SERVED input joined c (Some rest) left' more both past full in (
+        long.0,
+        long.1,
+        subst (λ (n : ℕ). CutOffIn k (take n input) out) (full ∙ both.limit) (stops_reading (Err stop.TooLong) left' rest b given g off answered left_so),
       )
 
   pub serve_row : (r : Result (Unit {0}) Stop) (left' : Option (List ℕ)) → Behind (LinesCome k r a (Some left) c left' out) bytes → ServeRow (status_at r) k input left' out
@@ -104,13 +102,12 @@ module _ (k : Resumed) (input left bytes : List ℕ) (a c : InputState) (out : L
       let none : c.held ++ rest ≡ [] = ap (λ (l : List ℕ). l ++ rest) over.0 ∙ end in
       let joined = bytes ++ g.text in
       let both = hands_both input left rest bytes a c h given g in
-      let long : bytes_read c ≡ length input =
-      (let s = size input rest joined c both in omega (arith, s, ap length (whole input rest joined c both), length-append (joined ++ c.held) rest, ap length end)) in
+      let long : bytes_read c ≡ length input = omega (arith, total MOST_SERVED input rest joined c both, ap length end) in
       let lines : lines_of (drop b.len input) ≡ given =
       ap (λ (l : List ℕ). lines_of (drop b.len l)) all ∙ ap lines_of (rest_behind bytes (a.held ++ left) b.len (far Holds b)) ∙ g.told
       ∙ ap (λ (l : List ℕ). given ++ lines_of l) none ∙ append-nil given in
       let Then : Program → Meaning → History → ℕ → Type 0 = λ program m x len. AnswersAll k program m x (lines_of (drop len input)) out in (
-        subst (λ (n : ℕ). HasReadOf MOST_SERVED n input (Some rest)) long (has_read input rest joined c both most),
+        subst (λ (n : ℕ). HasReadOf MOST_SERVED n input (Some rest)) long (has_read MOST_SERVED input rest joined c both most),
         grown Holds Then bytes (a.held ++ left) input b all (λ _.
             subst (λ (l : List (List ℕ)). AnswersAll k b.program (meaning_of b.program) (begun (opening_in b.program.shape b.image)) l out) (sym lines) (answered, left_so)),
       )
@@ -125,7 +122,7 @@ module _ (k : Resumed) (input left bytes : List ℕ) (a c : InputState) (out : L
       let (given, all_so) = b.holds in
       let (g, off, answered, left_so) = all_so in (
         bytes_read c,
-        has_read input rest (bytes ++ g.text) c (hands_both input left rest bytes a c h given g) most,
+        has_read MOST_SERVED input rest (bytes ++ g.text) c (hands_both input left rest bytes a c h given g) most,
         stops_reading (Err stop.Read) (Some rest) rest b given g off answered left_so,
       )
   serve_row (Err stop.Memory) None b = let (given, w) = b.holds in absurd w.0.hands.consumed
@@ -136,7 +133,7 @@ module _ (k : Resumed) (input left bytes : List ℕ) (a c : InputState) (out : L
       inr (elim w [
         | inl cut ↦ inl (
           bytes_read c,
-          has_read input rest (bytes ++ g.text) c (hands_both input left rest bytes a c h given g) most,
+          has_read MOST_SERVED input rest (bytes ++ g.text) c (hands_both input left rest bytes a c h given g) most,
           stops_reading (Err stop.Memory) (Some rest) rest b given g cut.0 cut.1 cut.2,
         )
         | inr broke ↦
@@ -149,7 +146,7 @@ module _ (k : Resumed) (input left bytes : List ℕ) (a c : InputState) (out : L
 
 -- ---- the front
 
-module _ (k : Resumed) (input left bytes : List ℕ) (s : LinesState) (c : InputState) (out : List ℕ) (h : Hands unread (Some input) s.input (Some left) bytes)
+module _ (k : Resumed) (input left bytes : List ℕ) (s : LinesState) (c : InputState) (out : List ℕ) (h : Hands (fresh MOST_SERVED) (Some input) s.input (Some left) bytes)
     (front : IsFront (IsOver s.input) bytes) (opened : IsOpen s (Some left)) (near : IsNear s.input) (within : bytes_read s.input ≤ MOST_SERVED) (most : bytes_read c ≤ MOST_SERVED) where
   end : IsOver s.input → left ≡ []
   end over = opened.seen over.1
@@ -159,7 +156,7 @@ module _ (k : Resumed) (input left bytes : List ℕ) (s : LinesState) (c : Input
 
   fails : (rule : Rule) → FailsFirst bytes rule → FailsFirst input rule
   fails rule f =
-      subst (λ (l : List ℕ). FailsFirst l rule) (sym (behind_text input left bytes s.input h))
+      subst (λ (l : List ℕ). FailsFirst l rule) (sym (behind_text MOST_SERVED input left bytes s.input h))
       (fails_grown (IsOver s.input) bytes (s.input.held ++ left) rule front (λ over. ap (λ (l : List ℕ). l ++ left) over.0 ∙ end over) f)
 
   line_row : (status : Status) (rule : Rule) → FailsFirst bytes rule → Refuses status rule out → k.untouched → ServeRow status k input (Some left) out
@@ -194,33 +191,30 @@ RowIfTold k status left left' sink sink' = IfSome left (λ input. (out : List �
 
 module _ (k : Resumed) (same : k.untouched) (input bytes : List ℕ) (b : InputState) (few : IsTooFew bytes) (most : bytes_read b ≤ MOST_SERVED) where
   -- all that was read was handed out, and is short
-  cut_front : (rest : List ℕ) → Hands unread (Some input) b (Some rest) bytes → b.held ≡ [] → CutOffIn k (take (bytes_read b) input) []
+  cut_front : (rest : List ℕ) → Hands (fresh MOST_SERVED) (Some input) b (Some rest) bytes → b.held ≡ [] → CutOffIn k (take (bytes_read b) input) []
   cut_front rest h none =
-      let seen : take (bytes_read b) input ≡ bytes = taken input rest bytes b h ∙ ap (λ (l : List ℕ). bytes ++ l) none ∙ append-nil bytes in
+      let seen : take (bytes_read b) input ≡ bytes = taken MOST_SERVED input rest bytes b h ∙ ap (λ (l : List ℕ). bytes ++ l) none ∙ append-nil bytes in
       inl ((refl, same), subst (λ (l : List ℕ). IsShort l) (sym seen) (short_now bytes few))
 
-  failed_row : (left' : Option (List ℕ)) → Hands unread (Some input) b left' bytes → b.held ≡ [] → ServeRow ReadFault k input left' []
+  failed_row : (left' : Option (List ℕ)) → Hands (fresh MOST_SERVED) (Some input) b left' bytes → b.held ≡ [] → ServeRow ReadFault k input left' []
   failed_row None h none = absurd h.consumed
-  failed_row (Some rest) h none = (bytes_read b, has_read input rest bytes b h most, cut_front rest h none)
+  failed_row (Some rest) h none = (bytes_read b, has_read MOST_SERVED input rest bytes b h most, cut_front rest h none)
 
-  lacks_row : (left' : Option (List ℕ)) → Hands unread (Some input) b left' bytes → length b.held ≤ MOST_READ → ServeRow Memory k input left' []
+  lacks_row : (left' : Option (List ℕ)) → Hands (fresh MOST_SERVED) (Some input) b left' bytes → length b.held ≤ MOST_READ → ServeRow Memory k input left' []
   lacks_row None h piece = absurd h.consumed
   lacks_row (Some rest) h piece = inl ((refl, same), reads_some input rest bytes b h most few piece)
 
-  much_row : (left' before : Option (List ℕ)) (more : ℕ) → Hands unread (Some input) b before bytes → Consumes before left' (more ∷ []) → bytes_read b ≡ b.most → b.held ≡ [] → ServeRow TooLong k input left' []
+  much_row : (left' before : Option (List ℕ)) (more : ℕ) → Hands (fresh MOST_SERVED) (Some input) b before bytes → Consumes before left' (more ∷ []) → bytes_read b ≡ b.most
+      → b.held ≡ [] → ServeRow TooLong k input left' []
   much_row left' None more h past full none = absurd h.consumed
-  much_row None (Some rest) more h past full none = absurd past
-  much_row (Some after) (Some rest) more h past full none =
-      let much : bytes_read b ≡ MOST_SERVED = full ∙ h.limit in
-      let here = past_front input rest after (bytes ++ b.held) more (bytes_read b) (whole input rest bytes b h) (size input rest bytes b h) past in (
-        subst (λ (n : ℕ). n < length input) much here.0,
-        ap (λ (l : List ℕ). Some l) (sym (ap (λ (n : ℕ). drop (n + 1) input) (sym much) ∙ here.1)),
-        subst (λ (n : ℕ). CutOffIn k (take n input) []) much (cut_front rest h none),
-      )
+  much_row left' (Some rest) more h past full none =
+      let long = past_limit MOST_SERVED input bytes b (Some rest) left' more h past full in
+      (long.0, long.1, subst (λ (n : ℕ). CutOffIn k (take n input) []) (full ∙ h.limit) (cut_front rest h none))
 
 -- reading the image stopped
-pub fault_row : {T : Type 0} (f : LinesFault) (status : Status) (k : Resumed) (s t : LinesState) (left left' sink : Option (List ℕ)) (old bytes : List ℕ) (result : Result T LinesFault) → result ≡ Err f
-    → status ≡ status_of (stop_of f) → k.untouched → s.input ≡ unread → old ≡ [] → HandsOn result s left t left' old bytes → IsTooFew bytes → RowIfTold k status left left' sink sink
+pub fault_row : {T : Type 0} (f : LinesFault) (status : Status) (k : Resumed) (s t : LinesState) (left left' sink : Option (List ℕ)) (old bytes : List ℕ)
+    (result : Result T LinesFault) → result ≡ Err f → status ≡ status_of (stop_of f) → k.untouched → s.input ≡ fresh MOST_SERVED
+    → old ≡ [] → HandsOn result s left t left' old bytes → IsTooFew bytes → RowIfTold k status left left' sink sink
 fault_row {T} f status k s t None left' sink old bytes result err is same new empty on few = tt
 fault_row {T} f status k s t (Some input) left' sink old bytes result err is same new empty on few =
     let here : HandsOn {T = T} (Err f) s (Some input) t left' old bytes = subst (λ r. HandsOn r s (Some input) t left' old bytes) err on in
@@ -230,14 +224,15 @@ fault_row {T} f status k s t (Some input) left' sink old bytes result err is sam
     most = omega (arith, on.within, on.limit, ap (λ (v : InputState). v.most) new)
 
     by_fault : (f : LinesFault) → HandsOn {T = T} (Err f) s (Some input) t left' old bytes → ServeRow (status_of (stop_of f)) k input left' []
-    by_fault fault.Failed p = failed_row k same input bytes t.input few most left' (begins input bytes old s.input t.input left' new empty (p.hands (λ e. cc))) (p.rest (λ e. cc))
-    by_fault fault.Memory p = lacks_row k same input bytes t.input few most left' (begins input bytes old s.input t.input left' new empty (p.hands (λ e. cc))) p.piece
+    by_fault fault.Failed p = failed_row k same input bytes t.input few most left' (begins MOST_SERVED input bytes old s.input t.input left' new empty (p.hands (λ e. cc))) (p.rest (λ e. cc))
+    by_fault fault.Memory p = lacks_row k same input bytes t.input few most left' (begins MOST_SERVED input bytes old s.input t.input left' new empty (p.hands (λ e. cc))) p.piece
     by_fault fault.TooLong p =
         let past = p.past refl in
-        much_row k same input bytes t.input few most left' past.before past.more (begins input bytes old s.input t.input past.before new empty past.hands) past.past past.full (p.rest (λ e. cc))
+        let all = begins MOST_SERVED input bytes old s.input t.input past.before new empty past.hands in
+        much_row k same input bytes t.input few most left' past.before past.more all past.past past.full (p.rest (λ e. cc))
 
 -- the image was read
-pub answered_row : (status : Status) (k : Resumed) (s t : LinesState) (c : InputState) (left left' left'' sink sink' : Option (List ℕ)) (old bytes : List ℕ) → s.input ≡ unread → old ≡ []
+pub answered_row : (status : Status) (k : Resumed) (s t : LinesState) (c : InputState) (left left' left'' sink sink' : Option (List ℕ)) (old bytes : List ℕ) → s.input ≡ fresh MOST_SERVED → old ≡ []
     → HandsTo s.input left t.input left' old bytes → IsFront (IsOver t.input) bytes → IsOpen t left' → IsNear t.input → bytes_read t.input ≤ t.input.most → t.input.most ≡ s.input.most
     → bytes_read c ≤ c.most → c.most ≡ t.input.most → (out : List ℕ) × Appends sink sink' out × ServesFrom status k bytes t.input left' c left'' out → RowIfTold k status left left'' sink sink'
 answered_row status k s t c None left' left'' sink sink' old bytes new empty h front opened near within limit most last w = tt
@@ -246,14 +241,14 @@ answered_row status k s t c (Some input) (Some left) left'' sink sink' old bytes
     let served = ap (λ (v : InputState). v.most) new in (
       out,
       written,
-      goes_row k input left bytes t c out (begins input bytes old s.input t.input (Some left) new empty h) front opened near
+      goes_row k input left bytes t c out (begins MOST_SERVED input bytes old s.input t.input (Some left) new empty h) front opened near
           (omega (arith, within, limit, served)) (omega (arith, most, last, limit, served)) status left'' w,
     )
 
 -- ---- the lines behind the image that was taken
 
-pub lines_behind : (k : Resumed) (r : Result (Unit {0}) Stop) (status : Status) (bytes out : List ℕ) (a c : InputState) (left left' : Option (List ℕ)) (p : ImageParts) (program code : Program) (len : ℕ) (o : Opening)
-    → code ≡ program → status ≡ status_at r → IsAccepted bytes p (program_of program) len → o ≡ opening_in program.shape p
+pub lines_behind : (k : Resumed) (r : Result (Unit {0}) Stop) (status : Status) (bytes out : List ℕ) (a c : InputState) (left left' : Option (List ℕ)) (p : ImageParts)
+    (program code : Program) (len : ℕ) (o : Opening) → code ≡ program → status ≡ status_at r → IsAccepted bytes p (program_of program) len → o ≡ opening_in program.shape p
     → ServesLines (Says code (meaning_of program)) (script_of by_tree (meaning_of program)) (begun o) (k.leaves (meaning_of program)) (k.breaks (meaning_of program)) r a left c left' out
     → ServesBehind status k bytes a left c left' out
 lines_behind k r status bytes out a c left left' p program code len o about is accepted same w =

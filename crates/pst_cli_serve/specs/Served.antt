@@ -43,8 +43,12 @@ Says program m h line reply = SaysTo program m h line (question_in line) reply
 
 -- ---- lines, by a relation between states, lines and replies
 
+-- a relation between a state, a line and a reply to it, if it has one
+abbrev pub Saying : Type 0 → Type 1
+Saying A = A → List ℕ → Option (List ℕ) → Type 0
+
 -- these are the replies to the lines in order, each in the state so far
-abbrev pub AreReplies : {A : Type 0} → (Says : A → List ℕ → Option (List ℕ) → Type 0) → Answering A → A → List (List ℕ) → List (Option (List ℕ)) → Type 0
+abbrev pub AreReplies : {A : Type 0} → (Says : Saying A) → Answering A → A → List (List ℕ) → List (Option (List ℕ)) → Type 0
 AreReplies Says m a [] [] = Unit {0}
 AreReplies Says m a [] (reply ∷ replies) = ⊥
 AreReplies Says m a (line ∷ lines) [] = ⊥
@@ -55,11 +59,11 @@ abbrev pub bytes_said : List (Option (List ℕ)) → List ℕ
 bytes_said replies = concat (flat_map option_to_list replies)
 
 -- all lines are answered
-abbrev pub IsAnswered : {A : Type 0} → (Says : A → List ℕ → Option (List ℕ) → Type 0) → Answering A → A → List (List ℕ) → List ℕ → Type 0
+abbrev pub IsAnswered : {A : Type 0} → (Says : Saying A) → Answering A → A → List (List ℕ) → List ℕ → Type 0
 IsAnswered Says m a lines out = (replies : List (Option (List ℕ))) × AreReplies Says m a lines replies × (out ≡ bytes_said replies)
 
 -- All lines but the last are answered, and a proper part of a reply to the last is written.
-pub record StopsInTold {A : Type 0} (Says : A → List ℕ → Option (List ℕ) → Type 0) (m : Answering A) (a : A) (lines : List (List ℕ)) (out : List ℕ) : Type 0 where
+pub record StopsInTold {A : Type 0} (Says : Saying A) (m : Answering A) (a : A) (lines : List (List ℕ)) (out : List ℕ) : Type 0 where
   pub before : List (List ℕ)
   pub last : List ℕ
   pub done : List ℕ
@@ -72,7 +76,7 @@ pub record StopsInTold {A : Type 0} (Says : A → List ℕ → Option (List ℕ)
   pub bytes : out ≡ done ++ part
 
 -- All lines but the last are answered, and nothing of the reply to the last is written.
-pub record StopsBeforeTold {A : Type 0} (Says : A → List ℕ → Option (List ℕ) → Type 0) (m : Answering A) (a : A) (lines : List (List ℕ)) (out : List ℕ) : Type 0 where
+pub record StopsBeforeTold {A : Type 0} (Says : Saying A) (m : Answering A) (a : A) (lines : List (List ℕ)) (out : List ℕ) : Type 0 where
   pub before : List (List ℕ)
   pub last : List ℕ
   pub split : lines ≡ before ++ last ∷ []
@@ -93,7 +97,7 @@ IsWrittenOf result Reply out =
     MatchResult result (λ _. (reply : Option (List ℕ)) × Reply reply × (out ≡ concat (option_to_list reply))) (λ s. StopsAtTold s Reply out)
 
 -- Where answering lines stopped, which were handed out, what was written, and what is held: as for `run`.
-abbrev pub StopsServing : {A : Type 0} → (Says : A → List ℕ → Option (List ℕ) → Type 0) → Answering A → A → (leaves breaks : A → Type 0) → Stop → InputState → Option (List ℕ) → InputState → Option (List ℕ)
+abbrev pub StopsServing : {A : Type 0} → (Says : Saying A) → Answering A → A → (leaves breaks : A → Type 0) → Stop → InputState → Option (List ℕ) → InputState → Option (List ℕ)
     → List (List ℕ) → List ℕ → Type 0
 StopsServing Says m h leaves breaks stop.Read a left b left' lines out =
     Gives a left b left' lines × IsCutOff b × IsAnswered Says m h lines out × leaves (state_after m h lines)
@@ -106,7 +110,7 @@ StopsServing Says m h leaves breaks stop.Memory a left b left' lines out =
     × ((IsCutOff b × IsAnswered Says m h lines out × leaves (state_after m h lines)) ⊎ (IsNear b × StopsBeforeTold Says m h lines out × BreaksIn m h breaks lines))
 
 -- what comes of answering the lines that are left
-abbrev pub ServesLines : {A T : Type 0} → (Says : A → List ℕ → Option (List ℕ) → Type 0) → Answering A → A → (leaves breaks : A → Type 0) → Result T Stop → InputState → Option (List ℕ) → InputState → Option (List ℕ)
+abbrev pub ServesLines : {A T : Type 0} → (Says : Saying A) → Answering A → A → (leaves breaks : A → Type 0) → Result T Stop → InputState → Option (List ℕ) → InputState → Option (List ℕ)
     → List ℕ → Type 0
 ServesLines Says m h leaves breaks (Ok done) a left b left' out =
     (lines : List (List ℕ)) × Gives a left b left' lines × IsOver b × IsAtEnd left' × IsAnswered Says m h lines out × leaves (state_after m h lines)

@@ -1,4 +1,5 @@
 pub mod Counting
+pub mod Handed
 pub mod Keeping
 pub mod LineStores
 pub mod Outputs

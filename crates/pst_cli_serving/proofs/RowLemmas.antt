@@ -29,90 +29,59 @@ use Rattle.pst_cli_scripts.specs.Reading.{GivesPast, GivesUntil, IsTextOf, IsNea
 use Rattle.pst_cli_serving.specs.Rows.{IsReadable, IsWithin, HasRead, ReadsUpTo, ReadsAll, Writes, CutOff, StopsReading, StopsScript, StopsWriting}
 use Rattle.pst_cli_serving.specs.Rows.{LacksProgram, LacksReply, LacksRoom, Row, IsComplete, IsServable}
 use Rattle.pst_cli_serving.specs.Serving.{ReadsNothing, ServesInPart, Serves, Prints, status_of}
+use Rattle.pst_cli_serving.proofs.Handed.{fresh, size, behind_text, taken, total, has_read, past_limit}
 use Rattle.pst_cli_serving.proofs.Counting.{bytes_of-append, lines_least, lines_front, cut_bytes, whole_bytes, near_program}
 use Rattle.pst_cli_serving.proofs.Serving.{job_of_page}
 
-abbrev pub fresh : InputState
-fresh = record { handed = 0; held = []; ended = false; most = MOST_INPUT }
-
 -- ---- how much was read of an input that is told
-
--- the bytes that were read
-pub record Front (input rest : List ℕ) (n : ℕ) (bytes : List ℕ) : Type 0 where
-  pub whole : input ≡ bytes ++ rest
-  pub size : length bytes ≡ n
-
-front : (c : InputState) (input rest : List ℕ) (lines : List (List ℕ)) (g : Gives fresh (Some input) c (Some rest) lines) → Front input rest (bytes_read c) g.hands.bytes
-front c input rest lines g = record {
-  whole = g.hands.consumed;
-  size = omega (arith, ap length g.hands.kept, length-append g.text c.held, g.hands.counted);
-}
-
-taken : (input rest bytes : List ℕ) (n : ℕ) → Front input rest n bytes → take n input ≡ bytes
-taken input rest bytes n f = ap (λ k. take k input) (sym f.size) ∙ ap (take (length bytes)) f.whole ∙ take_at bytes rest _ refl
-
-dropped : (input rest bytes : List ℕ) (n : ℕ) → Front input rest n bytes → drop n input ≡ rest
-dropped input rest bytes n f = ap (λ k. drop k input) (sym f.size) ∙ ap (drop (length bytes)) f.whole ∙ drop_at bytes rest _ refl
-
-has_read : (c : InputState) (input rest : List ℕ) (lines : List (List ℕ)) → Gives fresh (Some input) c (Some rest) lines → bytes_read c ≤ MOST_INPUT → HasRead (bytes_read c) input (Some rest)
-has_read c input rest lines g most =
-    let f = front c input rest lines g in
-    record {
-      most = most;
-      within = omega (arith, f.size, ap length f.whole, length-append g.hands.bytes rest);
-      rest = ap (λ l. Some l) (sym (dropped input rest g.hands.bytes (bytes_read c) f));
-    }
-
--- the same, where the source may tell nothing more
-pub some_read : (c : InputState) (input : List ℕ) (left : Option (List ℕ)) (lines : List (List ℕ)) → Gives fresh (Some input) c left lines → bytes_read c ≤ MOST_INPUT → (n : ℕ) × HasRead n input left
-some_read c input None lines g most = absurd g.hands.consumed
-some_read c input (Some rest) lines g most = (bytes_read c, has_read c input rest lines g most)
 
 -- how far reading came where these bytes were needed
 record Extent (count bytes total : ℕ) : Type 0 where
   reached : min bytes total ≤ count
   near : count < bytes + MOST_READ
 
--- what was handed out, and what is pending
-told_bytes : (c : InputState) (input rest : List ℕ) (lines : List (List ℕ)) (g : Gives fresh (Some input) c (Some rest) lines) → input ≡ g.text ++ (c.held ++ rest)
-told_bytes c input rest lines g = g.hands.consumed ∙ ap (λ l. l ++ rest) g.hands.kept ∙ append_assoc g.text c.held rest
-
 -- less than one read came beyond the lines that were handed out
-extent : (c : InputState) (input rest : List ℕ) (lines : List (List ℕ)) → Gives fresh (Some input) c (Some rest) lines → IsNear c → Extent (bytes_read c) (bytes_of lines) (length input)
+extent : (c : InputState) (input rest : List ℕ) (lines : List (List ℕ)) → Gives (fresh MOST_INPUT) (Some input) c (Some rest) lines → IsNear c → Extent (bytes_read c) (bytes_of lines) (length input)
 extent c input rest lines g near = by_pending (c.held ++ rest) refl
   where
+    told : input ≡ g.text ++ (c.held ++ rest)
+    told = behind_text MOST_INPUT input rest g.text c g.hands
+
     within : bytes_read c ≤ length input
-    within = let f = front c input rest lines g in omega (arith, f.size, ap length f.whole, length-append g.hands.bytes rest)
+    within = let n = total MOST_INPUT input rest g.text c g.hands in omega (arith, n)
 
     by_pending : (left : List ℕ) → c.held ++ rest ≡ left → Extent (bytes_read c) (bytes_of lines) (length input)
     by_pending [] none =
         let all : lines_of input ≡ lines = g.told ∙ ap (λ l. lines ++ lines_of l) none ∙ append-nil lines in
         let least : length input ≤ bytes_of lines = omega (arith, lines_least input, ap bytes_of all) in
-        let read : length input ≡ bytes_read c = omega (arith, g.hands.counted, ap length (told_bytes c input rest lines g), length-append g.text (c.held ++ rest), ap length none, within) in
+        let read : length input ≡ bytes_read c = omega (arith, g.hands.counted, ap length told, length-append g.text (c.held ++ rest), ap length none, within) in
         record { reached = omega (arith, read); near = omega (arith, least, within) }
     by_pending (b ∷ left) some =
         let all : bytes_of (lines_of input) ≡ bytes_of lines + bytes_of (lines_of (c.held ++ rest)) = ap bytes_of g.told ∙ bytes_of-append lines (lines_of (c.held ++ rest)) in
         let front : bytes_of (lines_of input) ≡ length g.text + bytes_of (lines_of (c.held ++ rest)) =
-        ap (λ l. bytes_of (lines_of l)) (told_bytes c input rest lines g) ∙ lines_front g.text (c.held ++ rest) (omega (arith, ap length some)) in
+        ap (λ l. bytes_of (lines_of l)) told ∙ lines_front g.text (c.held ++ rest) (omega (arith, ap length some)) in
         let same : bytes_of lines ≡ length g.text = omega (arith, all, front) in
         record { reached = omega (arith, same, g.hands.counted); near = omega (arith, same, g.hands.counted, near) }
 
 -- where reading was cut off, the lines that were handed out are all the whole ones
-whole_front : (c : InputState) (input rest : List ℕ) (lines : List (List ℕ)) → Gives fresh (Some input) c (Some rest) lines → IsCutOff c → whole_lines (take (bytes_read c) input) ≡ lines
+whole_front : (c : InputState) (input rest : List ℕ) (lines : List (List ℕ)) → Gives (fresh MOST_INPUT) (Some input) c (Some rest) lines → IsCutOff c → whole_lines (take (bytes_read c) input) ≡ lines
 whole_front c input rest lines g off =
-    ap whole_lines (taken input rest g.hands.bytes (bytes_read c) (front c input rest lines g) ∙ sym (append-nil g.hands.bytes)) ∙ g.whole off.1 []
+    ap whole_lines (taken MOST_INPUT input rest g.text c g.hands ∙ sym g.hands.kept ∙ sym (append-nil g.hands.bytes)) ∙ g.whole off.1 []
     ∙ ap (λ l. lines ++ l) (ap whole_lines (append-nil c.held) ∙ off.0) ∙ append-nil lines
 
 -- a read that was due did not come
 pub stops_front : (P : Option CutInput → Type 0) (c : InputState) (input : List ℕ) (left : Option (List ℕ)) (lines : List (List ℕ))
-    → Gives fresh (Some input) c left lines → IsCutOff c → bytes_read c ≤ MOST_INPUT
+    → Gives (fresh MOST_INPUT) (Some input) c left lines → IsCutOff c → bytes_read c ≤ MOST_INPUT
     → P (cut lines) → (n : ℕ) × HasRead n input left × P (cut (whole_lines (take n input)))
 stops_front P c input None lines g off most p = absurd g.hands.consumed
-stops_front P c input (Some rest) lines g off most p =
-    (bytes_read c, has_read c input rest lines g most, subst (λ l. P (cut l)) (sym (whole_front c input rest lines g off)) p)
+stops_front P c input (Some rest) lines g off most p = (
+  bytes_read c,
+  has_read MOST_INPUT input rest g.text c g.hands most,
+  subst (λ l. P (cut l)) (sym (whole_front c input rest lines g off)) p,
+)
 
 stops_reading : (k : Kept) (job : Job) (c : InputState) (input : List ℕ) (left : Option (List ℕ)) (lines : List (List ℕ)) (out : List ℕ)
-    → Gives fresh (Some input) c left lines → IsCutOff c → bytes_read c ≤ MOST_INPUT
+    → Gives (fresh MOST_INPUT) (Some input) c left lines → IsCutOff c → bytes_read c ≤ MOST_INPUT
     → CutOff k (cut lines) job out → StopsReading k job input left out
 stops_reading k job c input left lines out g off most p = stops_front (λ o. CutOff k o job out) c input left lines g off most p
 
@@ -120,31 +89,17 @@ stops_reading k job c input left lines out g off most p = stops_front (λ o. Cut
 abbrev pub LongFront : (P : Option CutInput → Type 0) → List ℕ → Option (List ℕ) → Type 0
 LongFront P input left = (MOST_INPUT < length input) × (left ≡ Some (drop (MOST_INPUT + 1) input)) × P (cut (whole_lines (take MOST_INPUT input)))
 
-long_front : (P : Option CutInput → Type 0) (c : InputState) (input rest : List ℕ) (more : ℕ) (left : Option (List ℕ)) (lines : List (List ℕ))
-    → Gives fresh (Some input) c (Some rest) lines → IsCutOff c
-    → Consumes (Some rest) left (more ∷ []) → bytes_read c ≡ c.most → P (cut lines) → LongFront P input left
-long_front P c input rest more None lines g off past full p = absurd past
-long_front P c input rest more (Some y) lines g off past whole p =
-    let full : bytes_read c ≡ MOST_INPUT = whole ∙ g.hands.limit in
-    let f = front c input rest lines g in
-    let bytes = g.hands.bytes in
-    let one_more : Front input y (MOST_INPUT + 1) (bytes ++ more ∷ []) = record {
-      whole = f.whole ∙ ap (λ l. bytes ++ l) past ∙ sym (append_assoc bytes (more ∷ []) y);
-      size = omega (arith, full, f.size, length-append bytes (more ∷ []));
-    } in (
-      omega (arith, one_more.size, ap length one_more.whole, length-append (bytes ++ more ∷ []) y),
-      ap (λ l. Some l) (sym (dropped input y (bytes ++ more ∷ []) (MOST_INPUT + 1) one_more)),
-      subst (λ l. P (cut l)) (sym (ap (λ n. whole_lines (take n input)) (sym full) ∙ whole_front c input rest lines g off)) p,
-    )
-
 pub long_by : (P : Option CutInput → Type 0) (c : InputState) (input : List ℕ) (before : Option (List ℕ)) (more : ℕ) (left : Option (List ℕ))
-    (lines : List (List ℕ)) → Gives fresh (Some input) c before lines → IsCutOff c
+    (lines : List (List ℕ)) → Gives (fresh MOST_INPUT) (Some input) c before lines → IsCutOff c
     → Consumes before left (more ∷ []) → bytes_read c ≡ c.most → P (cut lines) → LongFront P input left
 long_by P c input None more left lines g off past full p = absurd g.hands.consumed
-long_by P c input (Some rest) more left lines g off past full p = long_front P c input rest more left lines g off past full p
+long_by P c input (Some rest) more left lines g off past full p =
+    let long = past_limit MOST_INPUT input g.text c (Some rest) left more g.hands past full in
+    let much : bytes_read c ≡ MOST_INPUT = full ∙ g.hands.limit in
+    (long.0, long.1, subst (λ l. P (cut l)) (sym (ap (λ n. whole_lines (take n input)) (sym much) ∙ whole_front c input rest lines g off)) p)
 
 -- the input is too long
-pub long_row : (P : Option CutInput → Type 0) (c : InputState) (input : List ℕ) (left : Option (List ℕ)) (lines : List (List ℕ)) → GivesPast fresh (Some input) c left lines → IsCutOff c
+pub long_row : (P : Option CutInput → Type 0) (c : InputState) (input : List ℕ) (left : Option (List ℕ)) (lines : List (List ℕ)) → GivesPast (fresh MOST_INPUT) (Some input) c left lines → IsCutOff c
     → P (cut lines) → LongFront P input left
 long_row P c input left lines g off p = long_by P c input g.before g.more left lines g.gives off g.past g.full p
 
@@ -159,16 +114,16 @@ lacks_room k Code input left out p = p
 
 -- there was no room for a line that had been read
 pub lacks_text : (k : Kept) (c : InputState) (input : List ℕ) (left : Option (List ℕ)) (lines : List (List ℕ)) → k.untouched
-    → Gives fresh (Some input) c left lines → IsNear c → cut lines ≡ None → bytes_read c ≤ MOST_INPUT
+    → Gives (fresh MOST_INPUT) (Some input) c left lines → IsNear c → cut lines ≡ None → bytes_read c ≤ MOST_INPUT
     → LacksProgram k input left []
 lacks_text k c input None lines same g near none most = absurd g.hands.consumed
 lacks_text k c input (Some rest) lines same g near none most =
-    let read = has_read c input rest lines g most in
+    let read = has_read MOST_INPUT input rest g.text c g.hands most in
     let e = extent c input rest lines g near in
     (refl, same, (bytes_read c, read, near_program input lines (lines_of (c.held ++ rest)) (bytes_read c) MOST_READ none g.told read.within e.near))
 
 stopped : (k : Kept) (job : Job) (s : Stop) (c : InputState) (input : List ℕ) (left : Option (List ℕ)) (lines : List (List ℕ)) → k.untouched
-    → (s ≡ stop.Write → ⊥) → GivesUntil s fresh (Some input) c left lines
+    → (s ≡ stop.Write → ⊥) → GivesUntil s (fresh MOST_INPUT) (Some input) c left lines
     → cut lines ≡ None → bytes_read c ≤ MOST_INPUT → Row (status_of s) k job input left []
 stopped k job stop.Read c input left lines same unwritten g none most = stops_reading k job c input left lines [] g.0 g.1 most (subst (λ o. CutOff k o job []) (sym none) (refl, same))
 stopped k job stop.TooLong c input left lines same unwritten g none most = long_row (λ o. CutOff k o job []) c input left lines g.0 g.1 (subst (λ o. CutOff k o job []) (sym none) (refl, same))
@@ -178,7 +133,7 @@ stopped k job stop.Memory c input left lines same unwritten (g, inr near) none m
 
 -- nothing was written
 pub text_stopped : (k : Kept) (job : Job) (s : Stop) (status : Status) (a c : InputState) (left left' sink : Option (List ℕ)) (lines : List (List ℕ))
-    → k.untouched → status ≡ status_of s → a ≡ fresh → (s ≡ stop.Write → ⊥)
+    → k.untouched → status ≡ status_of s → a ≡ fresh MOST_INPUT → (s ≡ stop.Write → ⊥)
     → GivesUntil s a left c left' lines → cut lines ≡ None → bytes_read c ≤ MOST_INPUT
     → IfSome left (λ input. (out : List ℕ) × Appends sink sink out × Row status k job input left' out)
 text_stopped k job s status a c None left' sink lines same is new unwritten g none most = tt
@@ -200,7 +155,7 @@ is_there : (o : Option CutInput) (c : CutInput) → o ≡ Some c → IsSome o
 is_there o c e = subst IsSome (sym e) refl
 
 -- the separator line was found, unless the end of the input was seen
-pub cuts : (t : InputState) (input rest text : List ℕ) (r : ReadsText fresh (Some input) t (Some rest) text) → t.ended ≡ false → (more : List (List ℕ))
+pub cuts : (t : InputState) (input rest text : List ℕ) (r : ReadsText (fresh MOST_INPUT) (Some input) t (Some rest) text) → t.ended ≡ false → (more : List (List ℕ))
     → cut (r.lines ++ more) ≡ Some (record { text = text; separator = r.separator; script = more })
 cuts t input rest text r going more = by_found r.found
   where
@@ -209,39 +164,38 @@ cuts t input rest text r going more = by_found r.found
     by_found (inl over) = let ended = over.1 in cc
     by_found (inr found) = found more
 
-readable_by : (b : Bool) (t : InputState) (input rest text : List ℕ) → t.ended ≡ b → ReadsText fresh (Some input) t (Some rest) text
+readable_by : (b : Bool) (t : InputState) (input rest text : List ℕ) → t.ended ≡ b → ReadsText (fresh MOST_INPUT) (Some input) t (Some rest) text
     → EndsWhereSeen t (Some rest) → bytes_read t ≤ MOST_INPUT → IsReadable input
 readable_by true t input rest text is r seen most =
-    let f = front t input rest r.lines r.gives in
-    inl (omega (arith, f.size, ap length f.whole, length-append r.gives.hands.bytes rest, ap length (seen is), most))
+    inl (omega (arith, total MOST_INPUT input rest r.gives.text t r.gives.hands, ap length (seen is), most))
 readable_by false t input rest text is r seen most =
-    let f = front t input rest r.lines r.gives in
-    let more = take (MOST_INPUT - length r.gives.hands.bytes) rest in
+    let bytes = r.gives.hands.bytes in
+    let read : length bytes ≡ bytes_read t = ap length r.gives.hands.kept ∙ size MOST_INPUT input rest r.gives.text t r.gives.hands in
+    let more = take (MOST_INPUT - length bytes) rest in
     let e : whole_lines (take MOST_INPUT input) ≡ r.lines ++ whole_lines (t.held ++ more) =
-    ap whole_lines (take_long MOST_INPUT input r.gives.hands.bytes rest f.whole (omega (arith, f.size, most))) ∙ r.gives.whole is more in
+    ap whole_lines (take_long MOST_INPUT input bytes rest r.gives.hands.consumed (omega (arith, read, most))) ∙ r.gives.whole is more in
     inr (is_there (cut (whole_lines (take MOST_INPUT input))) _ (ap cut e ∙ cuts t input rest text r is (whole_lines (t.held ++ more))))
 
-pub readable : (t : InputState) (input : List ℕ) (left : Option (List ℕ)) (text : List ℕ) → ReadsText fresh (Some input) t left text
+pub readable : (t : InputState) (input : List ℕ) (left : Option (List ℕ)) (text : List ℕ) → ReadsText (fresh MOST_INPUT) (Some input) t left text
     → EndsWhereSeen t left → bytes_read t ≤ MOST_INPUT → IsReadable input
 readable t input None text r seen most = absurd r.told
 readable t input (Some rest) text r seen most = readable_by t.ended t input rest text refl r seen most
 
 -- how far reading came where these lines of the script were handed out
-script_extent : (t u : InputState) (input rest more text : List ℕ) (given : List (List ℕ)) → ReadsText fresh (Some input) t (Some rest) text
+script_extent : (t u : InputState) (input rest more text : List ℕ) (given : List (List ℕ)) → ReadsText (fresh MOST_INPUT) (Some input) t (Some rest) text
     → EndsWhereSeen t (Some rest) → Gives t (Some rest) u (Some more) given → IsNear u
     → Extent (bytes_read u) (up_to (cut_of input) given) (length input)
 script_extent t u input rest more text given r seen g near = by_found r.found
   where
-    all : Gives fresh (Some input) u (Some more) (r.lines ++ given)
-    all = gives_then fresh (Some input) t (Some rest) u (Some more) r.lines given r.gives g
+    all : Gives (fresh MOST_INPUT) (Some input) u (Some more) (r.lines ++ given)
+    all = gives_then (fresh MOST_INPUT) (Some input) t (Some rest) u (Some more) r.lines given r.gives g
 
     by_found : IsOver t ⊎ ((more : List (List ℕ)) → cut (r.lines ++ more) ≡ Some (record { text = text; separator = r.separator; script = more }))
         → Extent (bytes_read u) (up_to (cut_of input) given) (length input)
     by_found (inl over) =
-        let f = front u input more (r.lines ++ given) all in
         let end : rest ≡ [] = seen over.1 in
         let none : length more ≡ 0 = omega (arith, ap length end, ap length g.hands.consumed, length-append g.hands.bytes more) in
-        let whole : length input ≡ bytes_read u = omega (arith, f.size, ap length f.whole, length-append all.hands.bytes more, none) in
+        let whole : length input ≡ bytes_read u = omega (arith, total MOST_INPUT input more all.text u all.hands, none) in
         let script : (cut_of input).script ≡ [] = ap (λ c. c.script) r.told ∙ ap lines_of (ap (λ l. l ++ rest) over.0 ∙ end) in
         let least : length input ≤ up_to (cut_of input) [] = subst (λ l. length input ≤ up_to (cut_of input) l) script (whole_bytes input) in
         record { reached = omega (arith, whole); near = omega (arith, whole, least) }
@@ -251,22 +205,23 @@ script_extent t u input rest more text given r seen g near = by_found r.found
         subst (λ n. Extent (bytes_read u) n (length input)) bytes e
 
 pub reads_up_to : (t u : InputState) (input rest text : List ℕ) (left : Option (List ℕ)) (given : List (List ℕ))
-    → ReadsText fresh (Some input) t (Some rest) text → EndsWhereSeen t (Some rest) → Gives t (Some rest) u left given
+    → ReadsText (fresh MOST_INPUT) (Some input) t (Some rest) text → EndsWhereSeen t (Some rest) → Gives t (Some rest) u left given
     → IsNear u → bytes_read u ≤ MOST_INPUT → ReadsUpTo given input left
 reads_up_to t u input rest text None given r seen g near most = absurd g.hands.consumed
 reads_up_to t u input rest text (Some more) given r seen g near most =
+    let all = gives_then (fresh MOST_INPUT) (Some input) t (Some rest) u (Some more) r.lines given r.gives g in
     let e = script_extent t u input rest more text given r seen g near in
     record {
       behind = lines_of (u.held ++ more);
       first = ap (λ c. c.script) r.told ∙ g.told;
       count = bytes_read u;
-      read = has_read u input more (r.lines ++ given) (gives_then fresh (Some input) t (Some rest) u (Some more) r.lines given r.gives g) most;
+      read = has_read MOST_INPUT input more all.text u all.hands most;
       reached = e.reached;
       near = e.near;
     }
 
 -- no more was read than the program needed
-pub reads_program : (t : InputState) (input : List ℕ) (left : Option (List ℕ)) (text : List ℕ) → ReadsText fresh (Some input) t left text
+pub reads_program : (t : InputState) (input : List ℕ) (left : Option (List ℕ)) (text : List ℕ) → ReadsText (fresh MOST_INPUT) (Some input) t left text
     → EndsWhereSeen t left → bytes_read t ≤ MOST_INPUT → ReadsUpTo [] input left
 reads_program t input None text r seen most = absurd r.told
 reads_program t input (Some rest) text r seen most = reads_up_to t t input rest text (Some rest) [] r seen (gives_none t (Some rest)) r.near most
@@ -349,17 +304,16 @@ pub record IsWhole (input : List ℕ) (left : Option (List ℕ)) (c : CutInput) 
   pub parts : cut_of input ≡ c
 
 pub whole_input : (t u : InputState) (input rest text : List ℕ) (left : Option (List ℕ)) (given : List (List ℕ))
-    (r : ReadsText fresh (Some input) t (Some rest) text) → Gives t (Some rest) u left given → IsOver u → IsAtEnd left
+    (r : ReadsText (fresh MOST_INPUT) (Some input) t (Some rest) text) → Gives t (Some rest) u left given → IsOver u → IsAtEnd left
     → bytes_read u ≤ MOST_INPUT → IsWhole input left (record { text = text; separator = r.separator; script = given })
 whole_input t u input rest text None given r g over end most = absurd g.hands.consumed
 whole_input t u input rest text (Some more) given r g over end most =
-    let all = gives_then fresh (Some input) t (Some rest) u (Some more) r.lines given r.gives g in
-    let f = front u input more (r.lines ++ given) all in
-    let whole : bytes_read u ≡ length input = omega (arith, f.size, ap length f.whole, length-append all.hands.bytes more, ap length end) in
+    let all = gives_then (fresh MOST_INPUT) (Some input) t (Some rest) u (Some more) r.lines given r.gives g in
+    let whole : bytes_read u ≡ length input = omega (arith, total MOST_INPUT input more all.text u all.hands, ap length end) in
     let none : u.held ++ more ≡ [] = ap (λ l. l ++ more) over.0 ∙ end in
     record {
       within = omega (arith, whole, most);
-      read = subst (λ n. HasRead n input (Some more)) whole (has_read u input more (r.lines ++ given) all most);
+      read = subst (λ n. HasRead n input (Some more)) whole (has_read MOST_INPUT input more all.text u all.hands most);
       parts = r.told ∙ ap (λ l. record { text = text; separator = r.separator; script = l }) (g.told ∙ ap (λ l. given ++ lines_of l) none ∙ append-nil given);
     }
 
@@ -368,12 +322,12 @@ was_going true b still going = let ended = still refl in cc
 was_going false b still going = refl
 
 -- the program was read, and nothing since
-pub after_program : (t u : InputState) (input rest text : List ℕ) (left : Option (List ℕ)) → ReadsText fresh (Some input) t (Some rest) text → EndsWhereSeen t (Some rest) → bytes_read t ≤ MOST_INPUT
-    → ReadsNothing t (Some rest) u left → ReadsUpTo [] input left
+pub after_program : (t u : InputState) (input rest text : List ℕ) (left : Option (List ℕ)) → ReadsText (fresh MOST_INPUT) (Some input) t (Some rest) text
+    → EndsWhereSeen t (Some rest) → bytes_read t ≤ MOST_INPUT → ReadsNothing t (Some rest) u left → ReadsUpTo [] input left
 after_program t u input rest text left r seen most same = subst (λ l. ReadsUpTo [] input l) (sym same.1) (reads_program t input (Some rest) text r seen most)
 
 -- the script behind a program was read and answered by a job
-module _ (k : Kept) (job : Job) (is : IsAnswering job) (t u : InputState) (input rest text : List ℕ) (left : Option (List ℕ)) (r : ReadsText fresh (Some input) t (Some rest) text)
+module _ (k : Kept) (job : Job) (is : IsAnswering job) (t u : InputState) (input rest text : List ℕ) (left : Option (List ℕ)) (r : ReadsText (fresh MOST_INPUT) (Some input) t (Some rest) text)
     (seen : EndsWhereSeen t (Some rest)) (most : bytes_read t ≤ MOST_INPUT) (most' : bytes_read u ≤ MOST_INPUT) where
   done_row : (given : List (List ℕ)) (out : List ℕ) → Gives t (Some rest) u left given → IsOver u → IsAtEnd left
       → Outputs (Accepting k given) IsAll text (replied (rules_of job) given) out → Row Done k job input left out
@@ -392,13 +346,13 @@ module _ (k : Kept) (job : Job) (is : IsAnswering job) (t u : InputState) (input
   script_stops : (given : List (List ℕ)) (out : List ℕ) → Gives t (Some rest) u left given → IsCutOff u
       → Outputs (Accepting k given) IsAll text (replied (rules_of job) given) out → StopsReading k job input left out
   script_stops given out g off w =
-      let all = gives_then fresh (Some input) t (Some rest) u left r.lines given r.gives g in
+      let all = gives_then (fresh MOST_INPUT) (Some input) t (Some rest) u left r.lines given r.gives g in
       stops_reading k job u input left (r.lines ++ given) out all off most' (cut_off given out (was_going t.ended u.ended g.still off.1) w)
 
   script_long : (given : List (List ℕ)) (out : List ℕ) → GivesPast t (Some rest) u left given → IsCutOff u
       → Outputs (Accepting k given) IsAll text (replied (rules_of job) given) out → Row TooLong k job input left out
   script_long given out g off w =
-      let all = gives_then fresh (Some input) t (Some rest) u g.before r.lines given r.gives g.gives in
+      let all = gives_then (fresh MOST_INPUT) (Some input) t (Some rest) u g.before r.lines given r.gives g.gives in
       long_by (λ o. CutOff k o job out) u input g.before g.more left (r.lines ++ given) all off g.past g.full (cut_off given out (was_going t.ended u.ended g.gives.still off.1) w)
 
   -- what holds of the verdict after these lines
@@ -431,7 +385,7 @@ module _ (k : Kept) (job : Job) (is : IsAnswering job) (t u : InputState) (input
   served_row Usage out never = absurd never
 
 served : (k : Kept) (job : Job) → IsAnswering job → (status : Status) (t u : InputState) (input text : List ℕ) (mid left sink sink' : Option (List ℕ))
-    → ReadsText fresh (Some input) t mid text → EndsWhereSeen t mid
+    → ReadsText (fresh MOST_INPUT) (Some input) t mid text → EndsWhereSeen t mid
     → bytes_read t ≤ MOST_INPUT → bytes_read u ≤ MOST_INPUT → (out : List ℕ) × Appends sink sink' out × Serves status (rules_of job) k t mid u left text out
     → (out : List ℕ) × Appends sink sink' out × Row status k job input left out
 served k job is status t u input text None left sink sink' r seen most most' s = absurd r.told
@@ -440,7 +394,7 @@ served k job is status t u input text (Some rest) left sink sink' r seen most mo
 
 -- the script was read and answered
 pub text_served : (k : Kept) (job : Job) → IsAnswering job → (status : Status) (a t u : InputState) (left mid left' sink sink' : Option (List ℕ))
-    (text : List ℕ) → a ≡ fresh → ReadsText a left t mid text
+    (text : List ℕ) → a ≡ fresh MOST_INPUT → ReadsText a left t mid text
     → EndsWhereSeen t mid → bytes_read t ≤ MOST_INPUT → bytes_read u ≤ MOST_INPUT → (out : List ℕ) × Appends sink sink' out × Serves status (rules_of job) k t mid u left' text out
     → IfSome left (λ input. (out : List ℕ) × Appends sink sink' out × Row status k job input left' out)
 text_served k job is status a t u None mid left' sink sink' text new r seen most most' s = tt
@@ -478,7 +432,7 @@ page_stops P p Canonical input left out r w = (r, w, p)
 page_stops P p Listing input left out r w = (r, w, p)
 
 printed_row : (status : Status) (P : Type 0) → P → (page : Page) (t : InputState) (input text out : List ℕ) (left : Option (List ℕ))
-    → ReadsText fresh (Some input) t left text → EndsWhereSeen t left → bytes_read t ≤ MOST_INPUT
+    → ReadsText (fresh MOST_INPUT) (Some input) t left text → EndsWhereSeen t left → bytes_read t ≤ MOST_INPUT
     → Prints status page text out → Row status (still P) (job_of_page page) input left out
 printed_row Done P p page t input text out left r seen most w = (
   page_within page input (readable t input left text r seen most),
@@ -503,7 +457,7 @@ printed_row Usage P p page t input text out left r seen most w = absurd w
 
 -- nothing is done with what is held
 pub text_printed : (status : Status) (P : Type 0) → P → (page : Page) (a t : InputState) (left left' sink sink' : Option (List ℕ)) (text : List ℕ)
-    → a ≡ fresh → ReadsText a left t left' text → EndsWhereSeen t left'
+    → a ≡ fresh MOST_INPUT → ReadsText a left t left' text → EndsWhereSeen t left'
     → bytes_read t ≤ MOST_INPUT → (out : List ℕ) × Appends sink sink' out × Prints status page text out
     → IfSome left (λ input. (out : List ℕ) × Appends sink sink' out × Row status (still P) (job_of_page page) input left' out)
 text_printed status P p page a t None left' sink sink' text new r seen most w = tt

@@ -127,7 +127,8 @@ Row Memory k job input left out = StopsReading k job input left out ⊎ LacksRoo
 Row Usage k job input left out = ⊥
 
 -- Where the source tells its bytes, a row holds of them, of what it has left, and of what was written.
-abbrev pub HasRow : {S K : Type 0} → (left : S → Option (List ℕ)) → (source source' : S) → (taken : K → Option (List ℕ)) → (sink sink' : K) → (row : List ℕ → Option (List ℕ) → List ℕ → Type 0) → Type 0
+abbrev pub HasRow : {S K : Type 0} → (left : S → Option (List ℕ)) → (source source' : S) → (taken : K → Option (List ℕ)) → (sink sink' : K)
+    → (row : List ℕ → Option (List ℕ) → List ℕ → Type 0) → Type 0
 HasRow left source source' taken sink sink' row = IfSome (left source) (λ input. HasTaken taken sink sink' (row input (left source')))
 
 -- where the words ask for a job, its row holds, by what each job leaves

@@ -48,7 +48,8 @@ abbrev bad : {T : Type 0} → LinesFault → Result T LinesFault
 bad f = Err f
 
 -- a fault is one of any answer
-pub on_err : {T U : Type 0} (f : LinesFault) (a : LinesState) (left : Option (List ℕ)) (b : LinesState) (left' : Option (List ℕ)) (old new : List ℕ) → HandsOn (bad {T = T} f) a left b left' old new → HandsOn (bad {T = U} f) a left b left' old new
+pub on_err : {T U : Type 0} (f : LinesFault) (a : LinesState) (left : Option (List ℕ)) (b : LinesState) (left' : Option (List ℕ)) (old new : List ℕ)
+    → HandsOn (bad {T = T} f) a left b left' old new → HandsOn (bad {T = U} f) a left b left' old new
 on_err f a left b left' old new p = record {
   hands = λ other. p.hands (λ e. other cc);
   past = λ long. p.past cc;
@@ -76,7 +77,8 @@ pub record IsGiven (old new : List ℕ) : Type 0 where
   pub given : List ℕ
   pub text : new ≡ old ++ given
 
-pub given_of : {T : Type 0} (r : Result T LinesFault) (a : LinesState) (left : Option (List ℕ)) (b : LinesState) (left' : Option (List ℕ)) (old new : List ℕ) → HandsOn r a left b left' old new → IsGiven old new
+pub given_of : {T : Type 0} (r : Result T LinesFault) (a : LinesState) (left : Option (List ℕ)) (b : LinesState) (left' : Option (List ℕ)) (old new : List ℕ)
+    → HandsOn r a left b left' old new → IsGiven old new
 given_of (Ok x) a left b left' old new p = let h = p.hands (λ e. cc) in record { given = h.given; text = h.text }
 given_of (Err fault.Failed) a left b left' old new p = let h = p.hands (λ e. cc) in record { given = h.given; text = h.text }
 given_of (Err fault.Memory) a left b left' old new p = let h = p.hands (λ e. cc) in record { given = h.given; text = h.text }

@@ -1,4 +1,5 @@
 use Rattle.std.proofs.Common.{ap, Err, refl}
+use Rattle.pst_io.specs.declared.room.TheConstants.{MOST_INPUT}
 use Rattle.pst_cli_images.specs.Resuming.{Resumes, resumed_in}
 use Rattle.pst_cli_images.proofs.Rows.{resumes_whole, unread, read_whole}
 use Rattle.pst_cli_images.proofs.resuming.resume_input.Goals as goal
@@ -14,6 +15,6 @@ returns-in-Err-clause-resumed g c =
 pub returns-clause-resumed : goal.returns-clause-resumed
 returns-clause-resumed g c =
     let r = c.in-Ok.ensures in
-    read_whole Resumes resumes_whole (resumed_in c.args.store.now c.resume_bytes.new.store) c.resume_bytes.result c.new-lines.result.input
+    read_whole Resumes resumes_whole MOST_INPUT (resumed_in c.args.store.now c.resume_bytes.new.store) c.resume_bytes.result c.new-lines.result.input
     c.read_all.new.lines.input _ _ _ _ c.in-Ok.bytes.items (ap (λ s. s.input) c.new-lines.ensures) r.whole r.few
     (rw c.as_slice.ensures.value at c.resume_bytes.ensures.resumed)

@@ -74,13 +74,17 @@ answering-preserved g c =
     record {
       given = λ m h stands.
           let (given, out, p, written, all, now) = c.answering.invariant.given m h stands in
-          let (more, appended, said) = c.in-Ok.ensures.answered m (state_after (script_of by_tree m) h given) now in (
+          let script = script_of by_tree m in
+          let state = state_after script h given in
+          let after = c.answer_served.new in
+          let Stands : History → Type 0 = λ x. IsRunning after.session.code after.session.engine after.store m x in
+          let (more, appended, said) = c.in-Ok.ensures.answered m state now in (
             given ++ line ∷ [],
             out ++ more,
             gives_then _ _ _ _ _ _ given (line ∷ []) p (r.line is),
             Appends-trans _ _ _ out more written appended,
-            answered_more (Says c.args.session.now.code m) (script_of by_tree m) h given line out more all (said_by m (state_after (script_of by_tree m) h given) more about c.line.ensures said),
-            state_more (script_of by_tree m) h (λ (x : History). IsRunning c.answer_served.new.session.code c.answer_served.new.session.engine c.answer_served.new.store m x) given line (rw c.line.ensures at (c.in-Ok.ensures.stands m (state_after (script_of by_tree m) h given) now)),
+            answered_more (Says c.args.session.now.code m) script h given line out more all (said_by m state more about c.line.ensures said),
+            state_more script h Stands given line (rw c.line.ensures at (c.in-Ok.ensures.stands m state now)),
           );
       about = c.in-Ok.ensures.about ∙ about;
       near = still_near c.answering.lines.input c.next.new.self.input c.answering.invariant.near (r.ahead is);
@@ -93,17 +97,20 @@ answering-preserved g c =
 pub returns-in-Err-answer_served-clause-served : goal.returns-in-Err-answer_served-clause-served
 returns-in-Err-answer_served-clause-served g c = λ m h stands.
     let (given, out, p, written, all, now) = c.answering.invariant.given m h stands in
-    let (more, appended, said) = c.in-Err-answer_served.ensures.answered m (state_after (script_of by_tree m) h given) now in
+    let script = script_of by_tree m in
+    let state = state_after script h given in
+    let (more, appended, said) = c.in-Err-answer_served.ensures.answered m state now in
     let r = c.in-Ok-true.ensures in
     let is = ap (λ b. Ok b) c.in-Ok-true.field-0-test in
-    let line = c.next.new.self.line in (
+    let line = c.next.new.self.line in
+    let s = c.in-Err-answer_served.stop in (
       out ++ more,
       Appends-trans _ _ _ out more written appended,
       (
         given ++ line ∷ [],
-        until_answer (Says c.args.session.now.code m) (script_of by_tree m) h (IsLeft m c.answer_served.new.store) (IsBroken m c.answer_served.new.store)
-            c.in-Err-answer_served.stop _ _ _ _ given line out more all (stops_by c.in-Err-answer_served.stop m (state_after (script_of by_tree m) h given) more c.answering.invariant.about c.line.ensures said)
-            (rw c.line.ensures at (c.in-Err-answer_served.ensures.held m (state_after (script_of by_tree m) h given) now)) (gives_then _ _ _ _ _ _ given (line ∷ []) p (r.line is))
+        until_answer (Says c.args.session.now.code m) script h (IsLeft m c.answer_served.new.store) (IsBroken m c.answer_served.new.store)
+            s _ _ _ _ given line out more all (stops_by s m state more c.answering.invariant.about c.line.ensures said)
+            (rw c.line.ensures at (c.in-Err-answer_served.ensures.held m state now)) (gives_then _ _ _ _ _ _ given (line ∷ []) p (r.line is))
             (still_near c.answering.lines.input c.next.new.self.input c.answering.invariant.near (r.ahead is)),
       ),
     )

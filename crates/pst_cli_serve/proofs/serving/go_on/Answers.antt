@@ -50,7 +50,8 @@ returns-in-Ok-serve_script-clause-served g c =
     let k = resumed_in c.args.store.now c.serve_script.new.store in
     let same = opening_is u.program.shape p u.store u.next_run u.budget tells.next_run_is tells.budget_is is c.whole.ensures.store in
     let (out, written, w) = c.in-Ok-serve_script.ensures.served m (begun o) c.in-Ok.ensures.stands in
-    (out, written, lines_behind k (Ok tt) Done c.args.bytes.items out _ _ _ _ p u.program c.in-Ok.session.code u.length o c.in-Ok.ensures.about refl tells.accepted same w)
+    let about = c.in-Ok.ensures.about in
+    (out, written, lines_behind k (Ok tt) Done c.args.bytes.items out _ _ _ _ p u.program c.in-Ok.session.code u.length o about refl tells.accepted same w)
 
 pub returns-clause-served : goal.returns-clause-served
 returns-clause-served g c =
@@ -61,4 +62,5 @@ returns-clause-served g c =
     let k = resumed_in c.args.store.now c.serve_script.new.store in
     let same = opening_is u.program.shape p u.store u.next_run u.budget tells.next_run_is tells.budget_is is c.whole.ensures.store in
     let (out, written, w) = c.in-Err.ensures.served m (begun o) c.in-Ok.ensures.stands in
-    (out, written, lines_behind k (Err c.in-Err.stop) c.status_of.result c.args.bytes.items out _ _ _ _ p u.program c.in-Ok.session.code u.length o c.in-Ok.ensures.about c.status_of.ensures tells.accepted same w)
+    let about = c.in-Ok.ensures.about in
+    (out, written, lines_behind k (Err c.in-Err.stop) c.status_of.result c.args.bytes.items out _ _ _ _ p u.program c.in-Ok.session.code u.length o about c.status_of.ensures tells.accepted same w)

@@ -8,7 +8,8 @@ pub returns-in-Err-clause-served : goal.returns-in-Err-clause-served
 returns-in-Err-clause-served g c =
     let e = c.in-Err.ensures in
     fault_row c.in-Err.fault c.status_of.result (resumed_in c.args.store.now c.args.store.now) c.up_to-lines.result c.read_front.new.lines _ _ _
-    c.new-bytes.result.items c.read_front.new.bytes.items (Err c.in-Err.fault) refl (c.status_of.ensures ∙ ap status_of c.from.ensures) refl (ap (λ s. s.input) c.up_to-lines.ensures) c.new-bytes.ensures.items e.on e.few
+    c.new-bytes.result.items c.read_front.new.bytes.items (Err c.in-Err.fault) refl (c.status_of.ensures ∙ ap status_of c.from.ensures) refl
+    (ap (λ s. s.input) c.up_to-lines.ensures) c.new-bytes.ensures.items e.on e.few
 
 pub returns-clause-served : goal.returns-clause-served
 returns-clause-served g c =

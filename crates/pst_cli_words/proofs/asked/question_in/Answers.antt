@@ -17,8 +17,9 @@ pub returns-in-None : goal.returns-in-None
 returns-in-None c =
     let word = c.in_ok-word.word.now in
     let version = c.in_ok-version.version.now in
+    let behind = c.in_ok-version.ensures.words ∙ ap (λ (ws : List (List ℕ)). version ∷ ws) c.in-None.ensures.words in
     c.asked_by_two.ensures
-    ∙ sym (by_words c.args.line.now (word ∷ version ∷ []) (c.in_ok-word.ensures.words ∙ ap (λ (ws : List (List ℕ)). word ∷ ws) (c.in_ok-version.ensures.words ∙ ap (λ (ws : List (List ℕ)). version ∷ ws) c.in-None.ensures.words)))
+    ∙ sym (by_words c.args.line.now (word ∷ version ∷ []) (c.in_ok-word.ensures.words ∙ ap (λ (ws : List (List ℕ)). word ∷ ws) behind))
 
 pub returns-in-None-split_word : goal.returns-in-None-split_word
 returns-in-None-split_word c =

@@ -9,7 +9,9 @@ returns-in-Ok-true-clause-on g c = on_then c.in-Ok-true.field-0 _ _ _ _ _ _ c.in
 pub returns-in-Ok-true-clause-told : goal.returns-in-Ok-true-clause-told
 returns-in-Ok-true-clause-told g c = λ behind.
     let six : Promise = then_behind 48 behind in
-    told_then c.hand_parts.result (counted 1 six) six behind _ _ _ (told_true c.in-Ok-true.field-0 (counted 1 six) six _ _ c.in-Ok-true.field-0-test (c.in-Ok-true.ensures.told six)) (c.hand_parts.ensures.told behind)
+    let magic = c.in-Ok-true in
+    told_then c.hand_parts.result (counted 1 six) six behind _ _ _ (told_true magic.field-0 (counted 1 six) six _ _ magic.field-0-test (magic.ensures.told six))
+    (c.hand_parts.ensures.told behind)
 
 pub returns-in-Ok-false-clause-told : goal.returns-in-Ok-false-clause-told
 returns-in-Ok-false-clause-told g c = λ behind.
