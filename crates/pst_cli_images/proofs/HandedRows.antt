@@ -1,5 +1,5 @@
 -- Which row of the table holds where the bytes of an input were handed out to the end of an empty text.
-use Rattle.std.proofs.Common.{◌≡◌, ℕ, ◌+◌, ◌≤◌, false, true, Bool, List, [], ◌∷◌, length, sym, ap, subst, arith, Option, Some, None, length-append}
+use Rattle.std.proofs.Common.{◌≡◌, ℕ, ◌+◌, ◌≤◌, false, true, Bool, List, [], ◌∷◌, length, refl, sym, ap, subst, arith, Option, Some, None, length-append}
 use Rattle.std.specs.Prelude.{◌^◌, ◌-◌, IfSome}
 use Rattle.std.specs.Io.KnownBytes.{Appends, IsAtEnd}
 use Rattle.std.proofs.KnownBytes.{Appends-nil}

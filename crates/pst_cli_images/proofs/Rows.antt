@@ -90,7 +90,7 @@ module _ (limit : ℕ) (Comes : Status → Resumed → (input out : List ℕ) �
 
   pub long_row : (before left : Option (List ℕ)) (more : ℕ) → Hands (fresh limit) (Some input) c before text → Consumes before left (more ∷ []) → bytes_read c ≡ c.most
       → WholeRow limit Comes TooLong k input left []
-  long_row before left more h past full = ((refl, same), past_limit limit input text c before left more h past full)
+  long_row before left more h past full = let long = past_limit limit input text c before left more h past full in ((refl, same), long.0, long.1)
 
 module _ (Comes : Status → Resumed → (input out : List ℕ) → Type 0) where
   stopped : (k : Resumed) (s : Stop) (c : InputState) (input : List ℕ) (left : Option (List ℕ)) (lines : List (List ℕ)) → k.untouched
