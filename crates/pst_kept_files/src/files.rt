@@ -4,11 +4,11 @@ ghost use Rattle.std.specs.Prelude.{◌≡◌, ◌≢◌, ◌⊎◌, ◌+◌, �
 ghost use Rattle.sqlite_disk.specs.Disk.{Only};
 ghost use Rattle.pst_kept_text.specs.Text.{IsPlain};
 ghost use Rattle.pst_kept_text.specs.Written.{OnlyReads};
-ghost use Rattle.pst_kept_text.specs.Causes.{CountsFailed};
+ghost use Rattle.pst_kept_text.specs.Causes.{CountsFailed, AlwaysMixes};
 ghost use Rattle.pst_kept_files.specs.Standing.{IsStage, stands, new_body};
 ghost use Rattle.pst_kept_files.specs.Kept.{AreClean, IsHeld, IsHeldBy, IsNew, Keeps, KeepsEither, Means, MeansBy, CountsFailedIn};
 ghost use Rattle.pst_kept_files.specs.declared.error.FilesError.TheVariants.{Disk, NotEmpty};
-ghost use Rattle.pst_kept_text.specs.declared.error.DiskError.TheVariants.{TooLarge};
+ghost use Rattle.pst_kept_text.specs.declared.error.DiskError.TheVariants.{DoesNotMix, TooLarge};
 
 use crate::checks::{check, letters_of, sealed};
 use crate::head::{HEAD, head};
@@ -37,6 +37,7 @@ fn write_new<D: Disk>(
     ensures clean { IsTrue (D.Disk.is_clean disk.new) → IsTrue (D.Disk.is_clean disk.old) }
     ensures any_return { (c : List ℕ) → D.Disk.may_leave disk.new c → IsStage (D.Disk.seen disk.old) (new_body generation image.now) c }
     ensures failed { CountsFailed result (D.Disk.faults disk.old) (D.Disk.faults disk.new) }
+    ensures mixes { AlwaysMixes D.Disk → result ≢ Err DoesNotMix }
     ensures not_large { result ≢ Err TooLarge }
 {
     let digest = Sha256::digest(image);
@@ -76,6 +77,7 @@ pub fn create<D: Disk>(
     ensures not_empty { result ≡ Err NotEmpty → AreClean D.Disk one.new two.new → (1 < length (D.Disk.seen one.old)) ⊎ (1 < length (D.Disk.seen two.old)) }
     ensures unchanged { result ≡ Err NotEmpty → OnlyReads D.Disk one.old one.new × OnlyReads D.Disk two.old two.new }
     ensures failed { IfErr result (CountsFailedIn (D.Disk.faults one.old) (D.Disk.faults one.new) (D.Disk.faults two.old) (D.Disk.faults two.new)) }
+    ensures mixes { AlwaysMixes D.Disk → result ≢ Err (Disk DoesNotMix) }
     ensures not_large { result ≢ Err (Disk TooLarge) }
 {
     let len = one.len()?;
@@ -107,6 +109,7 @@ fn append_to<D: Disk>(
         → MeansBy (D.Disk.seen counting.old) (D.Disk.seen other.now) kept.old image before
         → (c d : List ℕ) → D.Disk.may_leave counting.new c → D.Disk.may_leave other.now d → KeepsEither c d image before image (before ++ commands.now) }
     ensures failed { CountsFailed result (D.Disk.faults counting.old) (D.Disk.faults counting.new) }
+    ensures mixes { AlwaysMixes D.Disk → result ≢ Err DoesNotMix }
     ensures too_large { result ≡ Err TooLarge → (2 ^ 40 < kept.old.place.room) ⊎ (2 ^ 40 < length commands.now + 17) }
 {
     // The other file is for the clauses alone.
@@ -137,6 +140,7 @@ fn renew<D: Disk>(
         → MeansBy (D.Disk.seen counting.old) (D.Disk.seen other.old) kept before commands
         → (c d : List ℕ) → D.Disk.may_leave counting.new c → D.Disk.may_leave other.new d → KeepsEither c d before commands image.now [] }
     ensures failed { IfErr result (λ e. CountsFailedIn (D.Disk.faults counting.old) (D.Disk.faults counting.new) (D.Disk.faults other.old) (D.Disk.faults other.new) (Disk e)) }
+    ensures mixes { AlwaysMixes D.Disk → result ≢ Err DoesNotMix }
     ensures too_large { result ≡ Err TooLarge → 2 ^ 62 ≤ kept.generation }
 {
     if kept.generation >= LAST_GENERATION {
@@ -167,6 +171,7 @@ pub fn append<D: Disk>(
         → Means (D.Disk.seen one.old) (D.Disk.seen two.old) kept.old.role kept.old image before
         → (c d : List ℕ) → D.Disk.may_leave one.new c → D.Disk.may_leave two.new d → KeepsEither c d image before image (before ++ commands.now) }
     ensures failed { IfErr result (CountsFailedIn (D.Disk.faults one.old) (D.Disk.faults one.new) (D.Disk.faults two.old) (D.Disk.faults two.new)) }
+    ensures mixes { AlwaysMixes D.Disk → result ≢ Err (Disk DoesNotMix) }
     ensures too_large { result ≡ Err (Disk TooLarge) → (2 ^ 40 < kept.old.place.room) ⊎ (2 ^ 40 < length commands.now + 17) }
 {
     match kept.role {
@@ -194,6 +199,7 @@ pub fn checkpoint<D: Disk>(
         → Means (D.Disk.seen one.old) (D.Disk.seen two.old) kept.old.role kept.old before commands
         → (c d : List ℕ) → D.Disk.may_leave one.new c → D.Disk.may_leave two.new d → KeepsEither c d before commands image.now [] }
     ensures failed { IfErr result (CountsFailedIn (D.Disk.faults one.old) (D.Disk.faults one.new) (D.Disk.faults two.old) (D.Disk.faults two.new)) }
+    ensures mixes { AlwaysMixes D.Disk → result ≢ Err (Disk DoesNotMix) }
     ensures too_large { result ≡ Err (Disk TooLarge) → 2 ^ 62 ≤ kept.old.generation }
 {
     *kept = match kept.role {

@@ -1,10 +1,10 @@
 //! The head of a file: its gate, its generation, the image's length and its digest.
 
 ghost use Rattle.std.specs.Prelude.{◌≡◌, ◌≢◌, ◌++◌, ◌<◌, ◌≤◌, ◌^◌, ℕ, List, length, take, Err, IfOk, IfErr, IsTrue};
-ghost use Rattle.pst_kept_text.specs.declared.error.DiskError.TheVariants.{TooLarge, Memory};
+ghost use Rattle.pst_kept_text.specs.declared.error.DiskError.TheVariants.{DoesNotMix, TooLarge, Memory};
 ghost use Rattle.std.specs.Int.{w64, from_be_bytes, to_be_bytes};
 ghost use Rattle.pst_kept_text.specs.Written.{OnlyReads};
-ghost use Rattle.pst_kept_text.specs.Causes.{CountsFailed};
+ghost use Rattle.pst_kept_text.specs.Causes.{CountsFailed, AlwaysMixes};
 ghost use Rattle.pst_kept_files.specs.Standing.{generation_in, role_of, head_of};
 
 use crate::Role;
@@ -55,6 +55,7 @@ pub fn look<D: Disk>(disk: &mut D) -> Result<Glance, DiskError>
     ensures generation { IfOk result (λ it. IsTrue (D.Disk.is_clean disk.new) → it.generation ≡ generation_in (D.Disk.seen disk.old)) }
     ensures reads { OnlyReads D.Disk disk.old disk.new }
     ensures failed { CountsFailed result (D.Disk.faults disk.old) (D.Disk.faults disk.new) }
+    ensures mixes { AlwaysMixes D.Disk → result ≢ Err DoesNotMix }
     ensures not_large { result ≢ Err TooLarge }
 {
     let len = disk.len()?;

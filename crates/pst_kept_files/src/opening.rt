@@ -1,9 +1,12 @@
 //! Opening two files that a crash may have left.
 
-ghost use Rattle.std.specs.Prelude.{◌≡◌, ◌≢◌, ◌⊎◌, ◌+◌, ◌-◌, ◌<◌, ◌≤◌, ◌^◌, List, ℕ, length, take, drop, Some, None, IfOk, IfErr, IfSome, IsTrue};
+ghost use Rattle.std.specs.Prelude.{◌≡◌, ◌≢◌, ◌⊎◌, ◌+◌, ◌-◌, ◌<◌, ◌≤◌, ◌^◌, List, ℕ, length, take, drop, Some, None, Err, IfOk, IfErr, IfSome, IsTrue};
 ghost use Rattle.std.specs.Int.{w64, from_be_bytes};
 ghost use Rattle.sqlite_disk.specs.Disk.{Only};
 ghost use Rattle.pst_kept_text.specs.Written.{OnlyReads};
+ghost use Rattle.pst_kept_text.specs.Causes.{AlwaysMixes};
+ghost use Rattle.pst_kept_text.specs.declared.error.DiskError.TheVariants.{DoesNotMix};
+ghost use Rattle.pst_kept_files.specs.declared.error.FilesError.TheVariants.{Disk};
 ghost use Rattle.pst_kept_files.specs.Standing.{standing, content, base_of, number};
 ghost use Rattle.pst_kept_files.specs.Kept.{AreClean, Holds, IsHeld, IsHeldBy, Keeps, Means, MeansBy, CountsFailedIn};
 ghost use Rattle.pst_kept_files.specs.Opening.{BeginsAt, CountsOver, IsJudged, IsMisjudged, IsRefused, AreUntouched, image_in};
@@ -134,6 +137,7 @@ fn open_as<D: Disk>(
         → IsRefused e (D.Disk.seen counting.old) (D.Disk.seen other.old)) }
     ensures unchanged { IfErr result (λ e. AreUntouched D.Disk e counting.old counting.new other.old other.new) }
     ensures failed { IfErr result (CountsFailedIn (D.Disk.faults counting.old) (D.Disk.faults counting.new) (D.Disk.faults other.old) (D.Disk.faults other.new)) }
+    ensures mixes { AlwaysMixes D.Disk → result ≢ Err (Disk DoesNotMix) }
 {
     let mut bytes = read_all(alloc, counting)?;
     let judged = match judge(alloc, &bytes) {
@@ -173,6 +177,7 @@ pub fn open<D: Disk>(alloc: Global, one: &mut D, two: &mut D) -> Result<Opened, 
     ensures refused { IfErr result (λ e. AreClean D.Disk one.new two.new → IsRefused e (D.Disk.seen one.old) (D.Disk.seen two.old)) }
     ensures unchanged { IfErr result (λ e. AreUntouched D.Disk e one.old one.new two.old two.new) }
     ensures failed { IfErr result (CountsFailedIn (D.Disk.faults one.old) (D.Disk.faults one.new) (D.Disk.faults two.old) (D.Disk.faults two.new)) }
+    ensures mixes { AlwaysMixes D.Disk → result ≢ Err (Disk DoesNotMix) }
 {
     let first = look(one)?;
     let second = look(two)?;

@@ -2,8 +2,8 @@
 
 ghost use Rattle.std.specs.Prelude.{◌≡◌, ◌≢◌, ◌+◌, ◌<◌, ◌≤◌, ◌^◌, ◌∷◌, ◌++◌, [], List, ℕ, length, slice_index, Err, OnOk, IsTrue};
 ghost use Rattle.sqlite_disk.specs.Disk.{Only};
-ghost use Rattle.pst_kept_text.specs.Causes.{CountsFailed};
-ghost use Rattle.pst_kept_text.specs.declared.error.DiskError.TheVariants.{TooLarge};
+ghost use Rattle.pst_kept_text.specs.Causes.{CountsFailed, AlwaysMixes};
+ghost use Rattle.pst_kept_text.specs.declared.error.DiskError.TheVariants.{DoesNotMix, TooLarge};
 ghost use Rattle.pst_kept_files.specs.Standing.{IsStage, body_of};
 ghost use Rattle.pst_kept_files.specs.Staged.{IsShut, OrDoesNotCount};
 
@@ -22,6 +22,7 @@ fn extend<D: Disk>(disk: &mut D, at: usize, bytes: &[u8]) -> Result<(), DiskErro
     ensures clean { IsTrue (D.Disk.is_clean disk.new) → IsTrue (D.Disk.is_clean disk.old) }
     ensures added { OnOk result (D.Disk.seen disk.new ≡ D.Disk.seen disk.old ++ bytes.now) }
     ensures failed { CountsFailed result (D.Disk.faults disk.old) (D.Disk.faults disk.new) }
+    ensures mixes { AlwaysMixes D.Disk → result ≢ Err DoesNotMix }
     ensures not_large { result ≢ Err TooLarge }
 {
     if bytes.is_empty() {
@@ -41,6 +42,7 @@ fn cut<D: Disk>(disk: &mut D) -> Result<(), DiskError>
     ensures clean { IsTrue (D.Disk.is_clean disk.new) → IsTrue (D.Disk.is_clean disk.old) }
     ensures gate_alone { OnOk result (D.Disk.seen disk.new ≡ 0 ∷ []) }
     ensures failed { CountsFailed result (D.Disk.faults disk.old) (D.Disk.faults disk.new) }
+    ensures mixes { AlwaysMixes D.Disk → result ≢ Err DoesNotMix }
     ensures not_large { result ≢ Err TooLarge }
 {
     disk.set_len(1)?;
@@ -61,6 +63,7 @@ fn replace<D: Disk>(disk: &mut D, head: &[u8], image: &[u8], room: &[u8]) -> Res
     ensures written { OnOk result (D.Disk.seen disk.new ≡ 0 ∷ (head.now ++ image.now ++ room.now)) }
     ensures any_return { (c : List ℕ) → D.Disk.may_leave disk.new c → slice_index c 0 ≡ 0 }
     ensures failed { CountsFailed result (D.Disk.faults disk.old) (D.Disk.faults disk.new) }
+    ensures mixes { AlwaysMixes D.Disk → result ≢ Err DoesNotMix }
     ensures not_large { result ≢ Err TooLarge }
 {
     cut(disk)?;
@@ -89,6 +92,7 @@ pub fn write_whole<D: Disk>(
     ensures written { OnOk result (D.Disk.seen disk.new ≡ 1 ∷ body_of head.now image.now) }
     ensures any_return { (c : List ℕ) → D.Disk.may_leave disk.new c → IsStage (D.Disk.seen disk.old) (body_of head.now image.now) c }
     ensures failed { CountsFailed result (D.Disk.faults disk.old) (D.Disk.faults disk.new) }
+    ensures mixes { AlwaysMixes D.Disk → result ≢ Err DoesNotMix }
     ensures not_large { result ≢ Err TooLarge }
 {
     let room = zeros(alloc, ROOM)?;
@@ -108,6 +112,7 @@ pub fn shut<D: Disk>(disk: &mut D) -> Result<(), DiskError>
     ensures shut { OnOk result (slice_index (D.Disk.seen disk.new) 0 ≡ 0) }
     ensures any_return { (c : List ℕ) → D.Disk.may_leave disk.new c → OrDoesNotCount (D.Disk.seen disk.old) c }
     ensures failed { CountsFailed result (D.Disk.faults disk.old) (D.Disk.faults disk.new) }
+    ensures mixes { AlwaysMixes D.Disk → result ≢ Err DoesNotMix }
     ensures not_large { result ≢ Err TooLarge }
 {
     write_synced(disk, 0, &[0])

@@ -1,5 +1,6 @@
 -- When a call says that the disk failed.
-use Rattle.std.specs.Prelude.{◌≡◌, ℕ, Result, MatchResult}
+use Rattle.std.specs.Prelude.{◌≡◌, ℕ, Result, MatchResult, IsTrue}
+use Rattle.sqlite_disk.specs.declared.Disk.{Ghosts}
 use Rattle.sqlite_disk.specs.Disk.{MoreFaults}
 use Rattle.pst_kept_text.specs.declared.error.DiskError.{DiskError}
 use Rattle.pst_kept_text.specs.declared.error.DiskError.TheVariants.{Failed, DoesNotMix, TooLarge, Memory}
@@ -14,3 +15,7 @@ HasCause old new Memory = old ≡ new
 -- at `Ok` no call failed
 abbrev pub CountsFailed : {T : Type 0} → Result T DiskError → ℕ → ℕ → Type 0
 CountsFailed result old new = MatchResult result (λ _. new ≡ old) (λ e. HasCause old new e)
+
+-- each disk of the type says that it mixes
+abbrev pub AlwaysMixes : {D : Type 0} → Ghosts D → Type 0
+AlwaysMixes {D} g = (disk : D) → IsTrue (g.is_mixing disk)

@@ -2,8 +2,8 @@
 
 ghost use Rattle.std.specs.Prelude.{◌≡◌, ◌≢◌, List, ℕ, length, Err, IfOk, OnOk, IsTrue};
 ghost use Rattle.pst_kept_text.specs.Written.{OnlyReads};
-ghost use Rattle.pst_kept_text.specs.Causes.{CountsFailed};
-ghost use Rattle.pst_kept_text.specs.declared.error.DiskError.TheVariants.{TooLarge};
+ghost use Rattle.pst_kept_text.specs.Causes.{CountsFailed, AlwaysMixes};
+ghost use Rattle.pst_kept_text.specs.declared.error.DiskError.TheVariants.{DoesNotMix, TooLarge};
 
 use crate::{DiskError, zeros};
 use sqlite_disk::Disk;
@@ -16,6 +16,7 @@ fn fill<D: Disk>(disk: &mut D, bytes: &mut [u8]) -> Result<(), DiskError>
     ensures bytes { OnOk result (IsTrue (D.Disk.is_clean disk.new) → bytes.new ≡ D.Disk.seen disk.old) }
     ensures reads { OnlyReads D.Disk disk.old disk.new }
     ensures failed { CountsFailed result (D.Disk.faults disk.old) (D.Disk.faults disk.new) }
+    ensures mixes { AlwaysMixes D.Disk → result ≢ Err DoesNotMix }
     ensures not_large { result ≢ Err TooLarge }
 {
     if bytes.is_empty() {
@@ -31,6 +32,7 @@ pub fn read_all<D: Disk>(alloc: Global, disk: &mut D) -> Result<Vec<u8>, DiskErr
     ensures bytes { IfOk result (λ bytes. IsTrue (D.Disk.is_clean disk.new) → bytes.items ≡ D.Disk.seen disk.old) }
     ensures reads { OnlyReads D.Disk disk.old disk.new }
     ensures failed { CountsFailed result (D.Disk.faults disk.old) (D.Disk.faults disk.new) }
+    ensures mixes { AlwaysMixes D.Disk → result ≢ Err DoesNotMix }
     ensures not_large { result ≢ Err TooLarge }
 {
     let len = disk.len()?;

@@ -4,7 +4,7 @@ ghost use Rattle.std.specs.Prelude.{◌≡◌, ◌≢◌, ◌⊎◌, ◌+◌, �
 ghost use Rattle.sqlite_disk.specs.Disk.{Only, Mixed};
 ghost use Rattle.pst_kept_text.specs.Text.{IsGroup, IsTornEnd, behind};
 ghost use Rattle.pst_kept_text.specs.Written.{groups_in, IsSettled, IsPlace, Adds, AddsOrNot, IsWritten};
-ghost use Rattle.pst_kept_text.specs.Causes.{CountsFailed};
+ghost use Rattle.pst_kept_text.specs.Causes.{CountsFailed, AlwaysMixes};
 ghost use Rattle.pst_kept_text.specs.declared.error.DiskError.TheVariants.{DoesNotMix, TooLarge};
 
 use crate::{DiskError, Place, zeros};
@@ -27,6 +27,7 @@ pub fn write_synced<D: Disk>(disk: &mut D, at: usize, bytes: &[u8]) -> Result<()
     ensures clean { IsTrue (D.Disk.is_clean disk.new) → IsTrue (D.Disk.is_clean disk.old) }
     ensures any_return { (c : List ℕ) → D.Disk.may_leave disk.new c → Mixed at bytes.now (D.Disk.seen disk.old) c }
     ensures failed { CountsFailed result (D.Disk.faults disk.old) (D.Disk.faults disk.new) }
+    ensures mixes { AlwaysMixes D.Disk → result ≢ Err DoesNotMix }
     ensures does_not_mix { IsErrOf result DoesNotMix → D.Disk.is_mixing disk.old ≡ false }
     ensures not_large { result ≢ Err TooLarge }
 {
@@ -54,6 +55,7 @@ fn make_room<D: Disk>(
     ensures same { OnOk result (IsTrue (D.Disk.is_clean disk.new) → Adds place.old.base (D.Disk.seen disk.old) [] (D.Disk.seen disk.new)) }
     ensures any_return { IsTrue (D.Disk.is_clean disk.new) → (c : List ℕ) → D.Disk.may_leave disk.new c → Adds place.old.base (D.Disk.seen disk.old) [] c }
     ensures failed { CountsFailed result (D.Disk.faults disk.old) (D.Disk.faults disk.new) }
+    ensures mixes { AlwaysMixes D.Disk → result ≢ Err DoesNotMix }
     ensures too_large { IsErrOf result TooLarge → (2 ^ 40 < place.old.room) ⊎ (2 ^ 40 < needed) }
 {
     if needed < place.room - place.end {
@@ -84,6 +86,7 @@ pub fn append<D: Disk>(
     ensures added { OnOk result (IsTrue (D.Disk.is_clean disk.new) → Adds place.old.base (D.Disk.seen disk.old) group.now (D.Disk.seen disk.new)) }
     ensures any_return { IsTrue (D.Disk.is_clean disk.new) → (c : List ℕ) → D.Disk.may_leave disk.new c → AddsOrNot place.old.base (D.Disk.seen disk.old) group.now c }
     ensures failed { CountsFailed result (D.Disk.faults disk.old) (D.Disk.faults disk.new) }
+    ensures mixes { AlwaysMixes D.Disk → result ≢ Err DoesNotMix }
     ensures too_large { IsErrOf result TooLarge → (2 ^ 40 < place.old.room) ⊎ (2 ^ 40 < length group.now) }
 {
     make_room(alloc, disk, place, group.len())?;
@@ -105,6 +108,7 @@ pub fn clear<D: Disk>(alloc: Global, disk: &mut D, place: Place) -> Result<(), D
     ensures same { OnOk result (IsTrue (D.Disk.is_clean disk.new) → Adds place.base (D.Disk.seen disk.old) [] (D.Disk.seen disk.new)) }
     ensures any_return { IsTrue (D.Disk.is_clean disk.new) → (c : List ℕ) → D.Disk.may_leave disk.new c → Adds place.base (D.Disk.seen disk.old) [] c }
     ensures failed { CountsFailed result (D.Disk.faults disk.old) (D.Disk.faults disk.new) }
+    ensures mixes { AlwaysMixes D.Disk → result ≢ Err DoesNotMix }
     ensures not_large { result ≢ Err TooLarge }
 {
     let none = zeros(alloc, place.room - place.end)?;
