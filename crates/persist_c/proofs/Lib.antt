@@ -1,0 +1,3 @@
+pub mod Crosses
+pub mod Held
+pub mod Stood
