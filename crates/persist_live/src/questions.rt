@@ -49,17 +49,18 @@ fn image_of(alloc: Global, live: &Live) -> Result<Option<Text>, NoMemory>
     ensures { IfOk result (λ image. OnEach live.now (IsImageOf live.now image)) }
 {
     live.store.whole();
-    if !are_few(live.store.counts()) {
-        return Ok(None);
+    if are_few(live.store.counts()) {
+        let image = pack(
+            alloc,
+            &live.store,
+            live.text.as_slice(),
+            live.session.next_run(),
+            live.session.budget(),
+        )?;
+        Ok(Some(image))
+    } else {
+        Ok(None)
     }
-    let image = pack(
-        alloc,
-        &live.store,
-        live.text.as_slice(),
-        live.session.next_run(),
-        live.session.budget(),
-    )?;
-    Ok(Some(image))
 }
 
 impl Live {
