@@ -10,6 +10,7 @@ import re
 import shutil
 import subprocess
 import sys
+import sysconfig
 import tempfile
 from typing import List
 
@@ -152,8 +153,23 @@ def install(archive: str, folder: str, prefix: str, proved: bool) -> None:
     shutil.copy(f'{TOP}/tools/c/persist.h', f'{prefix}/include/persist.h')
 
 
+def install_module(prefix: str) -> None:
+    """Makes the module for Python, where there is what it needs, of the library under a prefix."""
+    headers = sysconfig.get_paths()['include']
+    if not os.path.exists(f'{headers}/Python.h'):
+        print('there is no Python.h, so the module for Python is not built', file=sys.stderr)
+        return
+    to = f'{prefix}/lib/persist'
+    os.makedirs(to, exist_ok=True)
+    # One that any Python from 3.8 on takes.
+    subprocess.run(['cc', '-shared', '-fPIC', '-O2', '-DPy_LIMITED_API=0x03080000', f'-I{headers}', f'-I{prefix}/include', f'{TOP}/tools/c/python.c',
+                    f'{prefix}/lib/libpersist.a', '-o', f'{to}/_persist.so.new'], check=True)
+    os.replace(f'{to}/_persist.so.new', f'{to}/_persist.so')
+
+
 def build(prefix: str, proved: bool) -> None:
     """Builds the library and puts it under a prefix."""
     with tempfile.TemporaryDirectory(prefix='persist-') as folder:
         archive = proved_archive() if proved else unproved_archive(folder)
         install(archive, folder, os.path.abspath(prefix), proved)
+        install_module(os.path.abspath(prefix))

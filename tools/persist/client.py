@@ -713,11 +713,17 @@ class Session(Commands):
     the session is then cut off until `restart` has carried the history out again.
     """
 
+    def __new__(cls, *_: Any, embedded: bool = False, **__: Any) -> 'Session':
+        if embedded and cls is Session:
+            from .embedded import EmbeddedSession
+            cls = EmbeddedSession
+        return super().__new__(cls)
+
     def __init__(self, program: Optional[str] = None, path: Optional[str] = None, word: str = 'run',
-                 image: Union[str, 'os.PathLike[str]', bytes, None] = None, keeps_history: bool = True) -> None:
+                 image: Union[str, 'os.PathLike[str]', bytes, None] = None, keeps_history: bool = True, embedded: bool = False) -> None:
         """Starts a process on a program text, which ends with a line feed or is given one; `word` may be `line` or `replay`. Or on an image,
         given by the path of its file or as bytes; then the program is the text in it. The history takes a few hundred bytes a command; a session
-        that does not keep it, since its user does, cannot be restarted or packed."""
+        that does not keep it, since its user does, cannot be restarted or packed. Where it is `embedded` there is no process: see `embedded`."""
         if (program is None) is (image is None):
             raise TypeError('a session is given either a program or an image')
         self.path = path or program_path()

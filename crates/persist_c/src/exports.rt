@@ -1,6 +1,6 @@
 //! The functions that C calls.
 
-ghost use Rattle.std.specs.Prelude.{◌≡◌, ⊥, [], None, Some, IfSome, IsSomeAnd, IsOk};
+ghost use Rattle.std.specs.Prelude.{◌≡◌, ◌⊎◌, [], None, Some, IfSome, IsSomeAnd, IsOk};
 ghost use Rattle.pst_script.specs.declared.command.Command.TheVariants as command;
 ghost use Rattle.pst_cli_words.specs.declared.job.Question.TheVariants as question;
 ghost use Rattle.persist_live.specs.declared.live.Live.{Live};
@@ -36,7 +36,7 @@ const CLOSED: i32 = 8;
 fn hold(alloc: Global, h: &mut Handle, live: Live) -> i32
     requires { h.old.session ≡ None }
     ensures done { result ≡ DONE → h.new.session ≡ Some live }
-    ensures none { (result ≡ DONE → ⊥) → h.new.session ≡ None }
+    ensures held { (h.new.session ≡ Some live) ⊎ (h.new.session ≡ None) }
 {
     match Box::new(alloc, live) {
         Err(_) => NO_MEMORY,
@@ -47,13 +47,13 @@ fn hold(alloc: Global, h: &mut Handle, live: Live) -> i32
     }
 }
 
-/// Copies the line of a fault, as much as there is room for, and says how much that is.
-fn tell_fault(alloc: Global, fault: Fault, out: &mut [u8], length: &mut usize) -> i32 {
+/// Copies the line of a fault, as much as there is room for, and tells how much that is. Whether there was memory for it.
+fn tell_fault(alloc: Global, fault: Fault, out: &mut [u8], length: &mut usize) -> bool {
     match fault_text(alloc, fault) {
-        Err(_) => NO_MEMORY,
+        Err(_) => false,
         Ok(text) => {
             *length = copy_out(text.as_bytes(), 0, out);
-            REFUSED
+            true
         }
     }
 }
@@ -79,7 +79,13 @@ pub extern "C" fn persist_open(
     };
     match Live::open(alloc, text) {
         Err(NoProgram::Memory) => NO_MEMORY,
-        Err(NoProgram::Fault(why)) => tell_fault(alloc, why, fault, length),
+        Err(NoProgram::Fault(why)) => {
+            if tell_fault(alloc, why, fault, length) {
+                REFUSED
+            } else {
+                NO_MEMORY
+            }
+        }
         Ok(live) => hold(alloc, h, live),
     }
 }

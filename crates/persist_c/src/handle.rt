@@ -22,8 +22,6 @@ pub struct Handle {
     pub ghost session: { Option Live } by { coded_option session_row.coded },
 }
 
-unsafe impl Send for Handle {}
-
 impl Model for Handle {
     ghost also_owns = { λ h. held_at session_row h.at h.session };
 }

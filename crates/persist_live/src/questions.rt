@@ -1,9 +1,8 @@
 //! What is asked of a session, which stays as it is.
 
-ghost use Rattle.std.specs.Prelude.{◌≡◌, ◌^◌, [], true, false, IfOk};
+ghost use Rattle.std.specs.Prelude.{◌≡◌, ◌^◌, [], None, Some, true, false, IfOk};
 ghost use Rattle.pst_program.specs.Sound.{CountsWithin};
 ghost use Rattle.pst_cli_questions.specs.Telling.{Tells};
-ghost use Rattle.pst_cli_scripts.specs.Sessions.{made_piece};
 ghost use Rattle.persist_live.specs.Standing.{OnEach, StandsForSome};
 ghost use Rattle.persist_live.specs.Imaged.{IsImageOf};
 
@@ -71,6 +70,7 @@ impl Live {
     pub fn dump(&mut self, alloc: Global, version: VersionNo) -> Result<(), NoMemory>
         requires { StandsForSome self.old }
         ensures told { IfOk result (λ _. OnEach self.old (λ m h. Tells self.old.session.code m h (Question.Dump version) [] self.new.said.items)) }
+        ensures stands { StandsForSome self.new }
         ensures session { self.new.session ≡ self.old.session }
         ensures store { self.new.store ≡ self.old.store }
         ensures text { self.new.text ≡ self.old.text }
@@ -94,6 +94,7 @@ impl Live {
     ) -> Result<(), NoMemory>
         requires { StandsForSome self.old }
         ensures told { IfOk result (λ _. OnEach self.old (λ m h. Tells self.old.session.code m h (Question.Changed version) path.now self.new.said.items)) }
+        ensures stands { StandsForSome self.new }
         ensures session { self.new.session ≡ self.old.session }
         ensures store { self.new.store ≡ self.old.store }
         ensures text { self.new.text ≡ self.old.text }
@@ -111,7 +112,9 @@ impl Live {
     /// Where there was no memory.
     pub fn image(&mut self, alloc: Global) -> Result<bool, NoMemory>
         requires { StandsForSome self.old }
-        ensures image { IfOk result (λ there. OnEach self.old (IsImageOf self.old (made_piece there self.new.said.items))) }
+        ensures image { IfOk result (λ there. there ≡ true → OnEach self.old (IsImageOf self.old (Some self.new.said.items))) }
+        ensures too_much { IfOk result (λ there. there ≡ false → OnEach self.old (IsImageOf self.old None)) }
+        ensures stands { StandsForSome self.new }
         ensures session { self.new.session ≡ self.old.session }
         ensures store { self.new.store ≡ self.old.store }
         ensures text { self.new.text ≡ self.old.text }

@@ -30,8 +30,27 @@ pub enum Error {
     UnknownReply(String),
     /// A command of several lines or of none, or a program that has a separator line.
     WrongText(&'static str),
+    /// There was no memory, and the session is gone (of a library in this process).
+    NoMemory,
     /// The process could not be started, written to or read from.
     Io(std::io::Error),
+}
+
+impl Error {
+    /// What the first line says where it is not that of an accepted program.
+    pub fn of_program(first: &str, program: &str) -> Error {
+        let words: Vec<&str> = first.split(' ').collect();
+        match words.as_slice() {
+            ["refused", kind, "at", line] => match line.parse::<usize>() {
+                Ok(line) if line > 0 => {
+                    let text = program.lines().nth(line - 1).unwrap_or("").trim().to_string();
+                    Error::ProgramRefused { kind: kind.to_string(), line, text }
+                }
+                _ => Error::UnknownReply(first.to_string()),
+            },
+            _ => Error::UnknownReply(first.to_string()),
+        }
+    }
 }
 
 impl fmt::Display for Error {
@@ -46,6 +65,7 @@ impl fmt::Display for Error {
             Error::Ended(None) => write!(f, "the program was ended by a signal"),
             Error::UnknownReply(text) => write!(f, "{text:?} is no reply to what was sent"),
             Error::WrongText(why) => f.write_str(why),
+            Error::NoMemory => f.write_str("there is no memory"),
             Error::Io(error) => error.fmt(f),
         }
     }

@@ -151,6 +151,23 @@ pub enum Reply {
     Changed(Option<u32>),
 }
 
+impl Reply {
+    /// The reply to a line, of its whole text; none where that is empty, since the line has none.
+    pub fn of_text(line: &str, text: &str) -> Result<Option<Reply>> {
+        let lines: Vec<String> = text.lines().map(String::from).collect();
+        let (command, Some((last, before))) = (line.split_ascii_whitespace().next().unwrap_or_default(), lines.split_last()) else { return Ok(None) };
+        if command == "versions" && !last.starts_with("refused ") {
+            return read_versions(&lines).map(Some);
+        }
+        if command == "dump" && last == "ok" {
+            let records = before.iter().map(|it| record(it).unwrap_or_else(|| Err(Error::UnknownReply(it.clone()))));
+            return records.collect::<Result<_>>().map(|it| Some(Reply::Dump(it)));
+        }
+        let numbers = before.iter().map(|it| printed(it).unwrap_or_else(|| Err(Error::UnknownReply(it.clone()))));
+        read(command, numbers.collect::<Result<_>>()?, last).map(Some)
+    }
+}
+
 impl fmt::Display for Reply {
     fn fmt(&self, f: &mut fmt::Formatter<'_>) -> fmt::Result {
         let printed = match self {

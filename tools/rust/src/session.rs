@@ -41,7 +41,7 @@ impl Session {
         // An accepted program writes nothing, so the reply to a line of no form tells that it was accepted.
         session.send(&format!("{program}{end}%%\n{MARK}\n"))?;
         let first = session.line()?;
-        if first == MARKED { Ok(session) } else { Err(fault(&first, program)) }
+        if first == MARKED { Ok(session) } else { Err(Error::of_program(&first, program)) }
     }
 
     /// Starts a process on an image. Such a session also has `dump` and `changed`.
@@ -301,19 +301,4 @@ fn image_length(image: &[u8]) -> Option<usize> {
         at = behind(behind(at.checked_add(48)?, 8)?, 24)?;
     }
     (at <= image.len()).then_some(at)
-}
-
-/// What the first line says where it is not that of an accepted program.
-fn fault(first: &str, program: &str) -> Error {
-    let words: Vec<&str> = first.split(' ').collect();
-    match words.as_slice() {
-        ["refused", kind, "at", line] => match line.parse::<usize>() {
-            Ok(line) if line > 0 => {
-                let text = program.lines().nth(line - 1).unwrap_or("").trim().to_string();
-                Error::ProgramRefused { kind: kind.to_string(), line, text }
-            }
-            _ => Error::UnknownReply(first.to_string()),
-        },
-        _ => Error::UnknownReply(first.to_string()),
-    }
 }
