@@ -91,7 +91,12 @@ int main(int count, char **words) {
     if (!strcmp(word, "dump") && count == 3) check(persist_dump(&p, (uint32_t)strtoul(words[2], NULL, 10), &length));
     else if (!strcmp(word, "changed") && count == 4)
         check(persist_changed(&p, (uint32_t)strtoul(words[2], NULL, 10), (const uint8_t *)words[3], strlen(words[3]), &length));
-    else if (!strcmp(word, "pack") || !strcmp(word, "repack")) check(persist_image(&p, &length));
+    else if (!strcmp(word, "pack") || !strcmp(word, "repack")) {
+        int32_t status = persist_image(&p, &length);
+        /* No image can say how much was counted: that is its rule 2. */
+        if (status == PERSIST_REFUSED) printf("refused image 2\n");
+        check(status);
+    }
     write_made(&p, length);
     persist_close(&p);
     free(input.at);
