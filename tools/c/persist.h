@@ -6,8 +6,8 @@
  * - `p` points to a `persist` that was begun as `persist p = {0};`, was changed by these functions alone, and was not copied. `{0}` holds no session.
  * - Each other pointer leads to so many bytes, numbers or values as the length beside it says, which nothing else reads or writes meanwhile, and
  *   which do not overlap. It is not null, also where the length is 0.
- * - At most one call at a time has a `persist`. It may go from one thread to another, where the first one's calls happened before.
- * - A call needs up to 256 KiB of stack.
+ * - A `persist` is used by the thread that opened its session. Others may have sessions of their own.
+ * - A call needs 256 KiB of stack: the deepest program took less than 192.
  * - A call never ends the process, prints nothing, and starts nothing. It asks for memory by `malloc` and `realloc`, and answers
  *   PERSIST_NO_MEMORY where these give none.
  */

@@ -14,7 +14,7 @@ from typing import Any, Callable, Dict, List, Optional, Sequence, Tuple, Union
 
 from . import client
 from .client import Answer, Budget, Changed, Done, Dropped, Dump, Never, Opened, Refused, Reply, Running, Session, Trapped, Version
-from .errors import Ended, NoProgram, WrongText
+from .errors import NoProgram, WrongText
 from .image import Image
 
 __all__ = ['EmbeddedSession', 'library']
@@ -54,8 +54,7 @@ def library() -> Any:
 
 
 class EmbeddedSession(Session):
-    """A session in this process. It has no number, no descriptors, and no limit of what it is given. The calls of a session are made by one
-    thread at a time."""
+    """A session in this process, for the thread that made it. It has no descriptors, and no limit of what it is given."""
 
     # Beginning and end.
 
@@ -98,27 +97,33 @@ class EmbeddedSession(Session):
 
     # Lines.
 
+    def command(self, line: str) -> Optional[Reply]:
+        """Carries a line of the script out, and returns its reply; None for a line that has none."""
+        if '\n' in line:
+            raise WrongText('a command is one line')
+        return self.commands([line])[0] if client.words_of(line) else None
+
     def commands(self, lines: Sequence[str]) -> List[Reply]:
         """Carries some lines out, each of which has a reply, and returns their replies."""
         with self._lock:
             if self._status is not None:
-                raise Ended(self._status)
-            replies = []
-            for line in lines:
-                replies.append(self._reply(line))
-                self.history.note(line, replies[-1])
-            return replies
+                raise self._lost()
+            return [self._answered(line, client.words_of(line)) for line in lines]
 
-    def _reply(self, line: str) -> Reply:
-        if self.is_served:
-            words = client.words_of(line)
-            if words[0] in ('dump', 'changed') and QUESTION.fullmatch(' '.join(words)) and int(words[1]) < 1 << 32:
-                return self.dump(int(words[1])) if words[0] == 'dump' else self.changed(int(words[1]), words[2])
+    def _answered(self, line: str, words: List[str]) -> Reply:
+        reply = self._answer(line, words)
+        if self._keeps_history:
+            self.history.note(line, words, reply)
+        return reply
+
+    def _answer(self, line: str, words: List[str]) -> Reply:
+        if self.is_served and words[0] in ('dump', 'changed') and QUESTION.fullmatch(' '.join(words)) and int(words[1]) < 1 << 32:
+            return self.dump(int(words[1])) if words[0] == 'dump' else self.changed(int(words[1]), words[2])
         kind, detail, number, printed, length = self._live.do(client.encoded(line))
         if kind in MAKERS:
             return MAKERS[kind](detail, number, printed)
         rest = iter((self._live.made(length).decode('ascii') + f'{client.MARKED}\n').splitlines())
-        return client.take_reply(line, lambda: next(rest))
+        return client.take_reply(words, lambda: next(rest))
 
     # Questions.
 
