@@ -13,7 +13,11 @@ pub(crate) fn copy_out<T: Copy>(all: &[T], from: usize, out: &mut [T]) -> usize
         return 0;
     }
     let rest = &all[from..];
-    let n = if rest.len() < out.len() { rest.len() } else { out.len() };
+    let n = if rest.len() < out.len() {
+        rest.len()
+    } else {
+        out.len()
+    };
     out[..n].copy_from_slice(&rest[..n]);
     n
 }

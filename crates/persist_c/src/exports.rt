@@ -135,7 +135,11 @@ pub extern "C" fn persist_line(
         Some(mut live) => match live.line(alloc, line) {
             Err(_) => NO_MEMORY,
             Ok(()) => {
-                let length = if live.reply.is_some() { live.said.len() } else { 0 };
+                let length = if live.reply.is_some() {
+                    live.said.len()
+                } else {
+                    0
+                };
                 *reply = summary_of(&live.reply, live.printed(), length);
                 h.put(live);
                 DONE
@@ -202,12 +206,7 @@ pub extern "C" fn persist_query(
 
 /// Copies the bytes that the session made last, from a place on, as much as there is room for, and says how much that is.
 #[unsafe(no_mangle)]
-pub extern "C" fn persist_text(
-    alloc: Global,
-    h: &mut Handle,
-    from: usize,
-    out: &mut [u8],
-) -> usize
+pub extern "C" fn persist_text(alloc: Global, h: &mut Handle, from: usize, out: &mut [u8]) -> usize
     ensures stays { h.new.session ≡ h.old.session }
     ensures copied { IfSome h.old.session (λ l. IsCopied l.said.items from result out.old out.new) }
 {

@@ -29,12 +29,7 @@ fn are_few(counts: Counts) -> bool
 }
 
 /// The answer to a question about the versions of a session.
-fn answer_to(
-    alloc: Global,
-    live: &Live,
-    question: Question,
-    path: &[u8],
-) -> Result<Text, NoMemory>
+fn answer_to(alloc: Global, live: &Live, question: Question, path: &[u8]) -> Result<Text, NoMemory>
     requires { StandsForSome live.now }
     ensures { IfOk result (λ text. OnEach live.now (λ m h. Tells live.now.session.code m h question path.now text)) }
 {

@@ -28,4 +28,4 @@ returns-in_ok-image c = λ m h now.
     let i = c.in_ok-image in
     subst (λ (t : List ℕ). IsImage l.store t m.shape h i.image) c.as_slice.ensures
     (imaged m (code_of (routines_of l.session.code)) l.session.engine h l.store c.next_run.result c.budget.result c.as_slice.result.now i.image c.next_run.ensures c.budget.ensures
-        now.stands i.ensures.image i.ensures.fits i.ensures.rules i.ensures.denotes)
+    now.stands i.ensures.image i.ensures.fits i.ensures.rules i.ensures.denotes)
