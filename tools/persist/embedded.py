@@ -122,7 +122,8 @@ class EmbeddedSession(Session):
         kind, detail, number, printed, length = self._live.do(client.encoded(line))
         if kind in MAKERS:
             return MAKERS[kind](detail, number, printed)
-        rest = iter((self._live.made(length).decode('ascii') + f'{client.MARKED}\n').splitlines())
+        text: str = self._live.made(length).decode('ascii')
+        rest = iter([*text.splitlines(), client.MARKED])
         return client.take_reply(words, lambda: next(rest))
 
     # Questions.
@@ -147,4 +148,5 @@ class EmbeddedSession(Session):
 
     def canonical(self) -> str:
         """The program in its canonical form."""
-        return Image(self.packed()).text
+        text: str = Image(self.packed()).text
+        return text
