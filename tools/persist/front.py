@@ -46,6 +46,10 @@ class Limits(kept.Limits):
     names = 10_000              # names of versions of a store
     large = 32                  # answers of more than 256 KiB that are written at once
     working = 512               # requests that are worked at, at once
+    lease = 5.0                 # seconds behind which a machine that is not heard of loses its stores
+    log_seconds = 8.0           # in which a group has to be in the log of several machines
+    pass_seconds = 20.0         # in which another machine has to answer what is passed on to it
+    image_commands = 10_000     # commands behind an image before there is another one
 
 
 class Problem(Exception):
@@ -73,6 +77,8 @@ class Guarded(RequestHandler):
         self.head = 0
         # Whether a whole request is being worked at, and whether one was answered.
         self.works = self.answered = False
+        # How many requests of this connection were answered.
+        self.answers = 0
         # How much was still to be taken by the client at the last look, and since when it has not become less.
         self.left, self.left_since = 0, self.since
 
@@ -89,7 +95,8 @@ class Guarded(RequestHandler):
         super().data_received(data)
         if self._request_count > before:
             self.head = 0
-        elif not self.works and self._current_request is None:
+        elif self._request_count == self.answers:
+            # Else these are bytes of the body of a request that is not answered yet, also where its work is not begun.
             self.head += len(data)
             if self.head > self.front.limits.head:
                 self.say_and_end(431, f'the head of a request has at most {self.front.limits.head:,} bytes: send fewer and shorter lines')
@@ -266,7 +273,9 @@ class Answering:
                    last: bool = False) -> web.StreamResponse:
         """Sends a whole answer."""
         data = data.encode('utf-8', 'surrogateescape') if isinstance(data, str) else data
-        answer = web.StreamResponse(status=status, headers={**SAFE, **(more or {}), 'Content-Type': kind})
+        store = request.get('store')
+        number = {'Persist-Number': str(store.place)} if store is not None and store.log.shared else {}
+        answer = web.StreamResponse(status=status, headers={**SAFE, **number, **(more or {}), 'Content-Type': kind})
         answer.content_length = len(data)
         if last:
             answer.force_close()

@@ -208,8 +208,9 @@ class Notes:
     name; a later line of a name stands. Where one of the files is lost or damaged it is made again from the other; where both are, the
     parents and calls are told again by `complete`, from the store itself."""
 
-    def __init__(self, path: str) -> None:
-        self.paths = (path, f'{path}.copy')
+    def __init__(self, path: Optional[str]) -> None:
+        """Without a path they stand in memory alone."""
+        self.paths = (path, f'{path}.copy') if path else ()
         self.by_version: Dict[int, Note] = {}
         self.names: Names = {}
         # Lines that could not be written yet.
@@ -229,10 +230,14 @@ class Notes:
                 data = file.read()
         except FileNotFoundError:
             return b''
+        self.take(data)
+        return data
+
+    def take(self, data: bytes) -> None:
+        """Takes in the whole lines of a text."""
         for line in data.split(b'\n'):
             with contextlib.suppress(ValueError, KeyError, TypeError):
                 self._take(json.loads(line))
-        return data
 
     def _take(self, told: Dict[str, Any]) -> None:
         if 'name' in told:
@@ -268,9 +273,10 @@ class Notes:
 
     def _write_anew(self) -> None:
         """Writes both files with all that is known, each whole or not at all."""
+        text = self.text()
         for at, path in enumerate(self.paths):
             with open(f'{path}.new', 'wb') as fresh:
-                fresh.write(self.text())
+                fresh.write(text)
                 fresh.flush()
                 os.fsync(fresh.fileno())
             os.rename(f'{path}.new', path)

@@ -1,10 +1,9 @@
 """A store as the server has it: who keeps it, the processes that answer queries beside it, and what is told of its versions.
 
-`Kept` is all that a server asks of what keeps a store: it is owned from when it is opened until `end`; `append` carries commands out and
-answers when they are on disk; `base` is the image that the log follows, `read` gives what stands in the log from a place on, and `size` says
-where it ends. Today it is a journal (`KeptByJournal`); another log, on this machine or on several, has the same calls.
+What keeps a store is a `StoreLog` (log.py): a folder on this machine, or a log that several machines share. Of those one writes and the others
+follow; a store that is asked for a change here comes to own its log first.
 
-Commands that change the history go to that one process in the order in which they came, many of several clients together. Queries do not:
+Commands that change the history go to one process in the order in which they came, many of several clients together. Queries do not:
 a version never changes, so any process that was given the log up to it gives the same reply. Each store has a few such readers, begun when
 they are needed; a query waits only where all of them are at work, and one of them is never given to a procedure that was slow before.
 
@@ -24,15 +23,14 @@ from typing import Any, Callable, Deque, Dict, List, NamedTuple, Optional, Seque
 
 from .client import (
     CHANGES, MARK, MARKED, Changed, Ended, History, Never, Outline, PersistError, Refused, Reply, UnknownReply, Version, encoded, is_last,
-    program_path, read_outline, stretches_of, take_reply, text_for, words_of, written_by)
+    read_outline, stretches_of, take_reply, text_for, words_of, written_by)
 from .history import Note, Notes, Past, Records, call_of
 from .image import Image
-from .journal import Broken, Damaged, Heard, Journal, is_kept
+from .journal import Broken, Damaged
+from .log import Began, Heard, News, Outcome, Shelf, StoreLog, Trimmed, Who
 
-__all__ = ['Busy', 'Kept', 'KeptByJournal', 'Limits', 'Outcome', 'Store', 'TooLarge', 'Who', 'Workers']
+__all__ = ['Behind', 'Busy', 'Limits', 'Store', 'TooLarge', 'Workers']
 
-# What comes of a line: its reply, None where it has none, or an error in its place.
-Outcome = Union[Reply, PersistError, None]
 T = TypeVar('T')
 
 
@@ -42,6 +40,10 @@ class Busy(PersistError):
 
 class TooLarge(PersistError):
     """What was asked for is larger than may be given."""
+
+
+class Behind(PersistError):
+    """This machine has not followed the log as far as the client asks."""
 
 
 class Limits:
@@ -54,13 +56,7 @@ class Limits:
     image = 256 << 20           # bytes of an image that is read for records and differences
     numbers = 1_000_000         # printed numbers that the replies to one client have together
     rest = 30.0                 # seconds without a query behind which only one reader of a store stays
-
-
-class Who:
-    """Who sends commands, and why."""
-
-    def __init__(self, by: str = '', why: str = '') -> None:
-        self.by, self.why = by, why
+    behind = 5.0                # seconds that a query waits for the number that its client names
 
 
 class Workers:
@@ -69,6 +65,8 @@ class Workers:
     def __init__(self, writers: int = 64, heavy: int = 4) -> None:
         self._writers = ThreadPoolExecutor(writers, 'writer')
         self._heavy = ThreadPoolExecutor(heavy, 'heavy')
+        # One for each store that is open and follows; they are made as they are needed.
+        self._following = ThreadPoolExecutor(4096, 'follower')
         # The readers that are there, of all stores.
         self.processes = 0
 
@@ -80,79 +78,15 @@ class Workers:
         """Waits for work that takes long; a few of them at once."""
         return await asyncio.get_running_loop().run_in_executor(self._heavy, work, *given)
 
+    async def follow(self, work: Callable[..., T], *given: Any) -> T:
+        """Waits for a log to go on."""
+        return await asyncio.get_running_loop().run_in_executor(self._following, work, *given)
+
     def end(self) -> None:
         """Lets the threads end."""
+        self._following.shutdown(wait=False)
         self._writers.shutdown(wait=False)
         self._heavy.shutdown(wait=False)
-
-
-class Kept:
-    """What keeps a store. Its calls may wait, and are made from a thread."""
-
-    # The program in its canonical form.
-    program: str
-
-    @property
-    def size(self) -> int:
-        """Where the log ends: all before it is on disk."""
-        raise NotImplementedError
-
-    def base(self) -> bytes:
-        """The image that the log follows."""
-        raise NotImplementedError
-
-    def append(self, lines: Sequence[str]) -> List[Outcome]:
-        """Carries commands out in their order, and gives what came of each when it is on disk."""
-        raise NotImplementedError
-
-    def read(self, begin: int) -> Tuple[List[str], int]:
-        """The commands that stand in the log from a place on, and the place behind them."""
-        raise NotImplementedError
-
-    def end(self) -> None:
-        """Lets go of the store."""
-        raise NotImplementedError
-
-
-class KeptByJournal(Kept):
-    """A store in a folder with a log and images."""
-
-    def __init__(self, folder: str, path: str, heard: Heard) -> None:
-        """Opens the folder. `heard` is told each line of the log with its reply."""
-        self._journal = Journal(folder, path, heard=heard)
-        self.program = self._journal.program
-        self._log, self._size = self._journal.log, self._journal.kept
-
-    @property
-    def size(self) -> int:
-        """Where the log ends."""
-        return self._size
-
-    def base(self) -> bytes:
-        """The image of the folder, or that of its program."""
-        return self._journal.image()
-
-    def append(self, lines: Sequence[str]) -> List[Outcome]:
-        """Carries commands out, as one group or several."""
-        try:
-            return list(self._journal.outcomes(lines))
-        finally:
-            self._size = self._journal.kept
-
-    def read(self, begin: int) -> Tuple[List[str], int]:
-        """The commands of the log from a byte on."""
-        end = self._size
-        if begin >= end:
-            return [], begin
-        with open(self._log, 'rb') as file:
-            file.seek(begin)
-            data = file.read(end - begin)
-        lines = data.decode('utf-8', 'surrogateescape').split('\n')
-        return [line for line in lines if line and not line.startswith('#')], end
-
-    def end(self) -> None:
-        """Ends the journal."""
-        self._journal.end()
 
 
 # The processes that answer queries.
@@ -171,8 +105,8 @@ class Reader:
     # How many bytes of lines are sent before their replies are read.
     PIECE = 16_384
 
-    def __init__(self, kept: Kept, path: str, workers: Workers) -> None:
-        self.kept, self._path, self._workers = kept, path, workers
+    def __init__(self, log: StoreLog, path: str, workers: Workers) -> None:
+        self.log, self._path, self._workers = log, path, workers
         self._process: Optional['subprocess.Popen[bytes]'] = None
         self._lines: Deque[bytes] = deque()
         self._rest = b''
@@ -194,7 +128,8 @@ class Reader:
         self._reading, _ = await loop.connect_read_pipe(lambda: asyncio.StreamReaderProtocol(self._source), self._process.stdout)
         way, protocol = await loop.connect_write_pipe(asyncio.streams.FlowControlMixin, self._process.stdin)
         self._sink = asyncio.StreamWriter(way, protocol, None, loop)
-        await self._put(await self._workers.write(self.kept.base))
+        image, self.place = await self._workers.write(self.log.base)
+        await self._put(image)
         await self._send(f'{MARK}\n')
         if await self._line() != MARKED.encode():
             raise Ended(self._process.poll() or 0)
@@ -232,7 +167,7 @@ class Reader:
         """Is given what stands in the log by now."""
         if self._process is None:
             await self._start()
-        lines, place = await self._workers.write(self.kept.read, self.place)
+        lines, place = await self._workers.write(self.log.read, self.place)
         texts = [f'{line}\n' for line in lines]
         for stretch in stretches_of(list(map(len, texts)), self.PIECE):
             await self._send(''.join(texts[stretch.start:stretch.stop]))
@@ -282,8 +217,8 @@ class Readers:
     """The readers of a store. Those who ask wait in the order in which they came, and none waits for a reader that is still given the log while
     another one is free: that takes long behind many commands."""
 
-    def __init__(self, kept: Kept, path: str, workers: Workers, limits: Limits) -> None:
-        self._kept, self._path, self._workers, self._limits = kept, path, workers, limits
+    def __init__(self, log: StoreLog, path: str, workers: Workers, limits: Limits) -> None:
+        self._log, self._path, self._workers, self._limits = log, path, workers, limits
         self._idle: List[Reader] = []
         self._all: List[Reader] = []
         self._waiting: Deque[Waiting] = deque()
@@ -354,7 +289,7 @@ class Readers:
         wanted = bool(self._waiting)
         self._waiting.extendleft(reversed(passed))
         if wanted and len(self._all) < most and self._beginning is None and self._may_begin():
-            reader = Reader(self._kept, self._path, self._workers)
+            reader = Reader(self._log, self._path, self._workers)
             self._all.append(reader)
             self._workers.processes += 1
             self._beginning = asyncio.get_running_loop().create_task(self._begin(reader))
@@ -398,7 +333,7 @@ class Readers:
 
     def _free(self, reader: Reader) -> None:
         """Has a reader wait for what is asked next. The one that is farthest in the log is the last one, and is taken first."""
-        if reader not in self._all or reader.kept is not self._kept:
+        if reader not in self._all or reader.log is not self._log:
             self._lose(reader)
             return
         reader.used = time.monotonic()
@@ -420,9 +355,9 @@ class Readers:
             self._idle.remove(reader)
             self._lose(reader)
 
-    def moved_to(self, kept: Kept) -> None:
+    def moved_to(self, log: StoreLog) -> None:
         """Another log stands in the place of the one before, and goes on from it."""
-        self._kept = kept
+        self._log = log
         for reader in list(self._idle):
             self._lose(reader)
         self._idle.clear()
@@ -453,9 +388,8 @@ class Asked:
 class Store:
     """A store that a server has opened."""
 
-    def __init__(self, name: str, folder: str, workers: Workers, limits: Limits, path: Optional[str] = None) -> None:
-        self.name, self.folder, self.workers, self.limits = name, folder, workers, limits
-        self.path = path or program_path()
+    def __init__(self, name: str, shelf: Shelf, workers: Workers, limits: Limits, path: str) -> None:
+        self.name, self.shelf, self.workers, self.limits, self.path = name, shelf, workers, limits, path
         self.history = History()
         self.users, self.used = 0, time.monotonic()
         # Why the store takes no changes any more, until it is opened again.
@@ -463,7 +397,11 @@ class Store:
         self._waiting: Deque[Asked] = deque()
         self._wake = asyncio.Event()
         self._past: Optional[Past] = None
-        self._past_lock, self._recovering = asyncio.Lock(), asyncio.Lock()
+        self._past_lock, self._recovering, self._owning = asyncio.Lock(), asyncio.Lock(), asyncio.Lock()
+        # The place up to which the history is told, and where in the log the budget was set last.
+        self.place = self._budget_place = 0
+        self._tasks: List['asyncio.Task[None]'] = []
+        self._shortening: Optional['asyncio.Future[bool]'] = None
         # What is waited for by those who follow: it is done when there are more versions or other names.
         self.pulse: 'asyncio.Future[None]' = asyncio.get_running_loop().create_future()
         self.names_told = 0
@@ -471,37 +409,127 @@ class Store:
     # Beginning and end.
 
     async def open(self) -> None:
-        """Owns the folder, and carries its log out."""
+        """Takes in what the log holds. One that no other machine has is owned from now on."""
         await self.workers.write(self._open)
-        self.readers = Readers(self.kept, self.path, self.workers, self.limits)
-        self.readers.budget_place = self.kept.size
-        self._writer = asyncio.get_running_loop().create_task(self._write())
+        self.readers = Readers(self.log, self.path, self.workers, self.limits)
+        self.readers.budget_place = self._budget_place
+        work = [self._write(), self._follow()] if self.log.shared else [self._write()]
+        self._tasks = [asyncio.get_running_loop().create_task(it) for it in work]
 
     def _open(self) -> None:
-        heard: List[Tuple[str, Reply]] = []
-        self.kept: Kept = KeptByJournal(self.folder, self.path, lambda line, reply: heard.append((line, reply)))
+        self.log = self.shelf.log(self.name)
         try:
-            self.outline: Outline = read_outline(self.kept.program)
-            self.notes = Notes(os.path.join(self.folder, 'notes'))
-            self._hear(heard)
+            self.log.begin()
+            self.outline: Outline = read_outline(self.log.program)
+            self.notes = Notes(self.shelf.notes(self.name))
+            self._take_in_news(self.log.news())
         except BaseException:
-            self.kept.end()
+            self.log.end()
             raise
 
-    def _read_image(self) -> None:
-        """The versions that the image has. Which calls made them is known from the notes."""
-        self.history.parents = Image(self.kept.base()).parents
-        self.history.calls = [(self.notes.of(version).call,) for version in range(len(self.history.parents))]
-
     async def end(self) -> None:
-        """Waits for what is at work, and lets go of the folder."""
-        self._writer.cancel()
-        with contextlib.suppress(asyncio.CancelledError):
-            await self._writer
+        """Waits for what is at work, and lets go of the store."""
+        for task in self._tasks:
+            task.cancel()
+        await asyncio.gather(*self._tasks, return_exceptions=True)
         self._give_up(Broken('the server ends'))
         self.readers.end()
-        await self.workers.write(self.kept.end)
+        await self.workers.write(self.log.end)
         await self.workers.write(self.notes.end)
+
+    # What the log tells.
+
+    def _take_in_news(self, news: Sequence[News]) -> None:
+        """Makes the history of what the log tells."""
+        notes: List[Note] = []
+        anew = False
+        for it in news:
+            if isinstance(it, Began):
+                notes, anew = [], True
+                self._begin_anew(it)
+            elif isinstance(it, Heard):
+                words = words_of(it.line)
+                self.history.note(it.line, words, it.reply)
+                self.place = it.place
+                if words[0] == 'budget':
+                    self._budget_place = it.place
+                if isinstance(it.reply, Version) and it.who is not None:
+                    version = it.reply.number
+                    notes.append(Note(version, self.history.parents[version], call_of(self.history, version), it.who.by, it.at, it.who.why))
+            else:
+                self.notes.add(*notes)
+                notes = []
+                self.notes.name(it.name, it.version)
+                self.names_told += 1
+                self.place = it.place
+        self.notes.add(*notes)
+        if anew:
+            self.notes.complete(self.history)
+            self.place = max(self.place, self.log.size)
+
+    def _begin_anew(self, told: Began) -> None:
+        """Has the versions of an image. Which calls made them is known from the notes."""
+        if told.notes is not None:
+            self.notes = Notes(None)
+            self.notes.take(told.notes)
+        self.history = History(Image(told.image).parents)
+        self.history.calls = [(self.notes.of(version).call,) for version in range(len(self.history.parents))]
+        self.place = self._budget_place = 0
+
+    def _hear(self) -> None:
+        """Takes in what the log tells by now, and wakes those who wait for it."""
+        news = self.log.news()
+        if news:
+            self._take_in_news(news)
+            self.readers.budget_place = self._budget_place
+            self.tell()
+
+    async def _follow(self) -> None:
+        """Takes in what others append, as long as the store is open."""
+        while True:
+            log = self.log
+            try:
+                await self.workers.follow(log.follow, log.size, 5.0)
+                self._hear()
+            except (PersistError, OSError) as error:
+                if log is self.log and not self.broken:
+                    self.broken = error if isinstance(error, PersistError) else broken_by(error)
+                await self._recover()
+                if self.broken:
+                    await asyncio.sleep(0.3)
+
+    async def reach(self, place: int) -> None:
+        """Waits until the history is told up to a place of the log."""
+        until = time.monotonic() + self.limits.behind
+        while self.log.shared and self.place < place:
+            pulse, left = self.pulse, until - time.monotonic()
+            if left <= 0:
+                raise Behind(f'this machine has followed {self.name} up to {self.place}, not to {place} yet: ask again, or ask another one')
+            await asyncio.wait([pulse], timeout=min(left, 0.3))
+            if pulse is self.pulse:
+                with contextlib.suppress(PersistError, OSError):
+                    await self.workers.write(self.log.look)
+                self._hear()
+
+    async def own(self) -> None:
+        """Comes to write the store; where another machine does it is `NotOwner`."""
+        async with self._owning:
+            if self.broken:
+                await self._recover()
+            if self.broken:
+                raise self.broken
+            if not self.log.owned:
+                try:
+                    await self.workers.write(self.log.own)
+                finally:
+                    self._hear()
+
+    async def name_version(self, name: str, version: Optional[int]) -> None:
+        """Calls a version so; with None nothing is called so any more."""
+        if self.log.shared:
+            await self.own()
+        await self.workers.write(self.log.name, name, version)
+        self._hear()
 
     # Commands.
 
@@ -527,16 +555,16 @@ class Store:
         try:
             try:
                 return await self.readers.ask(lines)
-            except Ended:
+            except (Ended, Trimmed):
                 return await self.readers.ask(lines)
         except (PersistError, OSError) as error:
             return [error if isinstance(error, PersistError) else Busy(str(error))]
 
     async def _append(self, lines: List[str], who: Who) -> List[Outcome]:
-        if self.broken:
-            await self._recover()
-        if self.broken:
-            return [self.broken]
+        try:
+            await self.own()
+        except PersistError as error:
+            return [error]
         if len(self._waiting) >= self.limits.waiting:
             return [Busy(f'{len(self._waiting)} clients wait for this store already; send it again later')]
         asked = Asked(lines, who)
@@ -545,34 +573,30 @@ class Store:
         return await asked.done
 
     async def _recover(self) -> None:
-        """Opens the folder again behind a write or a process that failed; what stands is told by its log. Queries are answered meanwhile,
-        and also where it can't be opened, as on a full disk."""
+        """Begins again with the log behind a write or a process that failed; what stands is told by the log. Queries are answered meanwhile,
+        and also where it can't be begun, as on a full disk."""
         async with self._recovering:
             if not self.broken:
                 return
             try:
-                kept, heard = await self.workers.write(self._open_again)
+                log = await self.workers.write(self._begin_again)
             except (PersistError, OSError) as error:
                 self.broken = error if isinstance(error, PersistError) else broken_by(error)
                 return
-            self.kept = kept
-            self._hear(heard)
-            self.readers.moved_to(kept)
+            self.log = log
+            self.readers.moved_to(log)
             self.broken = None
-            self.tell()
+            self._hear()
 
-    def _open_again(self) -> Tuple[Kept, List[Tuple[str, Reply]]]:
-        heard: List[Tuple[str, Reply]] = []
-        self.kept.end()
-        return KeptByJournal(self.folder, self.path, lambda line, reply: heard.append((line, reply))), heard
-
-    def _hear(self, heard: List[Tuple[str, Reply]]) -> None:
-        """Makes the history from what the log tells."""
-        self.history = History()
-        self._read_image()
-        for line, reply in heard:
-            self.history.note(line, words_of(line), reply)
-        self.notes.complete(self.history)
+    def _begin_again(self) -> StoreLog:
+        self.log.end()
+        log = self.shelf.log(self.name)
+        try:
+            log.begin()
+        except BaseException:
+            log.end()
+            raise
+        return log
 
     async def _write(self) -> None:
         """Carries out what waits, as long as the store is open: a group of commands at a time, some of each client."""
@@ -581,17 +605,22 @@ class Store:
                 self._wake.clear()
                 await self._wake.wait()
             group = self._next_group()
-            lines = [asked.lines[at] for asked, at in group]
+            lines, whos, log = [asked.lines[at] for asked, at in group], [asked.who for asked, _ in group], self.log
             try:
-                outcomes = await asyncio.shield(asyncio.ensure_future(self.workers.write(self.kept.append, lines)))
+                outcomes = await asyncio.shield(asyncio.ensure_future(self.workers.write(log.append, lines, whos)))
             except PersistError as error:
                 outcomes = [error] * len(lines)
             except (OSError, ValueError) as error:
                 outcomes = [broken_by(error)] * len(lines)
+            if log.dead and log is self.log and not self.broken:
+                self.broken = next((it for it in outcomes if isinstance(it, PersistError)), None)
             try:
+                self._hear()
                 self._take_in(group, outcomes)
             except Exception as error:
                 self._give_up(broken_by(error))
+            if log.due and (self._shortening is None or self._shortening.done()):
+                self._shortening = asyncio.ensure_future(self._shorten(log))
 
     def _give_up(self, error: Broken) -> None:
         """Tells all who wait that it is not known what came of their lines."""
@@ -605,34 +634,25 @@ class Store:
 
     def _next_group(self) -> List[Tuple[Asked, int]]:
         group: List[Tuple[Asked, int]] = []
+        # A round of several machines takes longer than a disk, so more go with it.
+        most = self.limits.together * (8 if self.log.shared else 1)
         for _ in range(len(self._waiting)):
             asked = self._waiting.popleft()
-            room = self.limits.together - len(group)
+            room = most - len(group)
             begin = len(asked.outcomes)
             group += [(asked, at) for at in range(begin, min(len(asked.lines), begin + room))]
             self._waiting.append(asked)
-            if len(group) >= self.limits.together:
+            if len(group) >= most:
                 break
         return group
 
     def _take_in(self, group: List[Tuple[Asked, int]], outcomes: List[Outcome]) -> None:
-        """Notes what was carried out, and answers those of whose lines all are."""
-        notes: List[Note] = []
-        now = round(time.time(), 3)
-        for (asked, at), outcome in zip(group, outcomes):
+        """Answers those of whose lines all are carried out."""
+        for (asked, _), outcome in zip(group, outcomes):
             asked.outcomes.append(outcome)
-            words = words_of(asked.lines[at])
-            if isinstance(outcome, Reply) and is_kept(words, outcome):
-                self.history.note(asked.lines[at], words, outcome)
-                if words[0] == 'budget':
-                    self.readers.budget_place = self.kept.size
-            if isinstance(outcome, Version):
-                version = outcome.number
-                notes.append(Note(version, self.history.parents[version], call_of(self.history, version), asked.who.by, now, asked.who.why))
             if isinstance(outcome, Broken):
                 self.broken = outcome
-        self.notes.add(*notes)
-        if notes or self.broken:
+        if self.broken:
             self.tell()
         for asked in {id(asked): asked for asked, _ in group}.values():
             if len(asked.outcomes) < len(asked.lines) and printed_in(asked.outcomes) > self.limits.numbers:
@@ -642,6 +662,12 @@ class Store:
                 self._waiting.remove(asked)
                 if not asked.done.done():
                     asked.done.set_result(asked.outcomes)
+
+    async def _shorten(self, log: StoreLog) -> bool:
+        """Puts an image in the place of the log's beginning. Where that fails the log stays as it is."""
+        with contextlib.suppress(PersistError, OSError):
+            return await self.workers.heavy(log.shorten, self.notes.text())
+        return False
 
     def tell(self) -> None:
         """Wakes those who follow."""
@@ -671,8 +697,9 @@ class Store:
 
     def packed(self) -> bytes:
         """An image of the store as it stands."""
-        lines, _ = self.kept.read(0)
-        status, image = written_by(['repack'], self.kept.base() + encoded(''.join(f'{line}\n' for line in lines)), self.path)
+        base, begin = self.log.base()
+        lines, _ = self.log.read(begin)
+        status, image = written_by(['repack'], base + encoded(''.join(f'{line}\n' for line in lines)), self.path)
         if status == 4:
             raise Damaged(image.decode('latin-1').strip())
         if status != 0:

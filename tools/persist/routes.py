@@ -16,16 +16,19 @@ import socket
 import sys
 import time
 import traceback
-from typing import Any, Awaitable, Callable, Dict, List, Optional, Tuple
+from typing import Any, AsyncIterator, Awaitable, Callable, Dict, List, Optional, Tuple
 
 from aiohttp import web
 
 from . import client, journal
 from .client import Outline, PersistError, Reply, text_of
+from .etcd import EtcdError
 from .front import Answering, Front, Guarded, Limits, Problem, body_of, check_origin, check_token, digest, plain, wants_text
 from .history import (
     Difference, Note, Record, Records, Value, at_version, difference, difference_text, is_name, log_text, names_text, sequence_text, show_text)
-from .kept import Busy, Store, TooLarge, Who
+from .kept import Behind, Busy, Store, TooLarge, kind_of
+from .log import NotOwner, Who
+from .passing import PASSED, InDoubt, NotBegun, Passing
 from .server import Exists, Stores, TooMany
 from .shell import FAULTS, REFUSALS, TRAPS
 
@@ -69,7 +72,7 @@ def is_full(error: BaseException) -> bool:
 BROKEN = 'the process or the disk of the store failed; it is opened again with the next command'
 IN_DOUBT = 'whether the command that was not answered was carried out is told by the versions: GET /stores/NAME'
 STATUSES: List[Tuple[type, int, str]] = [
-    (Busy, 429, ''), (TooLarge, 413, ''), (TooMany, 507, ''), (Exists, 409, ''), (journal.NoStore, 404, ''), (journal.Locked, 503, '; end that one'),
+    (NotOwner, 421, '; ask again'), (Behind, 503, ''), (EtcdError, 503, '; ask again'), (InDoubt, 503, f'; {IN_DOUBT}'), (Busy, 429, ''), (TooLarge, 413, ''), (TooMany, 507, ''), (Exists, 409, ''), (journal.NoStore, 404, ''), (journal.Locked, 503, '; end that one'),
     (journal.Damaged, 500, '; put a backup in its place'), (journal.Broken, 503, IN_DOUBT), (client.WrongText, 400, ''),
     (client.Ended, 503, '; ask again'), (client.UnknownReply, 500, ''), (PersistError, 500, '')]
 
@@ -155,6 +158,7 @@ class Site:
         self.ending = asyncio.Event()
         self.page, self.policy = read_page()
         self._socket: Optional[str] = None
+        self._passing = Passing(limits.pass_seconds)
 
     # Beginning and end.
 
@@ -194,6 +198,7 @@ class Site:
             await asyncio.sleep(0.05)
         with contextlib.suppress(asyncio.TimeoutError):
             await asyncio.wait_for(self.front.shutdown(1.0), 3)
+        await self._passing.end()
         if self._socket:
             with contextlib.suppress(OSError):
                 os.unlink(self._socket)
@@ -219,6 +224,7 @@ class Site:
             self.working -= 1
             if isinstance(connection, Guarded):
                 connection.works, connection.answered, connection.since = False, True, time.monotonic()
+                connection.answers += 1
 
     async def _routed(self, request: web.BaseRequest) -> web.StreamResponse:
         check_origin(request, self.hosts)
@@ -251,6 +257,30 @@ class Site:
         if isinstance(request.protocol, Guarded):
             request.protocol.works = True
 
+    @contextlib.asynccontextmanager
+    async def using(self, request: web.BaseRequest, name: str) -> AsyncIterator[Store]:
+        """A store, behind the number that the client names."""
+        async with self.stores.use(name) as store:
+            request['store'] = store
+            await store.reach(number_in(request.headers.get('Persist-After', request.query.get('after', '0'))))
+            yield store
+
+    async def passed_on(self, request: web.BaseRequest, name: str, data: bytes) -> Optional[web.StreamResponse]:
+        """The answer of the machine that writes a store; None where it is this one. While a store changes hands it is waited for."""
+        until = time.monotonic() + self.limits.lease + self.limits.log_seconds
+        while True:
+            with contextlib.suppress(NotBegun, NotOwner):
+                url = await self.stores.writer(name)
+                if url is None:
+                    return None
+                if PASSED in request.headers:
+                    raise Problem(421, f'{url} writes this store, or is to; nothing of this was carried out')
+                status, headers, body = await self._passing.send(url, request, data)
+                return await self.answer.send(request, status, body, headers.pop('Content-Type', 'application/json'), headers)
+            if PASSED in request.headers or time.monotonic() > until:
+                raise Problem(421, 'no machine writes this store now, and nothing of this was carried out: ask again')
+            await asyncio.sleep(0.1)
+
     # Pages and lists.
 
     @route('GET', '/')
@@ -261,7 +291,7 @@ class Site:
     @route('GET', '/stores')
     async def get_stores(self, request: web.BaseRequest, _: Dict[str, str]) -> web.StreamResponse:
         """The stores."""
-        names = self.stores.names()
+        names = await self.stores.names()
         if wants_text(request):
             return await self.answer.text(request, sequence_text(names))
         opened = [(name, self.stores.opened(name)) for name in names]
@@ -281,15 +311,15 @@ class Site:
         if client.SEPARATOR.search(program):
             raise Problem(400, 'the body is a program alone: send what stands behind the line %% as commands')
         made = await self.stores.create(at['name'], program)
-        async with self.stores.use(at['name']) as store:
+        async with self.using(request, at['name']) as store:
             return await self.answer.json(request, await self.described(store), 201 if made else 200)
 
     @route('GET', '/stores/NAME')
     async def get_store(self, request: web.BaseRequest, at: Dict[str, str]) -> web.StreamResponse:
         """A store: its program, what that declares, and how far it is."""
-        async with self.stores.use(at['name']) as store:
+        async with self.using(request, at['name']) as store:
             if wants_text(request):
-                return await self.answer.text(request, store.kept.program)
+                return await self.answer.text(request, store.log.program)
             return await self.answer.json(request, await self.described(store))
 
     async def described(self, store: Store) -> Dict[str, Any]:
@@ -297,13 +327,13 @@ class Site:
         stats = (await store.commands(['stats'], Who()))[0]
         counts = dataclasses.asdict(stats) if isinstance(stats, client.Stats) else None
         runs = {str(run): {'version': version, 'calls': calls} for run, (version, calls) in store.history.open_runs.items()}
-        return {'name': store.name, 'program': store.kept.program, **outline_json(store.outline), 'versions': len(store.history.parents),
+        return {'name': store.name, 'program': store.log.program, **outline_json(store.outline), 'versions': len(store.history.parents),
                 'newest': store.history.newest, 'counts': counts, 'open_runs': runs, 'names': store.notes.names}
 
     @route('GET', '/stores/NAME/versions')
     async def get_versions(self, request: web.BaseRequest, at: Dict[str, str]) -> web.StreamResponse:
         """Versions from a number on, by columns."""
-        async with self.stores.use(at['name']) as store:
+        async with self.using(request, at['name']) as store:
             begin, many = number(request, 'from', 0), min(VERSIONS, number(request, 'many', VERSIONS))
             count = len(store.history.parents)
             end = min(count, begin + many)
@@ -317,10 +347,15 @@ class Site:
     @route('POST', '/stores/NAME/commands')
     async def post_commands(self, request: web.BaseRequest, at: Dict[str, str]) -> web.StreamResponse:
         """Carries commands out."""
-        lines, who = self.lines_of(request, await self.body(request))
-        async with self.stores.use(at['name']) as store:
+        data = await self.body(request)
+        lines, who = self.lines_of(request, data)
+        if any(map(kind_of, lines)):
+            answer = await self.passed_on(request, at['name'], data)
+            if answer is not None:
+                return answer
+        async with self.using(request, at['name']) as store:
             outcomes = await store.commands(lines, who)
-            source = store.kept.program.split('\n')
+            source = store.log.program.split('\n')
             replies = [reply_json(line, it, source) if isinstance(it, Reply) else None
                        for line, it in zip(lines, outcomes) if not isinstance(it, PersistError)]
             failed = next((it for it in outcomes if isinstance(it, PersistError)), None)
@@ -364,7 +399,7 @@ class Site:
     @route('GET', '/stores/NAME/versions/V')
     async def get_version(self, request: web.BaseRequest, at: Dict[str, str]) -> web.StreamResponse:
         """A version: who made it and what it changed."""
-        async with self.stores.use(at['name']) as store:
+        async with self.using(request, at['name']) as store:
             version = version_of(store, at['v'])
             parent = store.history.parents[version]
             found = None if parent is None else await differing(store, parent, version)
@@ -377,7 +412,7 @@ class Site:
     @route('GET', '/stores/NAME/versions/V/records')
     async def get_records(self, request: web.BaseRequest, at: Dict[str, str]) -> web.StreamResponse:
         """The records of a version, the nearest to the roots first."""
-        async with self.stores.use(at['name']) as store:
+        async with self.using(request, at['name']) as store:
             version = version_of(store, at['v'])
             records = list((await store.records(version)).values())
             shown = records[:number(request, 'many', 2000)]
@@ -388,7 +423,7 @@ class Site:
     @route('GET', '/stores/NAME/versions/V/changed/PATH')
     async def get_changed(self, request: web.BaseRequest, at: Dict[str, str]) -> web.StreamResponse:
         """Which version changed what a path reads."""
-        async with self.stores.use(at['name']) as store:
+        async with self.using(request, at['name']) as store:
             version = version_of(store, at['v'])
             found = await store.changed(version, at['path'])
             if isinstance(found, client.Refused):
@@ -400,7 +435,7 @@ class Site:
     @route('GET', '/stores/NAME/diff/A/B')
     async def get_diff(self, request: web.BaseRequest, at: Dict[str, str]) -> web.StreamResponse:
         """What differs between two versions."""
-        async with self.stores.use(at['name']) as store:
+        async with self.using(request, at['name']) as store:
             old, new = version_of(store, at['a']), version_of(store, at['b'])
             found = await differing(store, old, new)
             if wants_text(request):
@@ -410,7 +445,7 @@ class Site:
     @route('GET', '/stores/NAME/log/V')
     async def get_log(self, request: web.BaseRequest, at: Dict[str, str]) -> web.StreamResponse:
         """The versions on the way from one to version 0."""
-        async with self.stores.use(at['name']) as store:
+        async with self.using(request, at['name']) as store:
             version, most = version_of(store, at['v']), min(VERSIONS, number(request, 'many', 50))
             if wants_text(request):
                 return await self.answer.text(request, sequence_text(log_text(store.notes, version, most)))
@@ -424,7 +459,7 @@ class Site:
     @route('GET', '/stores/NAME/image')
     async def get_image(self, request: web.BaseRequest, at: Dict[str, str]) -> web.StreamResponse:
         """A backup."""
-        async with self.stores.use(at['name']) as store:
+        async with self.using(request, at['name']) as store:
             image = await self.stores.workers.heavy(store.packed)
             name = {'Content-Disposition': f'attachment; filename="{store.name}.image"'}
             return await self.answer.send(request, 200, image, 'application/octet-stream', name)
@@ -434,7 +469,7 @@ class Site:
     @route('GET', '/stores/NAME/names')
     async def get_names(self, request: web.BaseRequest, at: Dict[str, str]) -> web.StreamResponse:
         """The names of versions."""
-        async with self.stores.use(at['name']) as store:
+        async with self.using(request, at['name']) as store:
             if wants_text(request):
                 return await self.answer.text(request, sequence_text(names_text(store.notes.names)))
             return await self.answer.json(request, {'names': store.notes.names})
@@ -442,28 +477,30 @@ class Site:
     @route('PUT', '/stores/NAME/names/CALLED')
     async def put_name(self, request: web.BaseRequest, at: Dict[str, str]) -> web.StreamResponse:
         """Calls a version so; the body is its number, or another name of it."""
-        word = (await self.body(request)).decode('latin-1').strip()
-        async with self.stores.use(at['name']) as store:
+        data = await self.body(request)
+        word = data.decode('latin-1').strip()
+        answer = await self.passed_on(request, at['name'], data)
+        if answer is not None:
+            return answer
+        async with self.using(request, at['name']) as store:
             if not is_name(at['called']):
                 raise Problem(400, 'a name is letters, digits and _ - . with a letter or _ first, at most 64')
             if len(store.notes.names) >= self.limits.names and at['called'] not in store.notes.names:
                 raise Problem(507, f'there are {self.limits.names:,} names already: take one away')
             version = version_of(store, word)
-            store.notes.name(at['called'], version)
-            store.names_told += 1
-            store.tell()
+            await store.name_version(at['called'], version)
             return await self.answer.json(request, {'name': at['called'], 'version': version})
 
     @route('DELETE', '/stores/NAME/names/CALLED')
     async def delete_name(self, request: web.BaseRequest, at: Dict[str, str]) -> web.StreamResponse:
         """Takes a name away."""
-        await self.body(request)
-        async with self.stores.use(at['name']) as store:
+        answer = await self.passed_on(request, at['name'], await self.body(request))
+        if answer is not None:
+            return answer
+        async with self.using(request, at['name']) as store:
             if at['called'] not in store.notes.names:
                 raise Problem(404, f'no version is called {at["called"]}: GET /stores/{store.name}/names lists the names')
-            store.notes.name(at['called'], None)
-            store.names_told += 1
-            store.tell()
+            await store.name_version(at['called'], None)
             return await self.answer.json(request, {'name': at['called'], 'version': None})
 
     # Events.
@@ -473,7 +510,7 @@ class Site:
         """New versions as they come, as server-sent events."""
         if self.followers >= self.limits.followers:
             raise Problem(503, f'{self.limits.followers} clients follow already: ask for versions now and then instead')
-        async with self.stores.use(at['name']) as store:
+        async with self.using(request, at['name']) as store:
             last = request.headers.get('Last-Event-ID', '')
             begin = int(last) + 1 if re.fullmatch('[0-9]{1,9}', last) else number(request, 'from', len(store.history.parents))
             answer = web.StreamResponse(headers={'Content-Type': 'text/event-stream', 'Cache-Control': 'no-store', 'X-Content-Type-Options': 'nosniff'})
@@ -549,6 +586,13 @@ def number(request: web.BaseRequest, name: str, otherwise: int) -> int:
         return otherwise
     if not re.fullmatch('[0-9]{1,9}', word):
         raise Problem(400, f'{name} is a whole number')
+    return int(word)
+
+
+def number_in(word: str) -> int:
+    """The number of the log that a client names."""
+    if not re.fullmatch('[0-9]{1,15}', word):
+        raise Problem(400, 'Persist-After is a number that Persist-Number told')
     return int(word)
 
 

@@ -6,9 +6,11 @@
         --token FILE          whoever asks has to send the line of this file, of 16 characters at least: Authorization: Bearer TOKEN
         --host NAME           a further name by which this server is asked, as behind a proxy; may stand several times
         --limit NAME=NUMBER   sets one of the limits of docs/SERVER.md; may stand several times
+        --log etcd:HOST:PORT,HOST:PORT,..    shares its stores with the machines that name the same servers of etcd: docs/MACHINES.md
+        --url URL             how other machines reach this one, where that is not http:// and the address of --listen
 
 STORES is made where it is not there. PERSIST names another build of the program. The status is 0 where it was ended by a signal, 1 where
-the folder or the address can't be had, 2 for other words, and 3 where aiohttp is missing. Tested (tools/tests), not proved.
+the folder, the address or etcd can't be had, 2 for other words, and 3 where aiohttp is missing. Tested (tools/tests), not proved.
 """
 
 import argparse
@@ -22,12 +24,14 @@ import signal
 import stat
 import sys
 import time
-from typing import Any, AsyncIterator, Dict, List, Optional, Sequence, Set, Tuple
+from typing import Any, AsyncIterator, Dict, List, Optional, Sequence, Tuple
 
-from .client import PersistError, answer_to, program_path
-from .image import Image, read_bytes
-from .journal import Journal, JournalError, NoStore, newest_in
+from .client import PersistError, program_path
+from .etcd import Etcd, endpoints_of
+from .etcd_log import EtcdShelf, Machine, Shape
+from .journal import JournalError, NoStore
 from .kept import Busy, Limits, Store, Workers
+from .log import FolderShelf, NotOwner, Shelf, is_store_name
 
 __all__ = ['Exists', 'Stores', 'is_store_name', 'main']
 
@@ -40,30 +44,37 @@ class TooMany(JournalError):
     """There are as many stores as there may be."""
 
 
-def is_store_name(name: str) -> bool:
-    """Whether a store may be called so: letters, digits, `-` and `_`, at most 64."""
-    return re.fullmatch(r'[A-Za-z0-9_-]{1,64}', name) is not None
-
-
 class Stores:
-    """The stores of a folder. One has processes from when it is asked for until it was not for a while."""
+    """The stores of a shelf. One has processes from when it is asked for until it was not for a while."""
 
-    def __init__(self, folder: str, workers: Workers, limits: Any, path: Optional[str] = None) -> None:
-        self.folder, self.workers, self.limits, self.path = os.path.abspath(folder), workers, limits, path or program_path()
+    def __init__(self, folder: str, shelf: Shelf, workers: Workers, limits: Any, path: str) -> None:
+        self.folder, self.shelf, self.workers, self.limits, self.path = folder, shelf, workers, limits, path
         self._open: Dict[str, Store] = {}
         self._locks: Dict[str, asyncio.Lock] = {}
-        self._made: Set[str] = set()
-        os.makedirs(self.folder, mode=0o700, exist_ok=True)
 
-    def names(self) -> List[str]:
+    async def names(self) -> List[str]:
         """The names of all stores."""
-        with os.scandir(self.folder) as found:
-            return sorted(it.name for it in found if is_store_name(it.name) and it.is_dir() and self._is_store(it.name))
+        return await self.workers.write(self.shelf.names) if self.shelf.shared else self.shelf.names()
 
-    def _is_store(self, name: str) -> bool:
-        if name not in self._made and newest_in(os.path.join(self.folder, name)) is not None:
-            self._made.add(name)
-        return name in self._made
+    async def writer(self, name: str) -> Optional[str]:
+        """Where the machine is asked that writes a store; None where it is this one, from now on at least."""
+        if not isinstance(self.shelf, EtcdShelf):
+            return None
+        store = self._open.get(name)
+        if store is None or store.broken or not store.log.owned:
+            if not is_store_name(name):
+                raise no_store(name)
+            url = await self.workers.write(self.shelf.owner, name)
+            if url != self.shelf.machine.url:
+                return url
+            try:
+                async with self.use(name) as store:
+                    await store.own()
+            except NotOwner as error:
+                if not error.url or error.url == self.shelf.machine.url:
+                    raise
+                return error.url
+        return None
 
     def opened(self, name: str) -> Optional[Store]:
         """A store that has processes."""
@@ -84,13 +95,12 @@ class Stores:
             store.used = time.monotonic()
 
     async def _begin(self, name: str) -> Store:
-        folder = os.path.join(self.folder, name)
-        if not is_store_name(name) or newest_in(folder) is None:
+        if not is_store_name(name) or not await self.workers.write(self.shelf.has, name):
             self._locks.pop(name, None)
-            raise NoStore(f'there is no store {name}: GET /stores lists them, PUT /stores/{name} makes one of a program')
+            raise no_store(name)
         if len(self._open) >= self.limits.open_stores and not await self._end_one():
             raise Busy(f'{len(self._open)} stores are open, and all are at work: ask again later')
-        store = Store(name, folder, self.workers, self.limits, self.path)
+        store = Store(name, self.shelf, self.workers, self.limits, self.path)
         await store.open()
         self._open[name] = store
         return store
@@ -113,25 +123,14 @@ class Stores:
     async def create(self, name: str, program: str) -> bool:
         """Makes a store; False where it is there already with the same program."""
         async with self._locks.setdefault(name, asyncio.Lock()):
-            folder = os.path.join(self.folder, name)
-            if newest_in(folder) is not None:
-                if await self.workers.heavy(self._same, folder, program):
+            if await self.workers.write(self.shelf.has, name):
+                if await self.workers.heavy(self.shelf.is_of, name, program):
                     return False
                 raise Exists(f'there is a store {name} of another program: choose another name')
-            if len(self.names()) >= self.limits.stores:
+            if len(await self.names()) >= self.limits.stores:
                 raise TooMany(f'there are {self.limits.stores:,} stores, and no more may be made: begin the server with --limit stores=NUMBER')
-            await self.workers.heavy(self._create, folder, program)
+            await self.workers.heavy(self.shelf.create, name, program)
             return True
-
-    def _create(self, folder: str, program: str) -> None:
-        Journal.create(folder, program, self.path).end()
-
-    def _same(self, folder: str, program: str) -> bool:
-        """Whether a store was made of this program, whose canonical form it has."""
-        number = newest_in(folder)
-        base = read_bytes(os.path.join(folder, f'image.{number}' if number else 'program'))
-        kept = Image(base).text.encode('latin-1') if number else base
-        return answer_to(['check'], program, self.path).encode('latin-1') == kept
 
     async def look_after(self) -> None:
         """Ends stores and readers that were not used for a while, again and again."""
@@ -150,6 +149,12 @@ class Stores:
         """Ends all stores."""
         await asyncio.gather(*(it.end() for it in self._open.values()))
         self._open.clear()
+        await self.workers.heavy(self.shelf.end)
+
+
+def no_store(name: str) -> NoStore:
+    """What is told of a store that there is not."""
+    return NoStore(f'there is no store {name}: GET /stores lists them, PUT /stores/{name} makes one of a program')
 
 
 # The command line.
@@ -216,6 +221,8 @@ def words_read(words: Sequence[str]) -> argparse.Namespace:
     parser.add_argument('--token')
     parser.add_argument('--host', action='append', default=[])
     parser.add_argument('--limit', action='append', default=[])
+    parser.add_argument('--log')
+    parser.add_argument('--url')
     return parser.parse_args(list(words))
 
 
@@ -226,12 +233,29 @@ def more_files() -> None:
         resource.setrlimit(resource.RLIMIT_NOFILE, (most, most))
 
 
+def shelf_of(given: argparse.Namespace, limits: Any) -> Shelf:
+    """The shelf of a folder, or one that machines share."""
+    os.makedirs(given.stores, mode=0o700, exist_ok=True)
+    if not given.log:
+        return FolderShelf(given.stores, program_path())
+    kind, _, servers = given.log.partition(':')
+    url = given.url or f'http://{given.listen}'
+    try:
+        endpoints = endpoints_of(servers)
+    except ValueError as error:
+        raise Wrong(f'--log {error}') from None
+    if kind != 'etcd' or not re.fullmatch(r'http://[^/\s]+:[1-9][0-9]*', url):
+        raise Wrong('--log is written etcd:HOST:PORT,HOST:PORT and wants an address with a port: --listen ADDR:PORT, or --url http://HOST:PORT')
+    machine = Machine(Etcd(endpoints), url, limits.lease)
+    return EtcdShelf(machine, program_path(), Shape(limits.image_commands, Shape().share, limits.log_seconds))
+
+
 async def serve(given: argparse.Namespace, limits: Any) -> None:
     """Serves until a signal comes."""
     from .routes import Site
     token = token_of(given.token) if given.token else None
     workers = Workers()
-    stores = Stores(given.stores, workers, limits)
+    stores = Stores(os.path.abspath(given.stores), shelf_of(given, limits), workers, limits, program_path())
     loop = asyncio.get_running_loop()
     ended = asyncio.Event()
     for number in (signal.SIGINT, signal.SIGTERM):

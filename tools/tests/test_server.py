@@ -120,6 +120,15 @@ class Paths(Served):
         self.assertIn('null', replies[4]['means'])
         self.assertEqual(replies[12]['parents'], [None, 0, 1])
 
+    def test_large_bodies_are_not_taken_for_heads(self):
+        name = self.store()
+        data = json.dumps({'lines': ['run 9 add 1' + ' ' * 900] * 300}).encode()
+        head = f'POST /stores/{name}/commands HTTP/1.1\r\nHost: {self.server.host}:{self.server.port}\r\nContent-Type: application/json\r\n'
+        sent = f'{head}Connection: close\r\nContent-Length: {len(data)}\r\n\r\n'.encode() + data
+        with concurrent.futures.ThreadPoolExecutor(8) as pool:
+            statuses = set(pool.map(lambda _: raw(self.server, sent, 60)[0], range(40)))
+        self.assertEqual(statuses, {200})
+
     def test_numbers_of_64_bits_are_whole(self):
         name = self.store(LIST, 'run 0 add 9223372036854775807', 'run 1 add -9223372036854775808')
         self.assertEqual(self.server.do(name, 'query 1 sum')[0]['printed'], ['9223372036854775807'])
