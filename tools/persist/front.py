@@ -137,7 +137,11 @@ class Guarded(RequestHandler):
         """A request is not begun where the connection was lost before its turn. (aiohttp asserts that it was not, and tells a fault.)"""
         if self._request_handler is None:
             raise ConnectionError('the client has gone')
-        return await super()._handle_request(*given)
+        try:
+            return await super()._handle_request(*given)
+        except HttpProcessingError:
+            # The request was answered, and what stands behind its body is none.
+            raise ConnectionError('the bytes behind a request are none') from None
 
     def handle_error(self, request: web.BaseRequest, status: int = 500, exc: Optional[BaseException] = None,
                      message: Optional[str] = None) -> web.StreamResponse:

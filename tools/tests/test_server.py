@@ -865,7 +865,7 @@ class Turns(unittest.TestCase):
         ended = False
 
         def __init__(self, asked, *_):
-            self.kept = asked
+            self.log = asked
 
         async def follow(self):
             """Is given the log."""
@@ -873,7 +873,7 @@ class Turns(unittest.TestCase):
 
         async def ask(self, lines, _):
             """Answers."""
-            self.kept.append(lines[0])
+            self.log.append(lines[0])
             await asyncio.sleep(0.001)
             return [None]
 
