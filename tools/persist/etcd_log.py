@@ -22,7 +22,7 @@ etcd holds, for each store:
 
 and `persist/machines/URL` for each machine, on its lease.
 
-Tested (tools/tests, .ci/replicated), not proved. It needs python3.8 and nothing else, and etcd 3.4 or later.
+Tested (tools/tests), not proved; under faults by .ci/replicated. It needs python3.8 and nothing else, and etcd 3.4 or later.
 """
 
 import contextlib

@@ -216,6 +216,8 @@ class Waiting(NamedTuple):
 class Readers:
     """The readers of a store. Those who ask wait in the order in which they came, and none waits for a reader that is still given the log while
     another one is free: that takes long behind many commands."""
+    # How often a question is asked again whose reader stood before a later image.
+    TRIES = 8
 
     def __init__(self, log: StoreLog, path: str, workers: Workers, limits: Limits) -> None:
         self._log, self._path, self._workers, self._limits = log, path, workers, limits
@@ -231,6 +233,13 @@ class Readers:
 
     async def ask(self, lines: Sequence[str]) -> List[Outcome]:
         """The replies to lines that change nothing, by one that is free."""
+        for _ in range(self.TRIES):
+            # Where the log begins behind a later image by now, another reader begins with that.
+            with contextlib.suppress(Trimmed):
+                return await self._ask_one(lines)
+        return await self._ask_one(lines)
+
+    async def _ask_one(self, lines: Sequence[str]) -> List[Outcome]:
         names = {words[2] for words in map(words_of, lines) if words[0] == 'query' and len(words) > 2}
         slow = any(self._seconds.get(name, 0) > self._limits.slow for name in names)
         reader = await self._take(slow)
