@@ -1,5 +1,7 @@
 """Stores on several machines: each is a log in etcd, and `persist` on each machine behind it.
 
+Tested (tools/tests), not proved; under faults by .ci/replicated. It needs python3.8 and nothing else, and etcd 3.4 or later.
+
     machine = Machine(Etcd(endpoints), 'http://10.0.0.1:8040', lease=5)
     log = EtcdShelf(machine, program_path()).log('book')
     log.begin()                # follows: the image, and the log behind it
@@ -21,8 +23,6 @@ etcd holds, for each store:
     persist/image/NAME/NUMBER-TERM/..      the pieces of that image and of the notes of its versions, of 1 MiB at most
 
 and `persist/machines/URL` for each machine, on its lease.
-
-Tested (tools/tests), not proved; under faults by .ci/replicated. It needs python3.8 and nothing else, and etcd 3.4 or later.
 """
 
 import contextlib
