@@ -315,7 +315,7 @@ class Together(Served):
             self.assertEqual({told['by'][version] for version in row}, {f'c{number}'})
 
     def test_a_long_query_does_not_hold_back_a_short_one(self):
-        name = self.store(LIST, 'run 0 add 5', 'budget 30000000')
+        name = self.store(LIST, 'run 0 add 5', 'budget 200000000')
         self.server.do(name, 'query 1 sum')
         with concurrent.futures.ThreadPoolExecutor(8) as pool:
             long = [pool.submit(self.server.do, name, 'query 1 spin') for _ in range(3)]
